@@ -27,22 +27,21 @@ module _ {E A L S : Type 0} (ops : Ops E A L S) (k : Likeness ops) (F G : Expand
   part_before p s (None, t) m h = (ap (λ (z : Ends). z then λ r. going (with_part p r)) h.0, h.1)
   part_before p s (Some r, t) m h = (ap (λ (z : Ends). z then λ r. going (with_part p r)) h.0, h.1)
 
-  mutual
-    pub items_work : (is : List (Item A)) (s : S) → On ops k e s → SameWork s (one_way is s) (other_way is s)
-    items_work [] s h = (refl, here_after ops k s h.0)
-    items_work (i ∷ is) s h =
-        let q = item_part F ops max_depth e i s in
-        let a = item_alike ops k F G law max_depth e i s h in
-        let w = by_total is s h q.0 q.1 (goes_after ops k a) (nat_lt max_total (nodes_in ops fs q.1)) in
-        (ap (λ (z : Result Part Broken × S). unless_over (other ops k) fs z then before_parts (other_way is)) (goes_is ops k a) ∙ w.0, w.1)
+  by_total : (is : List (Item A)) (s : S) → On ops k e s → ((t : S) → On ops k e t → SameWork t (one_way is t) (other_way is t)) → (r : Result Part Broken) (t : S) → After ops k s t → (over : Bool) →
+      SameWork s (cond over (None, t) (Some r, t) then before_parts (one_way is)) (cond over (None, t) (Some r, t) then before_parts (other_way is))
+  by_total is s h next r t a true = (refl, a)
+  by_total is s h next (Err x) t a false = (refl, a)
+  by_total is s h next (Ok p) t a false =
+      let ih = next t (on_after ops k e s t h a) in
+      part_before p s (one_way is t) (other_way is t) (ih.0, after_then ops k s t (one_way is t).1 a ih.1)
 
-    by_total : (is : List (Item A)) (s : S) → On ops k e s → (r : Result Part Broken) (t : S) → After ops k s t → (over : Bool) →
-        SameWork s (cond over (None, t) (Some r, t) then before_parts (one_way is)) (cond over (None, t) (Some r, t) then before_parts (other_way is))
-    by_total is s h r t a true = (refl, a)
-    by_total is s h (Err x) t a false = (refl, a)
-    by_total is s h (Ok p) t a false =
-        let ih = items_work is t (on_after ops k e s t h a) in
-        part_before p s (one_way is t) (other_way is t) (ih.0, after_then ops k s t (one_way is t).1 a ih.1)
+  pub items_work : (is : List (Item A)) (s : S) → On ops k e s → SameWork s (one_way is s) (other_way is s)
+  items_work [] s h = (refl, here_after ops k s h.0)
+  items_work (i ∷ is) s h =
+      let q = item_part F ops max_depth e i s in
+      let a = item_alike ops k F G law max_depth e i s h in
+      let w = by_total is s h (λ t g. items_work is t g) q.0 q.1 (goes_after ops k a) (nat_lt max_total (nodes_in ops fs q.1)) in
+      (ap (λ (z : Result Part Broken × S). unless_over (other ops k) fs z then before_parts (other_way is)) (goes_is ops k a) ∙ w.0, w.1)
 
   pub form_work : (r : Result (Left A) Broken) (s : S) → On ops k e s → SameWork s (form_parts ops F e fs r s) (form_parts (other ops k) G e fs r s)
   form_work (Err b) s h = (refl, here_after ops k s h.0)

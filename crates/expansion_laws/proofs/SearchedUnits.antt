@@ -113,6 +113,10 @@ module _ (w : Era) (known : Known) where
     abbrev form_then : ℕ → (ScopedState → Option (List FormResult) × ScopedState) → Result Parts Broken → Work ScopedState (List FormResult)
     form_then form behind parts t = behind t then λ rest. going (record { form = form; result = parts; counted = (counted known).counted t } ∷ rest)
 
+    abbrev FinishedSame : List (ℕ × Aside Ident) → Type 0
+    FinishedSame rs = (s : ScopedState) → FineState w s → Formed s.places s.definitions → LocalsKept w s → ((u : ℕ) (x : List ℕ) → GivenNoLocal (s.entry u x)) → AllOf (SetStands w known s) rs → Bounded w s
+        → finished (searched known) (expand (searched known) turns) [] fs rs s ≡ finished (counted known) (expand (counted known) turns) [] fs rs s
+
     pub finished_searched : (rs : List (ℕ × Aside Ident)) (s : ScopedState) → FineState w s → Formed s.places s.definitions → LocalsKept w s → ((u : ℕ) (x : List ℕ) → GivenNoLocal (s.entry u x)) → AllOf (SetStands w known s) rs → Bounded w s
         → finished (searched known) (expand (searched known) turns) [] fs rs s ≡ finished (counted known) (expand (counted known) turns) [] fs rs s
     finished_searched [] s f fd l en h g = refl
@@ -120,7 +124,7 @@ module _ (w : Era) (known : Known) where
         let s1 = turned w known r.0 s in
         let begins = form_begins w s1 f.0 fd l f.1.stands en in
         let two = aside_searched s1 begins r.1 h.0 (turned_bounded w s g r.0) in
-        go two (aside_same w known turns fs s1 f begins r.1 h.0)
+        go (λ v e d k n x b. finished_searched rs v e d k n x b) two (aside_same w known turns fs s1 f begins r.1 h.0)
       where
         s1 : ScopedState
         s1 = turned w known r.0 s
@@ -131,15 +135,15 @@ module _ (w : Era) (known : Known) where
         counted_then : Result Parts Broken → Work ScopedState (List FormResult)
         counted_then = form_then r.0 (finished (counted known) (expand (counted known) turns) [] fs rs)
 
-        go : AsideSearched s1 r.1 → Both (EndedSame w known turns fs) (KeptSame w known turns fs s1) (by_scopes r.1 s1) (by_counts r.1 s1) → (sought r.1 s1 then sought_then) ≡ (by_counts r.1 s1 then counted_then)
-        go two (both_end v t e d z) =
+        go : FinishedSame rs → AsideSearched s1 r.1 → Both (EndedSame w known turns fs) (KeptSame w known turns fs s1) (by_scopes r.1 s1) (by_counts r.1 s1) → (sought r.1 s1 then sought_then) ≡ (by_counts r.1 s1 then counted_then)
+        go next two (both_end v t e d z) =
             let b = sym z.0 in
             ap (λ q. q then sought_then) (two.same ∙ e) ∙ ((λ j. (None, b j)) ∙ sym (ap (λ q. q then counted_then) d))
-        go two (both_go x y v t e d z) =
+        go next two (both_go x y v t e d z) =
             let b = sym z.0 in
             let c = sym z.1 in
             let now : Bounded w v = subst (λ (q : Option (Result Parts Broken) × ScopedState). Bounded w q.1) e two.bounded in
-            let rest = finished_searched rs v z.3 z.2.formed (locals_later w s1 s1.form v z.2) z.2.entries (sets_later w known s v z.4 rs h.1) now in
+            let rest = next v z.3 z.2.formed (locals_later w s1 s1.form v z.2) z.2.entries (sets_later w known s v z.4 rs h.1) now in
             ap (λ q. q then sought_then) (two.same ∙ e)
             ∙ (ap (λ (m : Option (List FormResult) × ScopedState). m then λ rest. going (record { form = r.0; result = x; counted = (counted known).counted v } ∷ rest)) rest
             ∙ ((λ j. counted_then (c j) (b j)) ∙ sym (ap (λ q. q then counted_then) d)))

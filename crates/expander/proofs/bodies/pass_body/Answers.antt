@@ -1,4 +1,4 @@
-use Rattle.std.proofs.Common.{◌+◌, ◌^◌, ◌<◌, ◌≤◌, List, length, Ok, Err, sym, ap, subst, arith}
+use Rattle.std.proofs.Common.{◌≡◌, ◌+◌, ◌^◌, ◌<◌, ◌≤◌, List, [], length, Ok, Err, sym, ap, subst, arith}
 use Rattle.std.proofs.lemmas.Option.{slice_get_within}
 use Rattle.expander.specs.Bodies.{BodyFor, body_pass}
 use Rattle.scope_env.specs.Environment.{Environment}
@@ -67,7 +67,7 @@ returns-in_err-pass-clause-passed c = λ ts turns stand small enough known ls s 
     let none = c.new-asked.ensures.notes in
     let asks = c.new-asked.ensures.stands work.symbols in
     let forms = c.in_ok-forms_at.ensures in
-    let aside = (c.new.ensures.items, c.new-2.ensures.items) in
+    let aside : (c.new.result.items ≡ []) × (c.new-2.result.items ≡ []) = (c.new.ensures.items, c.new-2.ensures.items) in
     let named = c.requires.can.named in
     let new = c.pass.new.work in
     let v = c.pass.new.units in
@@ -98,7 +98,7 @@ meet_all-requires-clause-look c =
     let none = c.new-asked.ensures.notes in
     let asks = c.new-asked.ensures.stands work.symbols in
     let forms = c.in_ok-forms_at.ensures in
-    let aside = (c.new.ensures.items, c.new-2.ensures.items) in
+    let aside : (c.new.result.items ≡ []) × (c.new-2.result.items ≡ []) = (c.new.ensures.items, c.new-2.ensures.items) in
     let new = c.pass.new.work in
     let v = c.pass.new.units in
     let last = c.pass.new.pending in
@@ -125,7 +125,7 @@ meet_all-requires-clause-waits c =
     let none = c.new-asked.ensures.notes in
     let asks = c.new-asked.ensures.stands work.symbols in
     let forms = c.in_ok-forms_at.ensures in
-    let aside = (c.new.ensures.items, c.new-2.ensures.items) in
+    let aside : (c.new.result.items ≡ []) × (c.new-2.result.items ≡ []) = (c.new.ensures.items, c.new-2.ensures.items) in
     let new = c.pass.new.work in
     let v = c.pass.new.units in
     let last = c.pass.new.pending in
@@ -149,7 +149,7 @@ returns-in_err-meet_all-clause-passed c = λ ts turns stand small enough known l
     let none = c.new-asked.ensures.notes in
     let asks = c.new-asked.ensures.stands work.symbols in
     let forms = c.in_ok-forms_at.ensures in
-    let aside = (c.new.ensures.items, c.new-2.ensures.items) in
+    let aside : (c.new.result.items ≡ []) × (c.new-2.result.items ≡ []) = (c.new.ensures.items, c.new-2.ensures.items) in
     let new = c.pass.new.work in
     let v = c.pass.new.units in
     let last = c.pass.new.pending in
@@ -174,7 +174,7 @@ returns-clause-passed c = λ ts turns stand small enough known ls s fs knows sta
     let none = c.new-asked.ensures.notes in
     let asks = c.new-asked.ensures.stands work.symbols in
     let forms = c.in_ok-forms_at.ensures in
-    let aside = (c.new.ensures.items, c.new-2.ensures.items) in
+    let aside : (c.new.result.items ≡ []) × (c.new-2.result.items ≡ []) = (c.new.ensures.items, c.new-2.ensures.items) in
     let named = c.requires.can.named in
     let new = c.pass.new.work in
     let v = c.pass.new.units in
@@ -203,7 +203,7 @@ returns-clause-locals c =
     let none = c.new-asked.ensures.notes in
     let asks = c.new-asked.ensures.stands work.symbols in
     let forms = c.in_ok-forms_at.ensures in
-    let aside = (c.new.ensures.items, c.new-2.ensures.items) in
+    let aside : (c.new.result.items ≡ []) × (c.new-2.result.items ≡ []) = (c.new.ensures.items, c.new-2.ensures.items) in
     let new = c.pass.new.work in
     let v = c.pass.new.units in
     let last = c.pass.new.pending in

@@ -25,4 +25,4 @@ returns-clause-met c = λ known ls s notes us stands counts waits.
     let tr = c.args.trace.now in
     let e = turned_to work u u1 n b tr ls s notes c.turn.ensures stands counts in
     let met = c.in_ok-meet_all.ensures.met known ls (turned n s) [] us e e.root (waits_turned work u u1 n b tr c.args.uses.now us c.turn.ensures waits) in
-    met_rests work u u1 c.meet_all.new.self (record c.meet_all.new.self { form = record c.meet_all.new.self.form { trace = c.swap.new.x } }) n b tr c.swap.new.y c.swap.new.x ls notes (uses_met known n us s) c.turn.ensures c.in_ok-meet_all.ensures.rest refl c.swap.ensures.y stands.notes met
+    met_rests work u u1 c.meet_all.new.self (record c.meet_all.new.self { form = record c.meet_all.new.self.form { trace = c.swap.new.x } }) n b tr c.swap.new.y c.swap.new.x ls notes (uses_met known n us s) c.turn.ensures c.in_ok-meet_all.ensures.rest refl c.swap.ensures.y_after stands.notes met

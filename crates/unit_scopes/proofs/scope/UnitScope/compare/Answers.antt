@@ -69,6 +69,6 @@ returns-then-self-eq-MAX_USES c = λ known ls s fs keyword m ts tail stands at f
     let k = macro_there w c.args.self.now ls s c.args.at keyword m ts tail stands for in
     let same = copied_is c.meaning.result c.in-Some.used k.0 c.in-Some.is (c.meaning.ensures ∙ k.1) in (
       subst (λ (x : Macro). At ls x.scope m.env) same k.2.scope,
-      subst (λ (ns : List (Note FramedIdent)). AllMatch (ComparisonFor w ls c.in-Some.used.now.scope c.args.at.scope) c.new.result.items ns) (sym (none_compared known w c.args.self.now ls s fs m ts tail stands c.if-self-eq-MAX_USES.true))
-          (subst (λ (cs : List Comparison). AllMatch (ComparisonFor w ls c.in-Some.used.now.scope c.args.at.scope) cs []) (sym c.new.ensures.items) tt),
+      subst (λ (ns : List (Note FramedIdent)). AllMatch (ComparisonFor w ls c.in-Some.used.now.scope c.args.at.scope) c.new-then-self-eq-MAX_USES.result.items ns) (sym (none_compared known w c.args.self.now ls s fs m ts tail stands c.if-self-eq-MAX_USES.true))
+          (subst (λ (cs : List Comparison). AllMatch (ComparisonFor w ls c.in-Some.used.now.scope c.args.at.scope) cs []) (sym c.new-then-self-eq-MAX_USES.ensures.items) tt),
     )
