@@ -12,7 +12,7 @@ ghost use Rattle.document_store.specs.Texts.{Document as Text};
 ghost use Rattle.document_units.specs.declared.listing.Head.{Head as AnyHead};
 ghost use Rattle.document_units.specs.Belongs.{AreErrorsIn};
 ghost use Rattle.program_expansion.specs.ReadingOf.{IsReading};
-ghost use Rattle.arrow_index.specs.Formed.{AreFormedIn, IsFormed};
+ghost use Rattle.program_leaves.specs.Formed.{AreFormedIn, IsFormed};
 ghost use Rattle.document_units.specs.Broken.{told};
 ghost use Rattle.program_expansion.specs.UnitResults.{IsUpTo};
 ghost use Rattle.unit_imports.specs.Collected.{AreCollected, AreHeadsOf, Has, IsNothing};

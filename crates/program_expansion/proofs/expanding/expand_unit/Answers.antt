@@ -20,7 +20,7 @@ use Rattle.unit_scopes.specs.declared.scope.Imported.{Imported}
 use Rattle.unit_scopes.proofs.ImportLaws.{same_trees}
 use Rattle.unit_scopes.proofs.OutcomeLaws.{trees_on}
 use Rattle.program_expansion.specs.Begun.{IsImport}
-use Rattle.arrow_index.specs.Formed.{IsFormed}
+use Rattle.program_leaves.specs.Formed.{IsFormed}
 use Rattle.program_expansion.specs.UnitResults.{expanded_after, with_unit}
 use Rattle.program_expansion.specs.Forms.{AreFormed, Unfolds}
 use Rattle.program_expansion.specs.UnitsFound.{in_the_end}
