@@ -245,6 +245,7 @@ fn unit_of(
         entries,
         forms,
         names,
+        seconds,
         exports,
         findings,
     } = came;
@@ -255,6 +256,7 @@ fn unit_of(
         forms,
         imports: mem::replace(&mut head.imports, Items::new(alloc)),
         names,
+        seconds,
         entries: Items::from_vec(entries),
         exports,
         errors: errors(alloc, findings.as_slice())?,

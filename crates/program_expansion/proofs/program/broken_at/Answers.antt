@@ -18,6 +18,7 @@ returns-clause-nothing c = record {
   blank = c.in_ok-broken.ensures.forms;
   as_many = c.in_ok-broken.ensures.count;
   names = c.in_ok-broken.ensures.names;
+  seconds = c.in_ok-broken.ensures.seconds;
   entries = c.in_ok-broken.ensures.entries;
   exports = c.in_ok-broken.ensures.exports;
 }
