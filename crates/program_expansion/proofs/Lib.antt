@@ -2,7 +2,6 @@ pub mod Live  -- Live nodes are no fewer in a work that keeps its trees
 pub mod Enumerated  -- The items of a list with their places
 pub mod Turns  -- Places that stand once each
 pub mod BenchLaws  -- What calls leave of a bench adds up, and units stand in a work that has grown
-pub mod UnitSteps  -- The forms of a unit one more at a time
 pub mod UnitForms  -- The forms of a unit by their numbers
 pub mod FormAtWork  -- While an item is expanded its form stays at work, and work may turn to another form at any time between
 pub mod FormSteps  -- What a step of one form leaves of the others, and what the form itself has then
