@@ -40,7 +40,7 @@ meet_uses-requires-clause-stands g c =
 pub meet_uses-requires-clause-waits : goal.meet_uses-requires-clause-waits
 meet_uses-requires-clause-waits g c =
     let none = none_of c.args.form.fault (sym c.is_some.ensures ∙ c.if-is_some.false) in
-    subst (λ (xs : List code_waiting.WaitingUse). (us : List (WaitingUse Identifier)) × AllMatch (WaitsFor c.args.bench.now.work c.args.bench.now.scope.unit c.args.number) xs us) (sym c.as_slice.ensures)
+    subst (λ (xs : List code_waiting.WaitingUse). (us : List (WaitingUse Identifier)) × AllMatch (WaitsFor c.args.bench.now.work c.args.bench.now.scope.unit c.args.number) xs us) (sym c.as_slice.ensures.value)
     (uses_wait c.args.bench.now c.args.unit c.args.number c.args.form none c.requires.stands)
 
 pub loop-item-init : goal.loop-item-init
@@ -48,7 +48,7 @@ loop-item-init g c =
     let none = none_of c.args.form.fault (sym c.is_some.ensures ∙ c.if-is_some.false) in
     let b = c.args.bench.now in
     let u = c.meet_uses.new.units in
-    let call = subst (λ (xs : List code_waiting.WaitingUse). Meets b u c.args.number c.args.form.budget c.args.form.trace c.meet_uses.new.trace xs) c.as_slice.ensures c.in_ok-meet_uses.ensures.met in
+    let call = subst (λ (xs : List code_waiting.WaitingUse). Meets b u c.args.number c.args.form.budget c.args.form.trace c.meet_uses.new.trace xs) c.as_slice.ensures.value c.in_ok-meet_uses.ensures.met in
     record {
       space = subst (HasSpaceLeft c.args.form.budget) none c.requires.stands.form_is.space;
       stays = uses_stay b u c.requires.region c.in_ok-meet_uses.ensures.scope;
