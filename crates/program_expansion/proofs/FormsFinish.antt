@@ -47,8 +47,7 @@ use Rattle.unit_scopes.proofs.OutcomeLaws.{grows_itself}
 use Rattle.expansion_laws.proofs.ItemTables.{expanded_table, met_table}
 use Rattle.expansion_laws.proofs.OtherForms.{expanded_stays, met_stays}
 use Rattle.expansion_laws.proofs.TopForms.{expanded_binds}
-use Rattle.program_expansion.specs.Ends.{Comes}
-use Rattle.program_expansion.specs.Forms.{Passing, IsUntouched, IsSetAside, IsDeclared, KeepsOthers, HaveCounted, GoesTo, expanding, FinishesTo, FinishesForm, CanFinish, Stays, known_by}
+use Rattle.program_expansion.specs.Forms.{Passing, IsUntouched, IsSetAside, IsDeclared, KeepsOthers, HaveCounted, expanding, FinishesTo, FinishesForm, CanFinish, Stays, known_by}
 use Rattle.program_expansion.specs.declared.forms.Bench.{Bench}
 use Rattle.program_expansion.specs.declared.forms.Declared as code
 use Rattle.program_expansion.proofs.BenchLaws.{stays_by, stays_on}

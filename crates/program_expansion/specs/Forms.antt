@@ -24,7 +24,6 @@ use Rattle.core_tree.specs.Names.{AllMatch}
 use Rattle.core_tree.specs.Traces.{IsFault}
 use Rattle.core_tree.specs.Units.{FormsStand, IsResult, AreDefinitions, definitions_from, defined_by}
 use Rattle.core_tree.specs.declared.traces.FormFault.{FormFault}
-use Rattle.core_tree.specs.declared.traces.Trace.{Trace}
 use Rattle.core_tree.specs.declared.units.UnitForm as code_form
 use Rattle.feature_requirements.specs.Judged.{Knows, library_text}
 use Rattle.unit_scopes.specs.Opened.{IsNew}
