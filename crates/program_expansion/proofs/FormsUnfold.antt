@@ -62,11 +62,9 @@ module _ (known : Known) (p : Prepared) (s : ScopedState) (n : ℕ) (own : p.num
     left = (h.comes.whole few).0
 
     numbers : numbers_of left ≡ numbers_of ts
-    unfolding left
     numbers = passed_numbers (searched known) (numbers_of ts) enough_turns [] ts [] s h.held.state left (h.comes.whole few).1
 
     pub can_finish_all : CanFinishAll b n known left h.held.state total ds
-    unfolding left
     can_finish_all = record {
       few = few;
       rise = subst (λ (ns : List ℕ). Rise 0 ns) (sym numbers) (forms_rise (Written n) n 0 fs);
@@ -76,7 +74,6 @@ module _ (known : Known) (p : Prepared) (s : ScopedState) (n : ℕ) (own : p.num
 
     -- the unit is what is left of them, finished
     finished_is : searched_unit_over known p s ≡ finished (searched known) (expand (searched known) enough_turns) [] (numbers_of left) left h.held.state
-    unfolding left
     finished_is =
         unit_is ∙ goes_through (searched known) enough_turns [] ts s left h.held.state (h.comes.whole few).1
         ∙ ap (λ (ns : List ℕ). finished (searched known) (expand (searched known) enough_turns) [] ns left h.held.state) (sym numbers)
