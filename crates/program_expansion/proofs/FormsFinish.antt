@@ -1,4 +1,4 @@
--- What a form set aside is expanded: its uses are met, and then item by item, until all is or work on the unit ends.
+-- What a form set aside is expanded, once its macro uses are met: item by item, until all is or work on the unit ends.
 use Rattle.std.proofs.Common.{◌≡◌, ℕ, zero, suc, ◌+◌, ◌≤◌, ◌<◌, List, [], ◌∷◌, ◌++◌, map, drop, reverse, length, get_or, slice_get, true, false, Option, Some, None, Result, Ok, Err, refl, sym, ap, ◌∙◌, subst, arith, true≢false}
 use Rattle.std.specs.Prelude.{nat_lt}
 use Rattle.std.specs.Option.{is_some}
