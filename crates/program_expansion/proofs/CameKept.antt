@@ -111,7 +111,7 @@ pub came_of : (us : List Placed) (q : Program) (p : Prepared) (imports : List mo
 came_of us q p imports fs work c unit own entries forms count definitions names exports seconds = record {
   whole = refl;
   entries = entries;
-  forms = subst (λ (n : ℕ). FormsStand work n 0 c.forms fs) (sym own) forms;
+  forms = subst (λ (n : ℕ). FormsStand work n 0 c.forms (with_refused p.number 0 p.forms fs)) (sym own) forms;
   count = count;
   definitions = subst (λ (n : ℕ). AreDefinitions work.symbols (reverse (definitions_from 0 c.forms)) (defined_by n q.table)) (sym own) definitions;
   names =

@@ -15,6 +15,7 @@ use Rattle.syntax_tree.specs.declared.trees.Work.{Work}
 use Rattle.unit_scopes.specs.Searched.{define_searched, searched}
 use Rattle.unit_scopes.specs.Stepped.{turned}
 use Rattle.unit_scopes.specs.Units.{UnitStands, uses_met, expanded}
+use Rattle.unit_scopes.specs.declared.scope.FormAtWork as code_work
 use Rattle.unit_scopes.specs.declared.scope.UnitScope.{UnitScope}
 use Rattle.expansion_laws.proofs.AlikeSteps.{Likeness, other, goes_after, all_met_after}
 use Rattle.expansion_laws.proofs.AlikeExpressions.{expand_alike, item_alike}
@@ -102,5 +103,14 @@ unit_turned work u ls s n notes h =
         known = e.known;
         count = e.count;
       };
+      notes = h.notes;
+    }
+
+-- and what is at work doesn't matter to them
+pub unit_apart : (work : Work) (u : UnitScope) (f : code_work.FormAtWork) (ls : List Frames) (s : ScopedState) (notes : List (Note FramedIdent)) → UnitStands work u ls s notes → UnitStands work (record u { form = f }) ls s notes
+unit_apart work u f ls s notes h =
+    let e = h.rests in
+    record {
+      rests = record { unit = e.unit; program = e.program; env = e.env; macros = e.macros; root = e.root; own = e.own; begun = e.begun; defined = e.defined; known = e.known; count = e.count };
       notes = h.notes;
     }

@@ -1,20 +1,20 @@
 -- What forms set aside is expanded, one form more at a time.
-use Rattle.std.proofs.Common.{◌≡◌, ℕ, zero, suc, ◌+◌, List, [], ◌∷◌, ◌++◌, map, drop, reverse, length, slice_get, Bool, true, false, Some, Result, Ok, refl, sym, ap, ◌∙◌, subst, inl, inr, arith}
+use Rattle.std.proofs.Common.{◌≡◌, ℕ, zero, suc, ◌+◌, List, [], ◌∷◌, ◌++◌, map, drop, reverse, length, slice_get, true, false, Option, Some, None, Result, Ok, refl, sym, ap, ◌∙◌, subst, inl, inr, arith, true≢false}
 use Rattle.std.specs.Prelude.{nat_lt}
 use Rattle.std.proofs.lemmas.List.{append_assoc, append-nil, length_push}
-use Rattle.std.proofs.lemmas.Option.{same_Some}
+use Rattle.scheme_model.specs.Ident.{Ident as Identifier}
 use Rattle.scheme_model.specs.Order.{Counted}
 use Rattle.scheme_model.specs.Cores.{Parts, no_parts}
 use Rattle.scheme_model.specs.Steps.{Broken}
 use Rattle.scheme_model.specs.Program.{enough_turns}
 use Rattle.scheme_model.specs.Substitution.{Defined, Table}
-use Rattle.scheme_model.specs.UnitExpansion.{Formed, max_total, nodes_in, states_finished}
+use Rattle.scheme_model.specs.Expression.{expand}
+use Rattle.scheme_model.specs.UnitExpansion.{Formed, LeftOf, max_total, nodes_in, finished}
 use Rattle.scheme_model.specs.Requirements.{Known}
 use Rattle.scheme_model.specs.ScopedExpansion.{ScopedState}
 use Rattle.syntax_tree.specs.Names.{Names, KeepsNames}
 use Rattle.syntax_tree.specs.Works.{KeepsTrees}
 use Rattle.syntax_tree.specs.declared.trees.Work.{Work}
-use Rattle.syntax_tree.proofs.Places.{none_some}
 use Rattle.core_tree.specs.Names.{AllMatch, IsTarget, IsUse}
 use Rattle.core_tree.specs.Cores.{PartsStand}
 use Rattle.core_tree.specs.Units.{IsBlank, FormsStand, IsResult, defined_by}
@@ -27,27 +27,22 @@ use Rattle.feature_requirements.specs.Judged.{Knows}
 use Rattle.unit_scopes.specs.Others.{InOrder}
 use Rattle.unit_scopes.specs.Searched.{searched}
 use Rattle.unit_scopes.specs.State.{numbered, IsNumbered, numbered_in}
-use Rattle.unit_scopes.specs.Stepped.{turned}
+use Rattle.unit_scopes.specs.declared.scope.FormAtWork.{FormAtWork}
 use Rattle.unit_scopes.proofs.CoreStandLaws.{every_on}
 use Rattle.unit_scopes.proofs.FormsDefine.{Tell, forms_define}
 use Rattle.unit_scopes.proofs.OutcomeLaws.{grows_itself}
 use Rattle.expansion_laws.proofs.PartsStay.{forms_on}
-use Rattle.program_expansion.specs.Ends.{numbers_of, Rise, IsAmong, Ends, items_expanded, item_states}
-use Rattle.program_expansion.specs.Forms.{Passing, IsUntouched, HaveCounted, expanding_states, FinishesTo, FinishesForm, CanFinish, CanFinishAll, FormsHeld, AreDeclared, AreFormed, Finishes, Stays, known_by}
+use Rattle.program_expansion.specs.Ends.{numbers_of, Rise, IsAmong, Comes}
+use Rattle.program_expansion.specs.Forms.{IsUntouched, HaveCounted, expanding, FinishesTo, FinishesForm, CanFinish, CanFinishAll, FormsHeld, AreDeclared, AreFormed, Finishes, Stays, IsTurned, known_by}
 use Rattle.program_expansion.specs.declared.forms.Bench.{Bench}
 use Rattle.program_expansion.specs.declared.forms.Declared as code
 use Rattle.program_expansion.proofs.DeclaredForms.{declared_on}
-use Rattle.program_expansion.proofs.FormsFinish.{Finished}
-use Rattle.program_expansion.proofs.FormsHold.{is_few}
+use Rattle.program_expansion.proofs.FormAtWork.{unit_apart}
+use Rattle.program_expansion.proofs.FormsFinish.{Finished, dropped_at}
 use Rattle.program_expansion.proofs.UnitForms.{among}
-use Rattle.program_expansion.proofs.UnitSteps.{all_finished, finished_append, items_more, items_append, ends_then, ends_anyway, ends_same, none_ends}
+use Rattle.program_expansion.proofs.UnitWalk.{behind, behind_none, behind_twice, finish_over, finish_on}
 
 -- ---- lists
-
-dropped_at : {X : Type 0} (xs : List X) (k : ℕ) (x : X) → slice_get xs k ≡ Some x → drop k xs ≡ x ∷ drop (suc k) xs
-dropped_at [] k x at = none_some x at
-dropped_at (y ∷ xs) zero x at = ap (λ (z : _). z ∷ xs) (same_Some y x at)
-dropped_at (y ∷ xs) (suc k) x at = dropped_at xs k x at
 
 dropped_all : {X : Type 0} (xs : List X) (k : ℕ) → k ≡ length xs → drop k xs ≡ []
 dropped_all [] zero h = refl
@@ -171,16 +166,20 @@ none_matched {X} {Y} P xs ys none h = by ys (subst (λ (zs : List X). AllMatch P
     by [] h = refl
     by (z ∷ zs) h = absurd h
 
+-- with this form at work
+abbrev at_work : Bench → FormAtWork → Bench
+at_work b w = record b { scope = record b.scope { form = w } }
+
 -- a form that isn't expanded changes nothing
-blank_to : (b : Bench) (unit place : ℕ) (ds : List code.Declared) (h : FormsHeld b unit place ds) (d : code.Declared) (k : code_form.UnitForm) → slice_get ds place ≡ Some d → IsUntouched d → IsBlank k → FinishesTo b b unit place h.state k
-blank_to b unit place ds h d k at none blank =
+blank_to : (b : Bench) (w : FormAtWork) (unit place : ℕ) (ds : List code.Declared) (h : FormsHeld b unit place ds) (d : code.Declared) (k : code_form.UnitForm) → slice_get ds place ≡ Some d → IsUntouched d → IsBlank k → FinishesTo b (at_work b w) unit place h.state k
+blank_to b w unit place ds h d k at none blank =
     let x = h.held place d (omega arith) at in
     let defined : numbered_in h.state.unit place h.state.table ≡ [] = none_matched (IsNumbered b.work.symbols place) d.trace.definitions (numbered_in h.state.unit place h.state.table) none.definitions x.1.counts.definitions in
     record {
       layout = h.layout;
       state = h.state;
       notes = h.notes;
-      stands = h.stands;
+      stands = unit_apart b.work b.scope w h.layout h.state h.notes h.stands;
       number = h.number;
       kept = λ m c r apart is. is;
       table = refl;
@@ -200,27 +199,27 @@ blank_to b unit place ds h d k at none blank =
 
 -- ---- the definition's forms, as they are finished
 
-module _ (known : Known) (unit : ℕ) (rs : List (ℕ × Passing)) (s : ScopedState) (rise : Rise 0 (numbers_of rs)) (ds : List code.Declared) where
-  abbrev done : List (ℕ × Passing) → List Formed × ScopedState
-  done front = all_finished (searched known) enough_turns [] front s
-
-  abbrev gone : List (ℕ × Passing) → List ScopedState
-  gone front = states_finished (searched known) enough_turns [] front s
+module _ (known : Known) (unit : ℕ) (rs : List (LeftOf Identifier)) (s : ScopedState) (rise : Rise 0 (numbers_of rs)) (ds : List code.Declared) where
+  -- what is still to come of forms
+  abbrev to_come : List (LeftOf Identifier) → ScopedState → Option (List Formed) × ScopedState
+  to_come rest t = finished (searched known) (expand (searched known) enough_turns) [] (numbers_of rs) rest t
 
   -- so many are finished, and none made the nodes too many
-  pub record GoneOn (b : Bench) (place : ℕ) (cs : List code_form.UnitForm) (front rest : List (ℕ × Passing)) (t : ScopedState) : Type 0 where
-    pub state : t ≡ (done front).1
-    pub forms : FormsStand b.work unit 0 cs (done front).0
+  pub record GoneOn (b : Bench) (place : ℕ) (cs : List code_form.UnitForm) (rest : List (LeftOf Identifier)) (t : ScopedState) : Type 0 where
+    pub gone : List Formed
+    pub forms : FormsStand b.work unit 0 cs gone
     pub left : AreDeclared b.work b.region unit place t (drop place ds) rest
+    pub goes : to_come rs s ≡ behind gone (to_come rest t)
 
   -- so many are finished, or as many as it took to count too many nodes
   pub record AllSo (b : Bench) (total place : ℕ) (cs : List code_form.UnitForm) : Type 0 where
     pub base : AreFinished b unit place ds cs
-    pub front : List (ℕ × Passing)
-    pub rest : List (ℕ × Passing)
+    pub front : List (LeftOf Identifier)
+    pub rest : List (LeftOf Identifier)
     pub parted : front ++ rest ≡ rs
-    pub ends : Ends (searched known) (numbers_of rs) (gone front) total base.held.state
-    pub whole : nat_lt max_total total ≡ false → GoneOn b place cs front rest base.held.state
+    pub counted : nodes_in (searched known) (numbers_of rs) base.held.state ≡ total
+    pub over : nat_lt max_total total ≡ true → to_come rs s ≡ (None, base.held.state)
+    pub on : nat_lt max_total total ≡ false → GoneOn b place cs rest base.held.state
 
   pub none_so : (b : Bench) (h : FormsHeld b unit 0 ds) (total : ℕ) → h.state ≡ s → CanFinishAll b unit known rs s total ds → AllSo b total 0 []
   unfolding none_finished
@@ -229,11 +228,13 @@ module _ (known : Known) (unit : ℕ) (rs : List (ℕ × Passing)) (s : ScopedSt
     front = [];
     rest = rs;
     parted = refl;
-    ends = none_ends (searched known) (numbers_of rs) total h.state (ap (λ (t : ScopedState). nodes_in (searched known) (numbers_of rs) t) same ∙ can.counted) (is_few total can.few);
-    whole = λ few. record {
-      state = same;
+    counted = ap (λ (t : ScopedState). nodes_in (searched known) (numbers_of rs) t) same ∙ can.counted;
+    over = λ many. absurd (true≢false (sym many ∙ can.few));
+    on = λ few. record {
+      gone = [];
       forms = tt;
       left = subst (λ (t : ScopedState). AreDeclared b.work b.region unit 0 t ds rs) (sym same) can.forms;
+      goes = ap (λ (t : ScopedState). to_come rs t) (sym same) ∙ sym (behind_none (to_come rs h.state));
     };
   }
 
@@ -241,145 +242,149 @@ module _ (known : Known) (unit : ℕ) (rs : List (ℕ × Passing)) (s : ScopedSt
     abbrev was : ScopedState
     was = a.base.held.state
 
-    so_far : GoneOn b place cs a.front a.rest was
-    so_far = a.whole few
+    so_far : GoneOn b place cs a.rest was
+    so_far = a.on few
 
     -- one that isn't expanded
-    blank_so : IsUntouched d → IsBlank k → AreDeclared b.work b.region unit (suc place) was (drop (suc place) ds) a.rest → AllSo b total (suc place) (cs ++ k ∷ [])
+    blank_so : (w : FormAtWork) → IsUntouched d → IsBlank k → AreDeclared b.work b.region unit (suc place) was (drop (suc place) ds) a.rest → AllSo (at_work b w) total (suc place) (cs ++ k ∷ [])
     unfolding next_finished blank_to
-    blank_so none blank left =
+    blank_so w none blank left =
         let g = grows_itself b.work b.region in
         record {
-          base = next_finished b b unit place ds cs k a.base g.trees g.names (blank_to b unit place ds a.base.held d k at none blank);
+          base = next_finished b (at_work b w) unit place ds cs k a.base g.trees g.names (blank_to b w unit place ds a.base.held d k at none blank);
           front = a.front;
           rest = a.rest;
           parted = a.parted;
-          ends = a.ends;
-          whole = λ few. record { state = so_far.state; forms = forms_blank b.work unit 0 cs (done a.front).0 k blank so_far.forms; left = left };
+          counted = a.counted;
+          over = a.over;
+          on = λ still. record { gone = so_far.gone; forms = forms_blank b.work unit 0 cs so_far.gone k blank so_far.forms; left = left; goes = so_far.goes };
         }
 
     -- one that is
-    module _ (c : Bench) (after : ℕ) (trees : KeepsTrees b.work c.work) (names : KeepsNames b.work.symbols c.work.symbols) (r : ℕ × Passing) (rest : List (ℕ × Passing)) (parted : a.front ++ r ∷ rest ≡ rs) (here : r.0 ≡ place)
+    module _ (c : Bench) (after : ℕ) (trees : KeepsTrees b.work c.work) (names : KeepsNames b.work.symbols c.work.symbols) (r : LeftOf Identifier) (rest : List (LeftOf Identifier)) (parted : a.front ++ r ∷ rest ≡ rs) (others : a.rest ≡ r ∷ rest) (here : r.0 ≡ place)
         (left : AreDeclared b.work b.region unit (suc place) was (drop (suc place) ds) rest) (f : FinishesForm b c known unit place r.1 was total after k) where
+      abbrev now : ScopedState
+      now = f.finishes.state
+
       abbrev row : Formed
-      row = record { form = place; result = f.finishes.result; counted = (searched known).counted f.finishes.state }
-
-      abbrev with_row : ℕ → Result Parts Broken × ScopedState → List Formed × ScopedState
-      with_row n q = ((done a.front).0 ++ record { form = n; result = q.0; counted = (searched known).counted q.1 } ∷ [], q.1)
-
-      abbrev at_form : ℕ → ScopedState → Result Parts Broken × ScopedState
-      at_form n t = items_expanded (searched known) enough_turns [] r.1 (turned n t)
-
-      next_done : nat_lt max_total after ≡ false → done (a.front ++ r ∷ []) ≡ ((done a.front).0 ++ row ∷ [], f.finishes.state)
-      next_done still =
-          finished_append (searched known) enough_turns [] a.front (r ∷ []) s
-          ∙ (ap (λ (n : ℕ). with_row n (at_form n (done a.front).1)) here
-          ∙ (ap (λ (t : ScopedState). with_row place (at_form place t)) (sym so_far.state)
-          ∙ ap (λ (q : Result Parts Broken × ScopedState). with_row place q) (f.whole still)))
-
-      next_gone : gone (a.front ++ r ∷ []) ≡ gone a.front ++ expanding_states known place r.1 was
-      next_gone =
-          items_more (searched known) enough_turns [] a.front r s
-          ∙ (ap (λ (n : ℕ). gone a.front ++ item_states (searched known) enough_turns [] r.1 (turned n (done a.front).1)) here
-          ∙ ap (λ (t : ScopedState). gone a.front ++ item_states (searched known) enough_turns [] r.1 (turned place t)) (sym so_far.state))
+      row = record { form = r.0; result = f.finishes.result; counted = (searched known).counted now }
 
       counting : HaveCounted known (numbers_of rs) place was total
       counting = record {
         rise = rise;
-        among = subst (λ (n : ℕ). IsAmong n (numbers_of rs)) here (subst (λ (qs : List (ℕ × Passing)). IsAmong r.0 (numbers_of qs)) parted (among a.front rest r));
-        counted = a.ends.counted;
+        among = subst (λ (n : ℕ). IsAmong n (numbers_of rs)) here (subst (λ (qs : List (LeftOf Identifier)). IsAmong r.0 (numbers_of qs)) parted (among a.front rest r));
+        counted = a.counted;
       }
+
+      came : Comes (searched known) (numbers_of rs) (expanding known (numbers_of rs) place r.1 was) after now (λ (given : Result Parts Broken). given ≡ f.finishes.result)
+      came = f.goes (numbers_of rs) counting
+
+      -- the form's own number is its place
+      at_turn : expanding known (numbers_of rs) r.0 r.1 was ≡ expanding known (numbers_of rs) place r.1 was
+      at_turn = ap (λ (n : ℕ). expanding known (numbers_of rs) n r.1 was) here
+
+      before_it : to_come rs s ≡ behind so_far.gone (to_come (r ∷ rest) was)
+      before_it = so_far.goes ∙ ap (λ (qs : List (LeftOf Identifier)). behind so_far.gone (to_come qs was)) others
+
+      next_over : nat_lt max_total after ≡ true → to_come rs s ≡ (None, now)
+      next_over many = before_it ∙ ap (behind so_far.gone) (finish_over (searched known) (numbers_of rs) (expand (searched known) enough_turns) [] r rest was now (at_turn ∙ came.over many))
+
+      next_on : nat_lt max_total after ≡ false → to_come rs s ≡ behind (so_far.gone ++ row ∷ []) (to_come rest now)
+      next_on still =
+          let w = came.whole still in
+          before_it
+          ∙ (ap (behind so_far.gone) (finish_on (searched known) (numbers_of rs) (expand (searched known) enough_turns) [] r rest was f.finishes.result now (at_turn ∙ (w.1 ∙ ap (λ (q : Result Parts Broken). (Some q, now)) w.2)))
+          ∙ behind_twice so_far.gone (row ∷ []) (to_come rest now))
+
+      result_is : IsResult c.work unit r.0 k f.finishes.result ((searched known).counted now)
+      result_is =
+          subst (λ (n : ℕ). IsResult c.work unit n k f.finishes.result ((searched known).counted now)) (sym here)
+          (subst (λ (m : Counted). IsResult c.work unit place k f.finishes.result m) f.counted f.finishes.result_is)
 
       next_so : AllSo c after (suc place) (cs ++ k ∷ [])
       unfolding next_finished
       next_so =
+          let count : r.0 ≡ 0 + length cs = let e = a.base.count in omega (arith, e, here) in
           record {
             base = next_finished b c unit place ds cs k a.base trees names f.finishes;
             front = a.front ++ r ∷ [];
             rest = rest;
             parted = append_assoc a.front (r ∷ []) rest ∙ parted;
-            ends = ends_same (searched known) (numbers_of rs) next_gone
-                (ends_then (searched known) (numbers_of rs) (gone a.front) (expanding_states known place r.1 was) total was a.ends few after f.finishes.state (f.ends (numbers_of rs) counting));
-            whole = λ still.
-                let count : place ≡ 0 + length cs = let e = a.base.count in omega (arith, e) in
-                record {
-                  state = sym (ap (λ (q : List Formed × ScopedState). q.1) (next_done still));
-                  forms =
-                      subst (λ (fs : List Formed). FormsStand c.work unit 0 (cs ++ k ∷ []) fs) (sym (ap (λ (q : List Formed × ScopedState). q.0) (next_done still)))
-                      (forms_more c.work unit 0 cs (done a.front).0 k row count (forms_on b.work c.work trees names unit cs (done a.front).0 0 so_far.forms)
-                      (subst (λ (m : Counted). IsResult c.work unit place k f.finishes.result m) f.counted f.finishes.result_is));
-                  left = declared_on b c unit (suc place) (suc place + length (drop (suc place) ds)) was f.finishes.state (λ m e q from low is. f.finishes.kept m e q (λ same. omega (arith, from, same)) is) (suc place) (drop (suc place) ds) rest (omega arith) (omega arith) left;
-                };
+            counted = came.counted;
+            over = next_over;
+            on = λ still. record {
+              gone = so_far.gone ++ row ∷ [];
+              forms = forms_more c.work unit 0 cs so_far.gone k row count (forms_on b.work c.work trees names unit cs so_far.gone 0 so_far.forms) result_is;
+              left = declared_on b c unit (suc place) (suc place + length (drop (suc place) ds)) was now (λ m e q from low is. f.finishes.kept m e q (λ same. omega (arith, from, same)) is) (suc place) (drop (suc place) ds) rest (omega arith) (omega arith) left;
+              goes = next_on still;
+            };
           }
 
     next_is : drop place ds ≡ d ∷ drop (suc place) ds
     next_is = dropped_at ds place d at
 
     -- either
-    pub one_so : (c : Bench) (after : ℕ) → KeepsTrees b.work c.work → KeepsNames b.work.symbols c.work.symbols → Knows b.scope.libraries known → (IsUntouched d → IsBlank k) → (IsUntouched d → (c ≡ b) × (after ≡ total)) → Finished b c unit place d total after k →
+    pub one_so : (c : Bench) (after : ℕ) → KeepsTrees b.work c.work → KeepsNames b.work.symbols c.work.symbols → Knows b.scope.libraries known → (IsUntouched d → IsBlank k) → (IsUntouched d → IsTurned b c × (after ≡ total)) → Finished b c unit place d total after k →
         AllSo c after (suc place) (cs ++ k ∷ [])
     one_so c after trees names knows blank same so = by a.rest refl (subst (λ (es : List code.Declared). AreDeclared b.work b.region unit place was es a.rest) next_is so_far.left)
       where
         none : IsUntouched d → AreDeclared b.work b.region unit (suc place) was (drop (suc place) ds) a.rest → AllSo c after (suc place) (cs ++ k ∷ [])
         none un left =
             subst (λ (e : Bench). AllSo e after (suc place) (cs ++ k ∷ [])) (sym (same un).0)
-            (subst (λ (n : ℕ). AllSo b n (suc place) (cs ++ k ∷ [])) (sym (same un).1) (blank_so un (blank un) left))
+            (subst (λ (n : ℕ). AllSo (at_work b c.scope.form) n (suc place) (cs ++ k ∷ [])) (sym (same un).1) (blank_so c.scope.form un (blank un) left))
 
-        by : (rest : List (ℕ × Passing)) → rest ≡ a.rest → AreDeclared b.work b.region unit place was (d ∷ drop (suc place) ds) rest → AllSo c after (suc place) (cs ++ k ∷ [])
-        by [] is h = none h.0 (subst (λ (qs : List (ℕ × Passing)). AreDeclared b.work b.region unit (suc place) was (drop (suc place) ds) qs) is h.1)
+        by : (rest : List (LeftOf Identifier)) → a.rest ≡ rest → AreDeclared b.work b.region unit place was (d ∷ drop (suc place) ds) rest → AllSo c after (suc place) (cs ++ k ∷ [])
+        by [] is h = none h.0 (subst (λ (qs : List (LeftOf Identifier)). AreDeclared b.work b.region unit (suc place) was (drop (suc place) ds) qs) (sym is) h.1)
         by (r ∷ rest) is h = elim h [
-          | inl un ↦ none un.0 (subst (λ (qs : List (ℕ × Passing)). AreDeclared b.work b.region unit (suc place) was (drop (suc place) ds) qs) is un.2)
+          | inl un ↦ none un.0 (subst (λ (qs : List (LeftOf Identifier)). AreDeclared b.work b.region unit (suc place) was (drop (suc place) ds) qs) (sym is) un.2)
           | inr made ↦
-              next_so c after trees names r rest (ap (λ (qs : List (ℕ × Passing)). a.front ++ qs) is ∙ a.parted) made.0 made.2
+              next_so c after trees names r rest (ap (λ (qs : List (LeftOf Identifier)). a.front ++ qs) (sym is) ∙ a.parted) is made.0 made.2
               (so known a.base.held.layout was a.base.held.notes r.1 knows a.base.held.stands a.base.held.number made.1)
         ]
 
   -- all, or as many as it took
-  none_left : (b : Bench) (t : ScopedState) (place : ℕ) (es : List code.Declared) (rest : List (ℕ × Passing)) → es ≡ [] → AreDeclared b.work b.region unit place t es rest → rest ≡ []
+  none_left : (b : Bench) (t : ScopedState) (place : ℕ) (es : List code.Declared) (rest : List (LeftOf Identifier)) → es ≡ [] → AreDeclared b.work b.region unit place t es rest → rest ≡ []
   none_left b t place es rest none h = by rest (subst (λ (fs : List code.Declared). AreDeclared b.work b.region unit place t fs rest) none h)
     where
-      by : (qs : List (ℕ × Passing)) → AreDeclared b.work b.region unit place t [] qs → qs ≡ []
+      by : (qs : List (LeftOf Identifier)) → AreDeclared b.work b.region unit place t [] qs → qs ≡ []
       by [] h = refl
       by (q ∷ qs) h = absurd h
 
   pub all_so : (b : Bench) (total place : ℕ) (cs : List code_form.UnitForm) → AllSo b total place cs → (nat_lt max_total total ≡ false → place ≡ length ds) → Finishes b unit known rs s total cs
   unfolding all_finished_formed
-  all_so b total place cs a all =
-      let whole : nat_lt max_total total ≡ false → a.front ≡ rs = λ few.
-      let g = a.whole few in
-      let none : a.rest ≡ [] = none_left b a.base.held.state place (drop place ds) a.rest (dropped_all ds place (all few)) g.left in
-      sym (append-nil a.front) ∙ (ap (λ (qs : List (ℕ × Passing)). a.front ++ qs) (sym none) ∙ a.parted) in
-      record {
-        layout = a.base.held.layout;
-        last = a.base.held.state;
-        notes = a.base.held.notes;
-        stands = a.base.held.stands;
-        ends = by (nat_lt max_total total) refl whole;
-        state = λ few. (a.whole few).state ∙ ap (λ (qs : List (ℕ × Passing)). (done qs).1) (whole few);
-        forms = λ few. subst (λ (qs : List (ℕ × Passing)). FormsStand b.work unit 0 cs (done qs).0) (whole few) (a.whole few).forms;
-        definitions = λ few. (all_finished_formed b unit place ds cs (all few) a.base).definitions;
-      }
-    where
-      by : (over : Bool) → nat_lt max_total total ≡ over → (nat_lt max_total total ≡ false → a.front ≡ rs) → Ends (searched known) (numbers_of rs) (gone rs) total a.base.held.state
-      by false few whole = subst (λ (qs : List (ℕ × Passing)). Ends (searched known) (numbers_of rs) (gone qs) total a.base.held.state) (whole few) a.ends
-      by true many whole =
-          let x = items_append (searched known) enough_turns [] a.front a.rest s in
-          subst (λ (qs : List (ℕ × Passing)). Ends (searched known) (numbers_of rs) (gone qs) total a.base.held.state) a.parted
-          (ends_same (searched known) (numbers_of rs) x.1 (ends_anyway (searched known) (numbers_of rs) (gone a.front) x.0 total a.base.held.state a.ends many))
+  all_so b total place cs a all = record {
+    layout = a.base.held.layout;
+    last = a.base.held.state;
+    notes = a.base.held.notes;
+    stands = a.base.held.stands;
+    comes = record {
+      counted = a.counted;
+      over = a.over;
+      whole = λ few.
+          let g = a.on few in
+          let t = a.base.held.state in
+          let none : a.rest ≡ [] = none_left b t place (drop place ds) a.rest (dropped_all ds place (all few)) g.left in (
+            g.gone,
+            g.goes ∙ (ap (λ (qs : List (LeftOf Identifier)). behind g.gone (to_come qs t)) none ∙ ap (λ (fs : List Formed). (Some fs, t)) (append-nil g.gone)),
+            g.forms,
+          );
+    };
+    definitions = λ few. (all_finished_formed b unit place ds cs (all few) a.base).definitions;
+  }
 
 -- the forms that were gone through, from each state that they may have left
 abbrev pub AllFrom : (old b : Bench) (unit : ℕ) (ds : List code.Declared) (start total place : ℕ) (cs : List code_form.UnitForm) → Type 0
-AllFrom old b unit ds start total place cs = (known : Known) (h : FormsHeld old unit 0 ds) (rs : List (ℕ × Passing)) → Knows old.scope.libraries known → (can : CanFinishAll old unit known rs h.state start ds) → AllSo known unit rs h.state can.rise ds b total place cs
+AllFrom old b unit ds start total place cs = (known : Known) (h : FormsHeld old unit 0 ds) (rs : List (LeftOf Identifier)) → Knows old.scope.libraries known → (can : CanFinishAll old unit known rs h.state start ds) → AllSo known unit rs h.state can.rise ds b total place cs
 
 pub none_from : (b : Bench) (unit : ℕ) (ds : List code.Declared) (start : ℕ) → AllFrom b b unit ds start start 0 []
 none_from b unit ds start known h rs knows can = none_so known unit rs h.state can.rise ds b h start refl can
 
 pub next_from : (old b c : Bench) (unit : ℕ) (ds : List code.Declared) (start total place : ℕ) (cs : List code_form.UnitForm) → AllFrom old b unit ds start total place cs → Stays old b → Stays b c → nat_lt max_total total ≡ false →
-    (d : code.Declared) → slice_get ds place ≡ Some d → (k : code_form.UnitForm) (after : ℕ) → (IsUntouched d → IsBlank k) → (IsUntouched d → (c ≡ b) × (after ≡ total)) → Finished b c unit place d total after k →
+    (d : code.Declared) → slice_get ds place ≡ Some d → (k : code_form.UnitForm) (after : ℕ) → (IsUntouched d → IsBlank k) → (IsUntouched d → IsTurned b c × (after ≡ total)) → Finished b c unit place d total after k →
     AllFrom old c unit ds start after (suc place) (cs ++ k ∷ [])
 next_from old b c unit ds start total place cs so stay stays few d at k after blank same done known h rs knows can =
     one_so known unit rs h.state can.rise ds b total place cs (so known h rs knows can) few d at k c after stays.trees stays.names (stay.libraries known knows) blank same done
 
 pub all_from : (old b : Bench) (unit : ℕ) (ds : List code.Declared) (start total place : ℕ) (cs : List code_form.UnitForm) → AllFrom old b unit ds start total place cs → (nat_lt max_total total ≡ false → place ≡ length ds) →
-    (known : Known) (h : FormsHeld old unit 0 ds) (rs : List (ℕ × Passing)) → Knows old.scope.libraries known → CanFinishAll old unit known rs h.state start ds → Finishes b unit known rs h.state total cs
+    (known : Known) (h : FormsHeld old unit 0 ds) (rs : List (LeftOf Identifier)) → Knows old.scope.libraries known → CanFinishAll old unit known rs h.state start ds → Finishes b unit known rs h.state total cs
 all_from old b unit ds start total place cs so all known h rs knows can = all_so known unit rs h.state can.rise ds b total place cs (so known h rs knows can) all

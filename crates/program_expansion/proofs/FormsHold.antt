@@ -111,7 +111,7 @@ module _ (b : Bench) (unit : ℕ) (ds : List code.Declared) (h : Holds b unit ds
           number = n.others.number;
           held = λ m e le at. elim (push_cases ds d m e at) [
             | inl old ↦ let x = was.held m e le old in (x.0, n.others.kept m e x.0 (apart m e old) x.1)
-            | inr new ↦ (p.0.items, subst (λ (x : code.Declared). IsDeclared c.work c.region unit m p.1 x p.0.items) (sym new.1) (subst (λ (k : ℕ). IsDeclared c.work c.region unit k p.1 d p.0.items) (sym new.0) n.form_is))
+            | inr new ↦ (p.0.left, subst (λ (x : code.Declared). IsDeclared c.work c.region unit m p.1 x p.0.left) (sym new.1) (subst (λ (k : ℕ). IsDeclared c.work c.region unit k p.1 d p.0.left) (sym new.0) n.form_is))
           ];
           in_order = subst (λ (k : ℕ). AreInOrder k p.1) (sym longer) (n.others.in_order (length ds) (omega arith) was.in_order);
         };

@@ -58,7 +58,7 @@ module _ (known : Known) (p : Prepared) (s : ScopedState) (n : ℕ) (own : p.num
 
   module _ (b : Bench) (total : ℕ) (ds : List code.Declared) (h : Passes b n known ts s total ds) (few : nat_lt max_total total ≡ false) where
     -- what is left of the forms
-    pub left : List (LeftOf Identifier)
+    abbrev pub left : List (LeftOf Identifier)
     left = (h.comes.whole few).0
 
     numbers : numbers_of left ≡ numbers_of ts

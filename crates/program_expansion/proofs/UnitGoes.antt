@@ -57,9 +57,9 @@ module _ (s : ScopedState) {X Y : Type 0} where
 
 module _ (known : Known) (fs : List ℕ) where
   unless_goes : {X : Type 0} (s : ScopedState) (q : X × ScopedState) → UnitGoes s q.1 → UnitGoes s (unless_over (searched known) fs q).1
-  unless_goes s q h = go (nat_lt max_total (nodes_in (searched known) fs q.1))
+  unless_goes {X} s q h = go (nat_lt max_total (nodes_in (searched known) fs q.1))
     where
-      go : (b : Bool) → UnitGoes s (cond b (None, q.1) (Some q.0, q.1)).1
+      go : (b : Bool) → UnitGoes s (cond {A = Option X × ScopedState} b (None, q.1) (Some q.0, q.1)).1
       go true = h
       go false = h
 

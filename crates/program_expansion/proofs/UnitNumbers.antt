@@ -2,6 +2,7 @@
 use Rattle.std.proofs.Common.{◌≡◌, ℕ, suc, Bool, true, false, cond, List, [], ◌∷◌, Option, Some, None, refl, sym, ap, ◌∙◌, subst}
 use Rattle.scheme_model.specs.Declarations.{UnitForm}
 use Rattle.scheme_model.specs.Expression.{expand}
+use Rattle.scheme_model.specs.Identifiers.{Name}
 use Rattle.scheme_model.specs.Order.{Ops}
 use Rattle.scheme_model.specs.Program.{Prepared, enough_turns, form_trees, with_refused}
 use Rattle.scheme_model.specs.Requirements.{Known}
@@ -35,12 +36,12 @@ module _ {E A L S : Type 0} (ops : Ops E A L S) (turns : ℕ) (e : E) (ts : List
 -- ---- the forms
 
 -- whatever their symbols stand for
-same_forms : {A : Type 0} (written : List ℕ → A) (unit form : ℕ) (fs : List UnitForm) → numbers_of (forms_over written unit form fs) ≡ numbers_of (form_trees unit form fs)
-same_forms written unit form [] = refl
-same_forms {A} written unit form (f ∷ fs) = go (same_forms written unit (suc form) fs) f.declared _ _
+same_forms : {A : Type 0} (written : List ℕ → A) (n form : ℕ) (fs : List UnitForm) → numbers_of (forms_over written n form fs) ≡ numbers_of (form_trees n form fs)
+same_forms written n form [] = refl
+same_forms {A} written n form (f ∷ fs) = go (same_forms written n (suc form) fs) f.declared _ _
   where
-    go : numbers_of (forms_over written unit (suc form) fs) ≡ numbers_of (form_trees unit (suc form) fs) → {B : Type 0} → (b : Bool) (x : Tree A) (y : B) →
-        numbers_of (cond b (forms_over written unit (suc form) fs) ((form, x) ∷ forms_over written unit (suc form) fs)) ≡ numbers_of (cond b (form_trees unit (suc form) fs) ((form, y) ∷ form_trees unit (suc form) fs))
+    go : numbers_of (forms_over written n (suc form) fs) ≡ numbers_of (form_trees n (suc form) fs) → (b : Bool) (x : Tree A) (y : Tree Name) →
+        numbers_of (cond b (forms_over written n (suc form) fs) ((form, x) ∷ forms_over written n (suc form) fs)) ≡ numbers_of (cond b (form_trees n (suc form) fs) ((form, y) ∷ form_trees n (suc form) fs))
     go same true x y = same
     go same false x y = ap (λ (ns : List ℕ). form ∷ ns) same
 

@@ -3,10 +3,10 @@ use Rattle.std.proofs.Common.{◌≡◌, ℕ, Bool, true, false, cond, List, [],
 use Rattle.std.specs.Prelude.{nat_lt}
 use Rattle.std.proofs.lemmas.Option.{same_Some}
 use Rattle.scheme_model.specs.Trees.{Tree}
-use Rattle.scheme_model.specs.Cores.{Parts, Part, part, no_parts}
+use Rattle.scheme_model.specs.Cores.{Parts, Part}
 use Rattle.scheme_model.specs.Steps.{Broken, Step}
-use Rattle.scheme_model.specs.Order.{Item, Left, Note, Pass, Ops, Counted, run}
-use Rattle.scheme_model.specs.UnitExpansion.{Formed, LeftOf, Work, ◌then◌, going, max_total, nodes_in, unless_over, one_form, passes, with_part, before_parts, items_parts, form_parts, finished}
+use Rattle.scheme_model.specs.Order.{Item, Note, Pass, Ops, run}
+use Rattle.scheme_model.specs.UnitExpansion.{Formed, LeftOf, ◌then◌, going, max_total, nodes_in, unless_over, one_form, passes, with_part, before_parts, items_parts, form_parts, finished}
 use Rattle.scheme_model.specs.Expression.{Expander}
 
 -- ---- what comes behind

@@ -1,6 +1,6 @@
 -- The forms of a unit as they are gone through and expanded (R7RS 5.1, 5.3): what the code holds of each, and the state of the unit
 -- that the trees and scopes stand for meanwhile.
-use Rattle.std.specs.Prelude.{◌≡◌, ◌⊎◌, ℕ, suc, ◌^◌, ◌≤◌, ◌<◌, nat_lt, List, [], ◌∷◌, map, length, reverse, slice_get, false, Option, Some, None, Result, Ok, Err, String}
+use Rattle.std.specs.Prelude.{◌≡◌, ◌⊎◌, ℕ, suc, ◌^◌, ◌≤◌, ◌<◌, nat_lt, List, [], ◌∷◌, length, reverse, slice_get, false, Option, Some, None, Result, Ok, Err, String}
 use Rattle.std.specs.declared.alloc.Global.{Global}
 use Rattle.std.specs.BTreeSet.{BTreeSet, contains_text}
 use Rattle.scheme_model.specs.Ident.{Ident as Identifier}
@@ -22,12 +22,8 @@ use Rattle.syntax_tree.specs.Names.{KeepsNames}
 use Rattle.datum_reader.specs.Seeded.{seeded}
 use Rattle.core_tree.specs.Names.{AllMatch}
 use Rattle.core_tree.specs.Traces.{IsFault}
-use Rattle.core_tree.specs.Cores.{PartsStand}
-use Rattle.core_tree.specs.Levels.{DefineOnTop}
 use Rattle.core_tree.specs.Units.{FormsStand, IsResult, AreDefinitions, definitions_from, defined_by}
 use Rattle.core_tree.specs.declared.traces.FormFault.{FormFault}
-use Rattle.core_tree.specs.declared.traces.Trace.{Trace}
-use Rattle.core_tree.specs.declared.units.ExpandedItem.{ExpandedItem}
 use Rattle.core_tree.specs.declared.units.UnitForm as code_form
 use Rattle.feature_requirements.specs.Judged.{Knows, library_text}
 use Rattle.unit_scopes.specs.Opened.{IsNew}
@@ -80,6 +76,10 @@ pub record Stays (old new : Bench) : Type 0 where
   pub regions : SameRegions old.work new.work
   pub others : (v : ℕ) → IsNew old.scope v → IsNew new.scope v
   pub libraries : (known : Known) → Knows old.scope.libraries known → Knows new.scope.libraries known
+
+-- nothing but the form that is at work is another
+abbrev pub IsTurned : (old new : Bench) → Type 0
+IsTurned old new = new ≡ record old { scope = record old.scope { form = new.scope.form } }
 
 -- ---- forms that were gone through
 
@@ -176,22 +176,6 @@ pub record HaveCounted (known : Known) (fs : List ℕ) (form : ℕ) (s : ScopedS
 abbrev pub GoesTo : Known → (form : ℕ) → Passing → (s : ScopedState) (before after : ℕ) → (last : ScopedState) → Result Parts Broken → Type 0
 GoesTo known form r s before after last result =
     (fs : List ℕ) → HaveCounted known fs form s before → Comes (searched known) fs (expanding known fs form r s) after last (λ given. given ≡ result)
-
--- what a form set aside is being expanded: what came of so much of it, and the state by now
-pub record Finishing (old new : Bench) (known : Known) (unit form : ℕ) (front : Passing) (s : ScopedState) (before after : ℕ) (budget : Budget) (trace : Trace) (items : List ExpandedItem) : Type 0 where
-  pub layout : List Frames
-  pub state : ScopedState
-  pub notes : List (Note FramedIdent)
-  pub stands : UnitStands new.work new.scope layout state notes
-  pub counts : CountsFor new.work state form budget trace
-  pub number : state.unit ≡ unit
-  pub at_work : state.form ≡ form
-  pub kept : KeepsOthers old new unit form s state
-  pub table : state.table ≡ s.table
-  pub parts : Parts
-  pub stand : PartsStand new.work unit form (map (λ i. i.part) items) parts
-  pub tops : DefineOnTop parts
-  pub so_far : GoesTo known form front s before after state (Ok parts)
 
 -- what a form came to, and the state then: the unit's definitions are those that there were
 pub record FinishesTo (old new : Bench) (unit form : ℕ) (s : ScopedState) (c : code_form.UnitForm) : Type 0 where

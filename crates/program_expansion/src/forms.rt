@@ -18,7 +18,7 @@ ghost use Rattle.feature_requirements.specs.Judged.{Knows};
 ghost use Rattle.unit_scopes.specs.Stepped.{IsFresh};
 ghost use Rattle.unit_scopes.specs.Outcomes.{IsAtWork};
 ghost use Rattle.unit_scopes.specs.Units.{UnitStands, CountsFor, HasSpace, ItemFor, CanDeclare, Expands, declared, expanded};
-ghost use Rattle.program_expansion.specs.Forms.{IsBench, IsBegun, IsUntouched, IsDeclared, Passing, PassesTo, PassesForm, FinishesForm, CanPass, CanFinish, CanFinishAll, FormsHeld, Passes, Finishes, AreFormed, Unfolds, Stays};
+ghost use Rattle.program_expansion.specs.Forms.{IsBench, IsBegun, IsUntouched, IsDeclared, Passing, PassesTo, PassesForm, FinishesForm, CanPass, CanFinish, CanFinishAll, FormsHeld, Passes, Finishes, AreFormed, Unfolds, Stays, IsTurned};
 ghost use Rattle.document_units.specs.WereRead.{WereRead};
 
 use core_tree::traces::{FormFault, Trace};
@@ -288,7 +288,7 @@ fn finish<L: Ledger>(
     requires stands { CanFinish bench.old unit number form }
     requires few { total.old ≤ max_total }
     ensures blank { IsUntouched form → IfOk result IsBlank }
-    ensures same { IsUntouched form → OnOk result ((bench.new ≡ bench.old) × (total.new ≡ total.old)) }
+    ensures same { IsUntouched form → OnOk result (IsTurned bench.old bench.new × (total.new ≡ total.old)) }
     ensures finishes { (known : Known) (ls : List Frames) (s : ScopedState) (notes : List (Note FramedIdent)) (r : Passing) → Knows bench.old.scope.libraries known →
         UnitStands bench.old.work bench.old.scope ls s notes → s.unit ≡ unit → IsDeclared bench.old.work bench.old.region unit number s form r →
         IfOk result (FinishesForm bench.old bench.new known unit number r s total.old total.new) }

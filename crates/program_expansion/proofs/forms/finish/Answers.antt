@@ -1,16 +1,21 @@
--- What a form set aside is expanded, item by item.
-use Rattle.std.proofs.Common.{◌≡◌, ℕ, suc, ◌+◌, ◌-◌, ◌≤◌, List, length, Some, Err, sym, ap, ◌∙◌, subst, refl, inl, inr, arith, true≢false}
+-- A form's uses are met, and what it set aside is expanded, item by item.
+use Rattle.std.proofs.Common.{◌≡◌, ℕ, suc, ◌+◌, ◌-◌, ◌≤◌, List, length, Some, Err, sym, ap, ◌∙◌, subst, refl, arith, true≢false}
 use Rattle.std.specs.Option.{is_some}
+use Rattle.scheme_model.specs.Ident.{Ident as Identifier}
+use Rattle.scheme_model.specs.Order.{WaitingUse}
 use Rattle.scheme_model.specs.UnitExpansion.{max_total}
+use Rattle.core_tree.specs.Names.{AllMatch}
 use Rattle.core_tree.specs.declared.traces.FormFault.{FormFault}
-use Rattle.core_tree.specs.declared.traces.Trace.{Trace}
 use Rattle.core_tree.specs.declared.units.ExpandedItem.{ExpandedItem}
 use Rattle.feature_requirements.specs.declared.fault.ExpandFault.{ExpandFault}
 use Rattle.form_parts.specs.declared.items.Item as code_item
+use Rattle.form_parts.specs.declared.items.WaitingUse as code_waiting
+use Rattle.unit_scopes.specs.Kept.{WaitsFor}
+use Rattle.unit_scopes.specs.declared.scope.UnitScope.{UnitScope}
 use Rattle.program_expansion.specs.Forms.{HasSpaceLeft}
 use Rattle.program_expansion.proofs.BenchLaws.{stays_itself}
 use Rattle.program_expansion.proofs.FormsHold.{is_few}
-use Rattle.program_expansion.proofs.FormsFinish.{none_of, none_there, broken_first, nothing_finished, can_go_on, item_ready, ok_stays, at_stays, ok_finishes, at_finishes, finishes_by, Step, Continues}
+use Rattle.program_expansion.proofs.FormsFinish.{none_of, none_there, broken_first, can_meet, uses_wait, uses_continue, uses_stay, still_blank, with_scope, can_go_on, item_ready, ok_stays, at_stays, ok_finishes, at_finishes, finishes_by, Meets, Step, Continues}
 use Rattle.program_expansion.proofs.forms.finish.Goals as goal
 use Rattle.program_expansion.proofs.forms.finish.Goals.{else-loop-item-test, then-loop-item-test+then-is_large}
 
@@ -27,15 +32,29 @@ returns-then-is_some-clause-blank g c = λ un. absurd (true≢false (sym c.if-is
 pub returns-then-is_some-clause-same : goal.returns-then-is_some-clause-same
 returns-then-is_some-clause-same g c = λ un. (refl, refl)
 
+pub meet_uses-requires-clause-stands : goal.meet_uses-requires-clause-stands
+meet_uses-requires-clause-stands g c =
+    let none = none_of c.args.form.fault (sym c.is_some.ensures ∙ c.if-is_some.false) in
+    can_meet c.args.bench.now c.args.unit c.args.number c.args.form none c.requires.stands
+
+pub meet_uses-requires-clause-waits : goal.meet_uses-requires-clause-waits
+meet_uses-requires-clause-waits g c =
+    let none = none_of c.args.form.fault (sym c.is_some.ensures ∙ c.if-is_some.false) in
+    subst (λ (xs : List code_waiting.WaitingUse). (us : List (WaitingUse Identifier)) × AllMatch (WaitsFor c.args.bench.now.work c.args.bench.now.scope.unit c.args.number) xs us) (sym c.as_slice.ensures.value)
+    (uses_wait c.args.bench.now c.args.unit c.args.number c.args.form none c.requires.stands)
+
 pub loop-item-init : goal.loop-item-init
 loop-item-init g c =
     let none = none_of c.args.form.fault (sym c.is_some.ensures ∙ c.if-is_some.false) in
+    let b = c.args.bench.now in
+    let u = c.meet_uses.new.units in
+    let call = subst (λ (xs : List code_waiting.WaitingUse). Meets b u c.args.number c.args.form.budget c.args.form.trace c.meet_uses.new.trace xs) c.as_slice.ensures.value c.in_ok-meet_uses.ensures.met in
     record {
       space = subst (HasSpaceLeft c.args.form.budget) none c.requires.stands.form_is.space;
-      stays = stays_itself c.args.bench.now c.requires.region;
-      so = subst (λ (xs : List ExpandedItem). Continues c.args.bench.now c.args.bench.now c.args.unit c.args.number c.args.form 0 c.args.total.now c.args.total.now c.args.form.budget c.args.form.trace xs) (sym c.new-items.ensures)
-          (λ known ls s notes r knows stands own h. nothing_finished c.args.bench.now known c.args.unit c.args.number ls s notes c.args.form r c.args.total.now stands own h none c.requires.few);
-      none = λ un. (c.new-items.ensures, refl, refl, refl);
+      stays = uses_stay b u c.requires.region c.in_ok-meet_uses.ensures.scope;
+      so = subst (λ (xs : List ExpandedItem). Continues b (with_scope b u) c.args.unit c.args.number c.args.form 0 c.args.total.now c.args.total.now c.args.form.budget c.meet_uses.new.trace xs) (sym c.new-items.ensures)
+          (uses_continue b c.args.unit c.args.number c.args.form none u c.meet_uses.new.trace call c.args.total.now c.requires.few);
+      none = λ un. (c.new-items.ensures, still_blank b c.args.unit c.args.number c.args.form none u c.meet_uses.new.trace call un c.requires.stands, ap (λ (v : UnitScope). with_scope b v) c.in_ok-meet_uses.ensures.scope, refl);
     }
 
 pub expand-requires-clause-item : goal.expand-requires-clause-item
@@ -45,7 +64,8 @@ expand-requires-clause-item g c =
 
 pub expand-requires-clause-stands : goal.expand-requires-clause-stands
 expand-requires-clause-stands g c =
-    let l = c.loop-item in can_go_on c.args.bench.now l.bench c.args.unit c.args.number c.args.form l.item-index c.args.total.now l.total l.budget l.trace l.items l.invariant.so c.requires.stands
+    let none = none_of c.args.form.fault (sym c.is_some.ensures ∙ c.if-is_some.false) in let l = c.loop-item in
+    can_go_on c.args.bench.now l.bench c.args.unit c.args.number c.args.form none l.item-index c.args.total.now l.total l.budget l.trace l.items l.invariant.so c.requires.stands
 
 pub loop-item-preserved : goal.loop-item-preserved
 loop-item-preserved g c =
@@ -60,7 +80,7 @@ loop-item-preserved g c =
           (subst (λ (xs : List ExpandedItem). Continues c.args.bench.now e.new.bench c.args.unit c.args.number c.args.form (suc l.item-index) c.args.total.now (l.total + c.in-Ok.expanded.count) e.new.budget e.new.trace xs) (sym c.in_ok-push-in-Ok.ensures.ok)
           (ok_finishes c.args.bench.now l.bench c.args.unit c.args.number c.args.form none l.invariant.stays l.item-index c.args.total.now l.total l.budget l.trace l.items l.invariant.so c.as_slice-item-items.result.now c.as_slice-item-items.ensures c.item-item.result c.loop-item-test.true c.item-item.is
           e.new.bench e.new.budget e.new.trace e.ensures.keeps e.ensures.names e.ensures.added e.ensures.regions e.ensures.region c.in-Ok.expanded few c.in-Ok.ensures.expanded));
-      none = λ un. none_there c.as_slice-item-items.result.now c.args.form.aside c.as_slice-item-items.ensures un l.item-index c.loop-item-test.true;
+      none = λ un. none_there c.as_slice-item-items.result.now c.args.form.aside c.as_slice-item-items.ensures un.aside l.item-index c.loop-item-test.true;
     }
 
 pub overflow_sub-total : goal.overflow_sub-total
@@ -98,24 +118,18 @@ pub returns-clause-finishes : goal.returns-clause-finishes
 returns-clause-finishes g c =
     let none = none_of c.args.form.fault (sym c.is_some.ensures ∙ c.if-is_some.false) in let l = c.loop-item in
     finishes_by c.args.bench.now l.bench c.args.unit c.args.number c.args.form none l.item-index c.args.total.now l.total l.budget l.trace l.items l.invariant.so
-    (elim c.loop-item-test.branch [
-      | else-loop-item-test w ↦ inl (subst (λ (xs : List code_item.Item). length xs ≤ l.item-index) c.as_slice-item-items.ensures w.loop-item-test.false)
-      | then-loop-item-test+then-is_large w ↦ inr (sym w.is_large.ensures ∙ w.if-is_large.true)
+    (λ few.
+    elim c.loop-item-test.branch [
+      | else-loop-item-test w ↦ subst (λ (xs : List code_item.Item). length xs ≤ l.item-index) c.as_slice-item-items.ensures w.loop-item-test.false
+      | then-loop-item-test+then-is_large w ↦ absurd (true≢false (sym w.if-is_large.true ∙ w.is_large.ensures ∙ few))
     ])
 
 pub returns-clause-blank : goal.returns-clause-blank
 returns-clause-blank g c = λ un.
-    let h = c.loop-item.invariant.none un.aside in
-    record {
-      items = h.0;
-      definitions = ap (λ (t : Trace). t.definitions) h.1 ∙ un.definitions;
-      keywords = ap (λ (t : Trace). t.keywords) h.1 ∙ un.keywords;
-      uses = ap (λ (t : Trace). t.uses) h.1 ∙ un.met;
-      fault = refl;
-    }
+    let h = c.loop-item.invariant.none un in record { items = h.0; definitions = h.1.definitions; keywords = h.1.keywords; uses = h.1.uses; fault = refl }
 
 pub returns-clause-same : goal.returns-clause-same
-returns-clause-same g c = λ un. let h = c.loop-item.invariant.none un.aside in (h.2, h.3)
+returns-clause-same g c = λ un. let h = c.loop-item.invariant.none un in (h.2, h.3)
 
 pub overflow_add-total : goal.overflow_add-total
 overflow_add-total g c =
