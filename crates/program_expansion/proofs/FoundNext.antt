@@ -15,7 +15,7 @@ use Rattle.document_units.specs.Turned.{turns, scoped_at}
 use Rattle.program_expansion.specs.UnitsFound.{in_the_end, HaveFound}
 use Rattle.document_units.specs.UnitFindings.{IsFoundOf}
 use Rattle.unit_imports.specs.declared.expanded.Expanded.{Expanded}
-use Rattle.program_expansion.specs.declared.forms.Bench.{Bench}
+use Rattle.form_expansion.specs.declared.forms.Bench.{Bench}
 use Rattle.document_units.specs.declared.listing.Head.{Head}
 use Rattle.document_units.specs.declared.listing.Units.{Units}
 use Rattle.program_expansion.proofs.TurnCited.{TurnOf, turn_of, turn_broken}

@@ -1,13 +1,4 @@
-pub mod Live  -- Live nodes are no fewer in a work that keeps its trees
-pub mod Enumerated  -- The items of a list with their places
 pub mod Turns  -- Places that stand once each
-pub mod BenchLaws  -- What calls leave of a bench adds up, and units stand in a work that has grown
-pub mod UnitForms  -- The forms of a unit by their numbers
-pub mod FormAtWork  -- While an item is expanded its form stays at work, and work may turn to another form at any time between
-pub mod FormSteps  -- What a step of one form leaves of the others, and what the form itself has then
-pub mod DeclaredForms  -- What forms set aside stands, one form more at a time, and through steps of other forms
-pub mod StandardNames  -- All standard names, gathered library by library
-pub mod PreludeMacros  -- The macros of the prelude, added from the last to the first
 pub mod ImportedNames  -- What a unit imports, by the entries that it is given
 pub mod ReadingLaws  -- The program of documents, one unit more
 pub mod SoundKept  -- Units stay sound while their heads and their sources stay
@@ -36,10 +27,4 @@ pub mod ToldProgram  -- The units of the whole program, by what came of them, wh
 pub mod DocumentsData  -- The data of the documents are those that their texts are read as
 pub mod HeadsStand  -- The heads of units that were listed are those of the program's units
 pub mod HeadsOf  -- The heads of units have what the units do, as these were listed, judged and worked on
-mod RefusedLaws  -- Forms of which those that include a text are refused stand for those of the definition
-mod UnitWalk  -- Work on a unit one form or item at a time
-pub mod FormsFinish  -- What a form set aside is expanded, once its macro uses are met
-pub mod FormsHold  -- Forms that were gone through are held, one more at a time
-pub mod FormsFinished  -- What forms set aside is expanded, one form more at a time
-pub mod FormsUnfold  -- What a unit's forms come to, once they were gone through and what they set aside was expanded
 pub mod UnitNumbers  -- The forms that a unit comes to have the numbers of those that are expanded (R7RS 5.1)

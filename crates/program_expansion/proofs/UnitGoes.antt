@@ -19,7 +19,7 @@ use Rattle.unit_scopes.specs.Searched.{searched, forms_of, searched_unit_over}
 use Rattle.unit_scopes.specs.Stepped.{turned}
 use Rattle.unit_scopes.specs.Units.{declared, uses_met, expanded}
 use Rattle.expansion_laws.proofs.OtherForms.{none_in_front, more_in_front, declared_stays, expanded_stays, met_stays}
-use Rattle.program_expansion.proofs.FormAtWork.{item_form, met_form, same_turned}
+use Rattle.form_expansion.proofs.FormAtWork.{item_form, met_form, same_turned}
 
 abbrev pub IsOfUnit : ℕ → Defined → Type 0
 IsOfUnit unit d = d.unit ≡ unit

@@ -19,13 +19,13 @@ use Rattle.unit_scopes.specs.Stepped.{IsFresh}
 use Rattle.unit_scopes.specs.Units.{UnitStands}
 use Rattle.unit_scopes.specs.declared.scope.Imported.{Imported}
 use Rattle.unit_scopes.proofs.ImportLaws.{same_trees}
-use Rattle.program_expansion.specs.Begun.{IsImport}
+use Rattle.form_expansion.specs.Begun.{IsImport}
 use Rattle.unit_imports.specs.Defined.{AreKnown}
-use Rattle.program_expansion.specs.Forms.{IsBench, IsBegun, AreFormed}
+use Rattle.form_expansion.specs.Forms.{IsBench, IsBegun, AreFormed}
 use Rattle.unit_imports.specs.EntriesMeant.{HaveMeaning, EachOnce}
 use Rattle.program_findings.specs.StandIn.{StandIn}
-use Rattle.program_expansion.specs.declared.forms.Bench.{Bench}
-use Rattle.program_expansion.proofs.BenchLaws.{bench_in}
+use Rattle.form_expansion.specs.declared.forms.Bench.{Bench}
+use Rattle.form_expansion.proofs.BenchLaws.{bench_in}
 use Rattle.unit_imports.proofs.DefinedLaws.{known_definitions}
 use Rattle.program_expansion.proofs.ImportedNames.{meaning_in, imports_for}
 use Rattle.unit_imports.proofs.MeaningLaws.{mean_kept, names_on}

@@ -14,8 +14,8 @@ use Rattle.syntax_tree.specs.declared.trees.Work.{Work}
 use Rattle.core_tree.specs.Units.{FormsStand}
 use Rattle.core_tree.specs.declared.units.UnitForm as code
 use Rattle.unit_scopes.specs.Searched.{searched, searched_unit_over, forms_of}
-use Rattle.program_expansion.specs.Ends.{numbers_of}
-use Rattle.program_expansion.proofs.UnitWalk.{numbers_given, finished_numbers, passed_numbers}
+use Rattle.form_expansion.specs.Ends.{numbers_of}
+use Rattle.form_expansion.proofs.UnitWalk.{numbers_given, finished_numbers, passed_numbers}
 
 -- ---- the walk
 

@@ -28,7 +28,7 @@ use Rattle.document_units.specs.Turned.{turns, scoped_at}
 use Rattle.document_units.specs.declared.listing.WholeFault.{WholeFault}
 use Rattle.document_units.specs.declared.listing.WholeFault.TheVariants as fault
 use Rattle.unit_imports.specs.declared.expanded.Expanded.{Expanded}
-use Rattle.program_expansion.specs.declared.forms.Bench.{Bench}
+use Rattle.form_expansion.specs.declared.forms.Bench.{Bench}
 use Rattle.document_units.specs.declared.listing.Head.{Head}
 use Rattle.document_units.specs.declared.listing.Units.{Units}
 use Rattle.document_units.proofs.ChangedLaws.{set_cases}

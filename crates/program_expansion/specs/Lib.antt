@@ -1,8 +1,4 @@
 pub mod Formed  -- Units that were expanded, whose forms stand for something of the definitions (R7RS 5.1)
-pub mod Ends  -- Where work on a unit ends, and how its forms are numbered (R7RS 5.1, 5.3)
-pub mod Forms  -- The forms of a unit as they are gone through and expanded (R7RS 5.1, 5.3)
-pub mod Refused  -- Declarations that include a text, which is refused
-pub mod Begun  -- Where each expansion begins
 pub mod UnitResults  -- What units come to by the definition of a program, and what the bench stands for between two of them (R7RS 5.1, 5.6)
 pub mod UnitsExpanded  -- What units came to, as far as it is sure whatever the units are
 pub mod UnitsFound  -- What is found wrong in units, as the definition's diagnostics and Errors of the program that they come to (R7RS 5.1, 5.6)

@@ -20,10 +20,10 @@ use Rattle.feature_requirements.specs.Judged.{Knows}
 use Rattle.unit_scopes.specs.Preluded.{Continues}
 use Rattle.unit_scopes.specs.Searched.{searched_unit_over}
 use Rattle.document_units.specs.Broken.{told}
-use Rattle.program_expansion.specs.Forms.{StandsAt}
+use Rattle.form_expansion.specs.Forms.{StandsAt}
 use Rattle.document_units.specs.Turned.{scoped_at}
 use Rattle.unit_imports.specs.declared.expanded.Expanded.{Expanded}
-use Rattle.program_expansion.specs.declared.forms.Bench.{Bench}
+use Rattle.form_expansion.specs.declared.forms.Bench.{Bench}
 use Rattle.document_units.specs.declared.listing.Head.{Head}
 use Rattle.document_units.specs.declared.listing.Units.{Units}
 use Rattle.document_units.specs.UnitSources.{AreSourcesOf}

@@ -2,7 +2,4 @@
 #![tactic(auto)]
 
 mod expanding;
-mod forms;
-mod prelude;
 pub mod program;
-mod refused;

@@ -30,8 +30,6 @@ ghost use Rattle.program_expansion.specs.UnitsFound.{AreTold, IsTold};
 ghost use Rattle.document_units.specs.UnitsListed.{WritesProper};
 
 use crate::expanding::{broken, expand_all};
-use crate::forms::Bench;
-use crate::prelude::begin;
 use core_tree::units::{Program, Unit};
 use document_store::Store;
 use document_units::breaking::{Firsts, firsts, judge};
@@ -42,6 +40,8 @@ use document_units::known::known;
 use document_units::listing::{Head, Units, WholeFault, list_units};
 use document_units::places::Places;
 use expander::Libraries;
+use form_expansion::forms::Bench;
+use form_expansion::prelude::begin;
 use library_table::KnownLibraries;
 use ls_base::{Items, Mem, Steps};
 use program_findings::diagnosing::tell_unread;

@@ -8,7 +8,7 @@ use Rattle.program_expansion.specs.UnitResults.{FindsLibraries, GoesOn, HeadsBy,
 use Rattle.document_units.specs.UnitSources.{AreSourcesOf}
 use Rattle.document_units.specs.Turned.{scoped_at, turns}
 use Rattle.program_expansion.specs.Formed.{CameFormed}
-use Rattle.program_expansion.specs.Forms.{IsBench}
+use Rattle.form_expansion.specs.Forms.{IsBench}
 use Rattle.unit_imports.specs.EntriesMeant.{ExportsMean}
 use Rattle.document_units.specs.Places.{AreHeads, HeadsStay, NamesKept, HaveTokens}
 use Rattle.document_units.specs.Readings.{Read}

@@ -21,7 +21,7 @@ use Rattle.unit_imports.specs.EntriesMeant.{ExportsMean, HaveMeaning}
 use Rattle.document_units.specs.Places.{SameHead, AreHeads, AreHeadsIn, AreFoundIn, ArePlaces}
 use Rattle.unit_scopes.proofs.ImportLaws.{same_trees}
 use Rattle.unit_scopes.proofs.OutcomeLaws.{trees_on}
-use Rattle.program_expansion.proofs.BenchLaws.{bench_in}
+use Rattle.form_expansion.proofs.BenchLaws.{bench_in}
 use Rattle.program_expansion.proofs.CameKept.{have_kept, libraries_kept}
 use Rattle.program_expansion.proofs.TurnCited.{turn_of}
 use Rattle.program_expansion.proofs.UnitCame.{goes_in}

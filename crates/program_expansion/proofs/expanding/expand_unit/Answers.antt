@@ -19,14 +19,14 @@ use Rattle.unit_scopes.specs.State.{is_program}
 use Rattle.unit_scopes.specs.declared.scope.Imported.{Imported}
 use Rattle.unit_scopes.proofs.ImportLaws.{same_trees}
 use Rattle.unit_scopes.proofs.OutcomeLaws.{trees_on}
-use Rattle.program_expansion.specs.Begun.{IsImport}
+use Rattle.form_expansion.specs.Begun.{IsImport}
 use Rattle.program_leaves.specs.Formed.{IsFormed}
 use Rattle.program_expansion.specs.UnitResults.{expanded_after, with_unit}
-use Rattle.program_expansion.specs.Forms.{AreFormed, Unfolds}
+use Rattle.form_expansion.specs.Forms.{AreFormed, Unfolds}
 use Rattle.program_expansion.specs.UnitsFound.{in_the_end}
 use Rattle.document_units.specs.UnitFindings.{IsFoundOf}
 use Rattle.document_units.specs.WereRead.{WereRead}
-use Rattle.program_expansion.proofs.BenchLaws.{bench_in}
+use Rattle.form_expansion.proofs.BenchLaws.{bench_in}
 use Rattle.program_expansion.proofs.ImportedNames.{are_numbered}
 use Rattle.program_expansion.proofs.CameKept.{libraries_kept}
 use Rattle.unit_imports.proofs.MeaningLaws.{entries_kept, mean_kept, names_on}

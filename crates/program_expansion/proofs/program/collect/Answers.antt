@@ -23,7 +23,7 @@ use Rattle.unit_imports.specs.Collected.{IsNothing}
 use Rattle.document_units.specs.declared.documents.Document.{Document}
 use Rattle.unit_imports.proofs.Collecting.{AreCollectedSo, none_collected, one_collected, has_come, set_other}
 use Rattle.program_expansion.proofs.CollectLaws.{get}
-use Rattle.program_expansion.proofs.Enumerated.{all_placed, next_placed}
+use Rattle.form_expansion.proofs.Enumerated.{all_placed, next_placed}
 use Rattle.document_units.proofs.HeadsKept.{heads_kept}
 use Rattle.program_expansion.proofs.ReadingLaws.{errors_none, errors_more, found_in, formed_at, formed_none, formed_more}
 use Rattle.program_expansion.proofs.SoundKept.{some_document}

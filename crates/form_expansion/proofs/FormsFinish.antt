@@ -1,0 +1,600 @@
+-- What a form set aside is expanded, once its macro uses are met: item by item, until all is or work on the unit ends.
+use Rattle.std.proofs.Common.{◌≡◌, ℕ, zero, suc, ◌+◌, ◌≤◌, ◌<◌, List, [], ◌∷◌, ◌++◌, map, drop, reverse, length, get_or, slice_get, true, false, Option, Some, None, Result, Ok, Err, refl, sym, ap, ◌∙◌, subst, arith, true≢false}
+use Rattle.std.specs.Prelude.{nat_lt}
+use Rattle.std.specs.Option.{is_some}
+use Rattle.std.proofs.lemmas.Bool.{le-ltb}
+use Rattle.std.proofs.lemmas.List.{map-append, reverse-reverse}
+use Rattle.std.proofs.lemmas.Option.{same_Some}
+use Rattle.scheme_model.specs.Ident.{Ident as Identifier}
+use Rattle.scheme_model.specs.Order.{Item, Left, Note, WaitingUse}
+use Rattle.scheme_model.specs.Cores.{Part, Parts, no_parts, part}
+use Rattle.scheme_model.specs.Steps.{Broken, Step as ModelStep}
+use Rattle.scheme_model.specs.Expression.{expand, item_part}
+use Rattle.scheme_model.specs.Program.{enough_turns}
+use Rattle.scheme_model.specs.UnitExpansion.{max_depth, max_total, nodes_in, with_part, items_parts}
+use Rattle.scheme_model.specs.Requirements.{Known}
+use Rattle.scheme_model.specs.ScopedExpansion.{Frames, FramedIdent, ScopedState}
+use Rattle.syntax_tree.specs.Names.{KeepsNames}
+use Rattle.syntax_tree.specs.Works.{IsOpened, KeepsTrees, SameRegions, AddsIn, live_count}
+use Rattle.syntax_tree.specs.declared.trees.Work.{Work}
+use Rattle.syntax_tree.specs.declared.trees.table.Region.{Region}
+use Rattle.syntax_tree.proofs.Places.{none_some}
+use Rattle.core_tree.specs.Names.{AllMatch, IsTarget, IsUse}
+use Rattle.core_tree.specs.Cores.{PartStands, PartsStand}
+use Rattle.core_tree.specs.Levels.{PartBinds, PartsBind}
+use Rattle.core_tree.specs.Traces.{IsFault}
+use Rattle.core_tree.specs.declared.cores.Binder as code_binder
+use Rattle.core_tree.specs.declared.cores.CorePart as code_part
+use Rattle.core_tree.specs.declared.traces.FormFault.{FormFault}
+use Rattle.core_tree.specs.declared.traces.Trace.{Trace}
+use Rattle.core_tree.specs.declared.units.ExpandedItem.{ExpandedItem}
+use Rattle.core_tree.specs.declared.units.UnitForm as code_form
+use Rattle.feature_requirements.specs.Judged.{Knows}
+use Rattle.unit_scopes.specs.Searched.{searched}
+use Rattle.unit_scopes.specs.State.{IsNumbered, numbered_in}
+use Rattle.unit_scopes.specs.Stepped.{turned}
+use Rattle.expansion_laws.specs.Tops.{OfOk, ItemBinds, ItemsBind}
+use Rattle.unit_scopes.specs.Kept.{WaitsFor}
+use Rattle.unit_scopes.specs.Units.{UnitStands, CountsFor, ItemFor, CanDeclare, Expands, uses_met, expanded}
+use Rattle.feature_requirements.specs.declared.fault.ExpandFault.{ExpandFault}
+use Rattle.feature_requirements.specs.declared.fault.ExpandFault.TheVariants as fault
+use Rattle.form_parts.specs.declared.items.Item as code_item
+use Rattle.form_parts.specs.declared.items.WaitingUse as code_waiting
+use Rattle.unit_scopes.specs.declared.scope.Budget.{Budget}
+use Rattle.unit_scopes.specs.declared.scope.UnitScope.{UnitScope}
+use Rattle.unit_scopes.proofs.CoreStandLaws.{parts_stand_on, kept_on}
+use Rattle.unit_scopes.proofs.OutcomeLaws.{grows_itself}
+use Rattle.expansion_laws.proofs.ItemTables.{expanded_table, met_table}
+use Rattle.expansion_laws.proofs.OtherForms.{expanded_stays, met_stays}
+use Rattle.expansion_laws.proofs.TopForms.{expanded_binds}
+use Rattle.form_expansion.specs.Forms.{Passing, IsUntouched, IsSetAside, IsDeclared, KeepsOthers, HaveCounted, expanding, FinishesTo, FinishesForm, CanFinish, Stays, known_by}
+use Rattle.form_expansion.specs.declared.forms.Bench.{Bench}
+use Rattle.form_expansion.specs.declared.forms.Declared as code
+use Rattle.form_expansion.proofs.BenchLaws.{stays_by, stays_on}
+use Rattle.form_expansion.proofs.FormAtWork.{item_form, met_form, same_turned, unit_turned}
+use Rattle.form_expansion.proofs.FormSteps.{others_kept}
+use Rattle.form_expansion.proofs.Live.{live_on}
+use Rattle.unit_imports.proofs.Matched.{matched_at}
+use Rattle.form_expansion.proofs.UnitForms.{same_counted, step_counted}
+use Rattle.form_expansion.proofs.UnitWalk.{before, before_twice, with_parts, item_over, item_fault, item_on}
+
+-- ---- lists
+
+pub top_at : (is : List (Item Identifier)) (n : ℕ) (i : Item Identifier) → ItemsBind false is → slice_get is n ≡ Some i → ItemBinds false i
+top_at [] n i h at = none_some i at
+top_at (j ∷ is) zero i h at = subst (λ (k : Item Identifier). ItemBinds false k) (same_Some j i at) h.0
+top_at (j ∷ is) (suc n) i h at = top_at is n i h.1 at
+
+abbrev pub as_parts : List Part → Parts
+as_parts [] = no_parts
+as_parts (p ∷ ps) = part p (as_parts ps)
+
+all_parts : (ps : List Part) → with_parts ps (Ok no_parts) ≡ Ok (as_parts ps)
+all_parts [] = refl
+all_parts (p ∷ ps) = ap (with_part p) (all_parts ps)
+
+no_parts_given : (ps : List Part) (b : Broken) → with_parts ps (Err b) ≡ Err b
+no_parts_given [] b = refl
+no_parts_given (p ∷ ps) b = ap (with_part p) (no_parts_given ps b)
+
+before_none : {S : Type 0} (q : Option (Result Parts Broken) × S) → before [] q ≡ q
+before_none (None, t) = refl
+before_none (Some r, t) = refl
+
+part_more : (work : Work) (unit form : ℕ) (xs : List code_part.CorePart) (ms : List Part) (x : code_part.CorePart) (m : Part) → PartsStand work unit form xs (as_parts ms) → PartStands work unit form x m →
+    PartsStand work unit form (xs ++ x ∷ []) (as_parts (ms ++ m ∷ []))
+part_more work unit form [] [] x m h is = (is, tt)
+part_more work unit form [] (a ∷ ms) x m h is = absurd h
+part_more work unit form (y ∷ xs) [] x m h is = absurd h
+part_more work unit form (y ∷ xs) (a ∷ ms) x m h is = (h.0, part_more work unit form xs ms x m h.1 is)
+
+tops_more : (ms : List Part) (m : Part) → PartsBind false (as_parts ms) → PartBinds false m → PartsBind false (as_parts (ms ++ m ∷ []))
+tops_more [] m h is = (is, tt)
+tops_more (a ∷ ms) m h is = (h.0, tops_more ms m h.1 is)
+
+pub dropped_at : {X : Type 0} (xs : List X) (k : ℕ) (x : X) → slice_get xs k ≡ Some x → drop k xs ≡ x ∷ drop (suc k) xs
+dropped_at [] k x at = none_some x at
+dropped_at (y ∷ xs) zero x at = ap (λ (z : _). z ∷ xs) (same_Some y x at)
+dropped_at (y ∷ xs) (suc k) x at = dropped_at xs k x at
+
+dropped_behind : {X : Type 0} (xs : List X) (k : ℕ) → length xs ≤ k → drop k xs ≡ []
+dropped_behind [] zero le = refl
+dropped_behind [] (suc k) le = refl
+dropped_behind (x ∷ xs) zero le = absurd (omega (arith, le))
+dropped_behind (x ∷ xs) (suc k) le = dropped_behind xs k (omega (arith, le))
+
+matched_length : {X Y : Type 0} (P : X → Y → Type 0) (xs : List X) (ys : List Y) → AllMatch P xs ys → length ys ≡ length xs
+matched_length P [] [] h = refl
+matched_length P [] (y ∷ ys) h = absurd h
+matched_length P (x ∷ xs) [] h = absurd h
+matched_length P (x ∷ xs) (y ∷ ys) h = let e = matched_length P xs ys h.1 in omega (arith, e)
+
+-- what matches as much as nothing does is nothing
+none_more : {X Y : Type 0} (P : X → Y → Type 0) (xs zs : List X) (ys : List Y) → zs ≡ [] → AllMatch P zs ys → AllMatch P xs ys → xs ≡ []
+none_more {X} {Y} P xs zs ys none h k = by xs ys (subst (λ (qs : List X). AllMatch P qs ys) none h) k
+  where
+    by : (qs : List X) (rs : List Y) → AllMatch P [] rs → AllMatch P qs rs → qs ≡ []
+    by [] rs h k = refl
+    by (q ∷ qs) [] h k = absurd k
+    by (q ∷ qs) (r ∷ rs) h k = absurd h
+
+none_reversed : {X : Type 0} (xs : List X) → reverse xs ≡ [] → xs ≡ []
+none_reversed {X} xs h = sym (reverse-reverse xs) ∙ ap (λ (ys : List X). reverse ys) h
+
+pub none_of : {X : Type 0} (o : Option X) → is_some o ≡ false → o ≡ None
+none_of None h = refl
+none_of (Some x) h = absurd cc
+
+-- ---- the states of a form
+
+declared_turned : (work : Work) (region : Region) (unit m n : ℕ) (s : ScopedState) (d : code.Declared) (r : Passing) → IsDeclared work region unit m s d r → IsDeclared work region unit m (turned n s) d r
+declared_turned work region unit m n s d r h = record { counts = h.counts; set_aside = h.set_aside; tops = h.tops; space = h.space }
+
+turned_counted : (known : Known) (form : ℕ) (s : ScopedState) (fs : List ℕ) → nodes_in (searched known) fs (turned form s) ≡ nodes_in (searched known) fs s
+turned_counted known form s fs = same_counted (searched known) s (turned form s) (λ m. refl) fs
+
+not_over : {P : Type 0} (total : ℕ) → total ≤ max_total → nat_lt max_total total ≡ true → P
+not_over total few many = absurd (true≢false (sym many ∙ le-ltb 500000 total few))
+
+-- a form that has a fault isn't one that set something aside
+no_fault : {P : Type 0} (work : Work) (region : Region) (unit form : ℕ) (s : ScopedState) (d : code.Declared) (b : Broken) → IsDeclared work region unit form s d (Err b) → d.fault ≡ None → P
+no_fault work region unit form s d b h none = absurd (subst (λ (f : Option FormFault). IsSetAside work region unit form d f (Err b)) none h.set_aside)
+
+set_aside_of : (work : Work) (region : Region) (unit form : ℕ) (s : ScopedState) (d : code.Declared) (l : Left Identifier) → IsDeclared work region unit form s d (Ok l) → d.fault ≡ None → IsSetAside work region unit form d None (Ok l)
+set_aside_of work region unit form s d l h none = subst (λ (f : Option FormFault). IsSetAside work region unit form d f (Ok l)) none h.set_aside
+
+-- what is left of a form without a fault
+left_of : (work : Work) (region : Region) (unit form : ℕ) (s : ScopedState) (d : code.Declared) (r : Passing) → IsDeclared work region unit form s d r → d.fault ≡ None → (l : Left Identifier) × IsDeclared work region unit form s d (Ok l)
+left_of work region unit form s d (Ok l) h none = (l, h)
+left_of work region unit form s d (Err b) h none = no_fault work region unit form s d b h none
+
+-- what is still to come of a form
+abbrev pub to_come : Known → List ℕ → List (Item Identifier) → ScopedState → Option (Result Parts Broken) × ScopedState
+to_come known fs is t = items_parts (searched known) fs (item_part (expand (searched known) enough_turns) (searched known) max_depth []) is t
+
+-- forms have counted so many nodes once these parts came of a form: work on the unit ended there, or the rest of the form is to come
+pub record GoneSo (known : Known) (fs : List ℕ) (form : ℕ) (l : Left Identifier) (s : ScopedState) (total : ℕ) (done : List Part) (rest : List (Item Identifier)) (t : ScopedState) : Type 0 where
+  pub counted : nodes_in (searched known) fs t ≡ total
+  pub over : nat_lt max_total total ≡ true → expanding known fs form (Ok l) s ≡ (None, t)
+  pub on : nat_lt max_total total ≡ false → expanding known fs form (Ok l) s ≡ before done (to_come known fs rest t)
+
+-- what a form set aside is being expanded: what came of so much of it, and the state by now
+pub record Finishing (old new : Bench) (known : Known) (unit form : ℕ) (l : Left Identifier) (s : ScopedState) (k start total : ℕ) (budget : Budget) (trace : Trace) (items : List ExpandedItem) : Type 0 where
+  pub layout : List Frames
+  pub state : ScopedState
+  pub notes : List (Note FramedIdent)
+  pub stands : UnitStands new.work new.scope layout state notes
+  pub counts : CountsFor new.work state form budget trace
+  pub number : state.unit ≡ unit
+  pub at_work : state.form ≡ form
+  pub kept : KeepsOthers old new unit form s state
+  pub table : state.table ≡ s.table
+  pub parts : List Part
+  pub stand : PartsStand new.work unit form (map (λ (i : ExpandedItem). i.part) items) (as_parts parts)
+  pub tops : PartsBind false (as_parts parts)
+  pub goes : (fs : List ℕ) → HaveCounted known fs form s start → GoneSo known fs form l s total parts (drop k l.items) state
+
+-- ---- its uses are met
+
+-- with these scopes in place of its own
+abbrev pub with_scope : Bench → UnitScope → Bench
+with_scope b u = record b { scope = u }
+
+module _ (b : Bench) (u : UnitScope) (known : Known) (unit form : ℕ) (ls : List Frames) (s : ScopedState) (notes : List (Note FramedIdent)) (d : code.Declared) (l : Left Identifier) (own : s.unit ≡ unit) (h : IsDeclared b.work b.region unit form s d (Ok l)) (trace : Trace)
+    (stands : UnitStands b.work u ls (uses_met known form l.uses s) notes) (counts : CountsFor b.work (uses_met known form l.uses s) form d.budget trace) where
+  abbrev met : ScopedState
+  met = uses_met known form l.uses s
+
+  -- nodes stay what they were
+  met_counts : (fs : List ℕ) (total : ℕ) → HaveCounted known fs form s total → nodes_in (searched known) fs met ≡ total
+  met_counts fs total c =
+      let stay = met_stays form known l.uses s in
+      let now : nodes_in (searched known) fs met + s.nodes form ≡ nodes_in (searched known) fs s + met.nodes form = step_counted (searched known) form s met (λ m apart. (stay.counts m apart).nodes) 0 fs c.rise c.among in
+      let was : nodes_in (searched known) fs s ≡ total = c.counted in
+      let first : d.budget.nodes ≡ s.nodes form = h.counts.nodes in
+      let last : d.budget.nodes ≡ met.nodes form = counts.nodes in
+      omega (arith, was, now, first, last)
+
+  pub nothing_finished : (total : ℕ) → total ≤ max_total → Finishing b (with_scope b u) known unit form l s 0 total total d.budget trace []
+  nothing_finished total few =
+      let stay = met_stays form known l.uses s in
+      let g = grows_itself b.work b.region in
+      record {
+        layout = ls;
+        state = met;
+        notes = notes;
+        stands = stands;
+        counts = counts;
+        number = stay.unit ∙ own;
+        at_work = met_form form known l.uses s;
+        kept = others_kept b (with_scope b u) g.trees g.names refl unit form s met stay;
+        table = met_table known form l.uses s;
+        parts = [];
+        stand = tt;
+        tops = tt;
+        goes = λ fs c. record {
+          counted = met_counts fs total c;
+          over = λ many. not_over total few many;
+          on = λ still. sym (before_none (to_come known fs l.items met));
+        };
+      }
+
+-- ---- a form that was broken before
+
+pub broken_before : (b : Bench) (known : Known) (unit form : ℕ) (ls : List Frames) (s : ScopedState) (notes : List (Note FramedIdent)) (d : code.Declared) (r : Passing) (total : ℕ) (e : FormFault) (k : code_form.UnitForm) → UnitStands b.work b.scope ls s notes → s.unit ≡ unit →
+    IsDeclared b.work b.region unit form s d r → total ≤ max_total → d.fault ≡ Some e → k.fault ≡ Some e → k.trace.definitions ≡ d.trace.definitions → FinishesForm b b known unit form r s total total k
+broken_before b known unit form ls s notes d (Ok l) total e k stands own h few was fault told = absurd (subst (λ (f : Option FormFault). IsSetAside b.work b.region unit form d f (Ok l)) was h.set_aside)
+broken_before b known unit form ls s notes d (Err x) total e k stands own h few was fault told =
+    record {
+      finishes = record {
+        layout = ls;
+        state = turned form s;
+        notes = notes;
+        stands = unit_turned b.work b.scope ls s form notes stands;
+        number = own;
+        kept = λ m c q apart is. declared_turned b.work b.region unit m form s c q is;
+        table = refl;
+        result = Err x;
+        met = (searched known).counted (turned form s);
+        result_is = (e, fault, subst (λ (f : Option FormFault). IsSetAside b.work b.region unit form d f (Err x)) was h.set_aside);
+        definitions =
+            subst (λ (bs : List code_binder.Binder). AllMatch (IsNumbered b.work.symbols form) (reverse bs) (numbered_in unit form s.table)) (sym told)
+            (subst (λ (u : ℕ). AllMatch (IsNumbered b.work.symbols form) (reverse d.trace.definitions) (numbered_in u form s.table)) own h.counts.definitions);
+      };
+      goes = λ fs c. record { counted = turned_counted known form s fs ∙ c.counted; over = λ many. not_over total few many; whole = λ still. (Err x, refl, refl) };
+      counted = refl;
+    }
+
+pub broken_first : (b : Bench) (known : Known) (unit form : ℕ) (ls : List Frames) (s : ScopedState) (notes : List (Note FramedIdent)) (d : code.Declared) (r : Passing) (total : ℕ) (k : code_form.UnitForm) → UnitStands b.work b.scope ls s notes → s.unit ≡ unit →
+    IsDeclared b.work b.region unit form s d r → total ≤ max_total → is_some d.fault ≡ true → k.fault ≡ d.fault → k.trace.definitions ≡ d.trace.definitions → FinishesForm b b known unit form r s total total k
+broken_first b known unit form ls s notes d r total k stands own h few is fault told = by d.fault refl is
+  where
+    by : (f : Option FormFault) → d.fault ≡ f → is_some f ≡ true → FinishesForm b b known unit form r s total total k
+    by None was is = absurd cc
+    by (Some e) was is = broken_before b known unit form ls s notes d r total e k stands own h few was (fault ∙ was) told
+
+-- ---- one item more
+
+-- an item that was set aside, in a work that has grown
+pub item_there : (old b : Bench) (unit form : ℕ) (s : ScopedState) (d : code.Declared) (l : Left Identifier) → IsDeclared old.work old.region unit form s d (Ok l) → d.fault ≡ None → KeepsTrees old.work b.work → KeepsNames old.work.symbols b.work.symbols → b.region ≡ old.region →
+    (n : ℕ) (x : code_item.Item) → slice_get d.aside n ≡ Some x → (i : Item Identifier) × (slice_get l.items n ≡ Some i) × ItemFor b.work b.region unit form x i × ItemBinds false i
+item_there old b unit form s d l h none trees names same n x at =
+    let m = matched_at (ItemFor old.work old.region unit form) d.aside l.items n x (set_aside_of old.work old.region unit form s d l h none).1 at in
+    (m.0, m.1, subst (λ (g : Region). ItemFor b.work g unit form x m.0) (sym same) (kept_on old.work b.work trees names unit form old.region x.kept m.0 m.2), top_at l.items n m.0 h.tops m.1)
+
+module _ (known : Known) (old b c : Bench) (unit form : ℕ) (l : Left Identifier) (s : ScopedState) (k start total : ℕ) (before_it after : Budget) (trace next : Trace) (items : List ExpandedItem) (h : Finishing old b known unit form l s k start total before_it trace items) where
+  -- the item, as the scopes' unit has it
+  item_here : (x : code_item.Item) (i : Item Identifier) → ItemFor b.work b.region unit form x i → ItemFor b.work b.region b.scope.unit form x i
+  item_here x i is = subst (λ (u : ℕ). ItemFor b.work b.region u form x i) (sym (h.stands.rests.unit ∙ h.number)) is
+
+  module _ (i : Item Identifier) (trees : KeepsTrees b.work c.work) where
+    -- the form has counted no less
+    counts_more : (e : FormFault) → Expands b.work c.work b.region b.scope c.scope before_it after h.layout form next h.notes (Err (fault.At e)) (expanded known form i h.state) → before_it.nodes ≤ after.nodes
+    counts_more e x =
+        let counted : live_count c.work + before_it.nodes ≤ live_count b.work + after.nodes = x.2.counted in
+        let live : live_count b.work ≤ live_count c.work = live_on b.work c.work trees in
+        omega (arith, counted, live)
+
+    module _ (names : KeepsNames b.work.symbols c.work.symbols) (same : c.region ≡ b.region) (at : drop k l.items ≡ i ∷ drop (suc k) l.items) (few : nat_lt max_total total ≡ false) where
+      abbrev step : Result Part Broken × ScopedState
+      step = expanded known form i h.state
+
+      abbrev rest : List (Item Identifier)
+      rest = drop (suc k) l.items
+
+      abbrev one : Item Identifier → ModelStep ScopedState Part
+      one = item_part (expand (searched known) enough_turns) (searched known) max_depth []
+
+      step_is : (r : Result Part Broken) → step.0 ≡ r → one i h.state ≡ (r, step.1)
+      step_is r so = ap (one i) (sym (same_turned h.state form h.at_work)) ∙ ap (λ (x : Result Part Broken). (x, step.1)) so
+
+      step_unit : step.1.unit ≡ unit
+      step_unit = (expanded_stays form known i h.state).unit ∙ h.number
+
+      step_kept : KeepsOthers old c unit form s step.1
+      step_kept m d r apart is = others_kept b c trees names same unit form h.state step.1 (expanded_stays form known i h.state) m d r apart (h.kept m d r apart is)
+
+      step_table : step.1.table ≡ s.table
+      step_table = expanded_table known form i h.state ∙ h.table
+
+      -- the unit has counted so many nodes with it
+      module _ (more : ℕ) (nodes : more + before_it.nodes ≡ total + after.nodes) (counts : CountsFor c.work step.1 form after next) (fs : List ℕ) (have : HaveCounted known fs form s start) where
+        step_counts : nodes_in (searched known) fs step.1 ≡ more
+        step_counts =
+            let was : nodes_in (searched known) fs h.state ≡ total = (h.goes fs have).counted in
+            let stay = expanded_stays form known i h.state in
+            let now : nodes_in (searched known) fs step.1 + h.state.nodes form ≡ nodes_in (searched known) fs h.state + step.1.nodes form = step_counted (searched known) form h.state step.1 (λ m apart. (stay.counts m apart).nodes) 0 fs have.rise have.among in
+            let first : before_it.nodes ≡ h.state.nodes form = h.counts.nodes in
+            let last : after.nodes ≡ step.1.nodes form = counts.nodes in
+            omega (arith, was, now, first, last, nodes)
+
+        so_far : expanding known fs form (Ok l) s ≡ before h.parts (to_come known fs (i ∷ rest) h.state)
+        so_far = (h.goes fs have).on few ∙ ap (λ (is : List (Item Identifier)). before h.parts (to_come known fs is h.state)) at
+
+        -- work on the unit ended
+        step_over : (r : Result Part Broken) → step.0 ≡ r → nat_lt max_total more ≡ true → expanding known fs form (Ok l) s ≡ (None, step.1)
+        step_over r so many =
+            let state : (one i h.state).1 ≡ step.1 = ap (λ (q : Result Part Broken × ScopedState). q.1) (step_is r so) in
+            so_far
+            ∙ (ap (before h.parts) (item_over (searched known) fs one i rest h.state (ap (λ (t : ScopedState). nat_lt max_total (nodes_in (searched known) fs t)) state ∙ (ap (nat_lt max_total) step_counts ∙ many)))
+            ∙ ap (λ (t : ScopedState). (None, t)) state)
+
+        -- it goes on
+        step_on : (p : Part) → step.0 ≡ Ok p → nat_lt max_total more ≡ false → expanding known fs form (Ok l) s ≡ before (h.parts ++ p ∷ []) (to_come known fs rest step.1)
+        step_on p so still =
+            so_far
+            ∙ (ap (before h.parts) (item_on (searched known) fs one i rest h.state p step.1 (step_is (Ok p) so) (ap (nat_lt max_total) step_counts ∙ still))
+            ∙ before_twice h.parts (p ∷ []) (to_come known fs rest step.1))
+
+        -- the form is broken
+        step_fault : (e : Broken) → step.0 ≡ Err e → nat_lt max_total more ≡ false → expanding known fs form (Ok l) s ≡ (Some (Err e), step.1)
+        step_fault e so still =
+            so_far
+            ∙ (ap (before h.parts) (item_fault (searched known) fs one i rest h.state e step.1 (step_is (Err e) so) (ap (nat_lt max_total) step_counts ∙ still))
+            ∙ ap (λ (r : Result Parts Broken). (Some r, step.1)) (no_parts_given h.parts e))
+
+      item_finished : (x : ExpandedItem) → ItemBinds false i → Expands b.work c.work b.region b.scope c.scope before_it after h.layout form next h.notes (Ok x) step →
+          Finishing old c known unit form l s (suc k) start (total + x.count) after next (items ++ x ∷ [])
+      item_finished x top e =
+          let goes = e.2 in
+          let own : c.scope.unit ≡ unit = goes.stands.rests.unit ∙ step_unit in
+          let stands : PartStands c.work unit form x.part e.0 = subst (λ (u : ℕ). PartStands c.work u form x.part e.0) own e.3 in
+          let binds : PartBinds false e.0 = subst (λ (r : Result Part Broken). OfOk (PartBinds false) r) e.1 (expanded_binds known form i h.state top) in
+          let nodes : total + x.count + before_it.nodes ≡ total + after.nodes = let q = e.4 in omega (arith, q) in
+          record {
+            layout = goes.layout;
+            state = step.1;
+            notes = h.notes;
+            stands = goes.stands;
+            counts = goes.counts;
+            number = step_unit;
+            at_work = item_form form known i h.state;
+            kept = step_kept;
+            table = step_table;
+            parts = h.parts ++ e.0 ∷ [];
+            stand =
+                subst (λ (xs : List code_part.CorePart). PartsStand c.work unit form xs (as_parts (h.parts ++ e.0 ∷ []))) (sym (map-append (λ (y : ExpandedItem). y.part) items (x ∷ [])))
+                (part_more c.work unit form (map (λ (y : ExpandedItem). y.part) items) h.parts x.part e.0 (parts_stand_on b.work c.work trees names unit form (map (λ (y : ExpandedItem). y.part) items) (as_parts h.parts) h.stand) stands);
+            tops = tops_more h.parts e.0 h.tops binds;
+            goes = λ fs have. record {
+              counted = step_counts (total + x.count) nodes goes.counts fs have;
+              over = λ many. step_over (total + x.count) nodes goes.counts fs have (Ok e.0) e.1 many;
+              on = λ still. step_on (total + x.count) nodes goes.counts fs have e.0 e.1 still;
+            };
+          }
+
+      -- it is broken, so nothing behind it is expanded
+      broken_now : (e : FormFault) (q : code_form.UnitForm) (more : ℕ) → more + before_it.nodes ≡ total + after.nodes → q.fault ≡ Some e → q.trace.definitions ≡ next.definitions →
+          Expands b.work c.work b.region b.scope c.scope before_it after h.layout form next h.notes (Err (fault.At e)) step → FinishesForm old c known unit form (Ok l) s start more q
+      broken_now e q more nodes told defines x =
+          let goes = x.2 in
+          record {
+            finishes = record {
+              layout = goes.layout;
+              state = step.1;
+              notes = h.notes;
+              stands = goes.stands;
+              number = step_unit;
+              kept = step_kept;
+              table = step_table;
+              result = Err x.0;
+              met = (searched known).counted step.1;
+              result_is = (e, told, subst (λ (u : ℕ). IsFault c.work.symbols u form e x.0) step_unit x.3);
+              definitions =
+                  subst (λ (bs : List code_binder.Binder). AllMatch (IsNumbered c.work.symbols form) (reverse bs) (numbered_in unit form step.1.table)) (sym defines)
+                  (subst (λ (u : ℕ). AllMatch (IsNumbered c.work.symbols form) (reverse next.definitions) (numbered_in u form step.1.table)) step_unit goes.counts.definitions);
+            };
+            goes = λ fs have. record {
+              counted = step_counts more nodes goes.counts fs have;
+              over = λ many. step_over more nodes goes.counts fs have (Err x.0) x.1 many;
+              whole = λ still. (Err x.0, step_fault more nodes goes.counts fs have x.0 x.1 still, refl);
+            };
+            counted = refl;
+          }
+
+-- ---- a form that was expanded
+
+module _ (old b : Bench) (known : Known) (unit form : ℕ) (l : Left Identifier) (s : ScopedState) (k start total : ℕ) (budget : Budget) (trace : Trace) (items : List ExpandedItem) (h : Finishing old b known unit form l s k start total budget trace items) where
+  -- as much as is
+  finished_so : FinishesTo old b unit form s (record { items = items; trace = trace; fault = None })
+  finished_so =
+      let t = h.state in
+      record {
+        layout = h.layout;
+        state = t;
+        notes = h.notes;
+        stands = h.stands;
+        number = h.number;
+        kept = h.kept;
+        table = h.table;
+        result = Ok (as_parts h.parts);
+        met = (searched known).counted (turned form t);
+        result_is = record {
+          whole = refl;
+          parts = h.stand;
+          levels = h.tops;
+          keywords = subst (λ (u : ℕ). AllMatch (IsTarget b.work.symbols u form) trace.keywords (reverse (t.keywords form))) h.number h.counts.keywords;
+          uses = subst (λ (u : ℕ). AllMatch (IsUse b.work.symbols u form) trace.uses (reverse (t.met form))) h.number h.counts.met;
+        };
+        definitions = subst (λ (u : ℕ). AllMatch (IsNumbered b.work.symbols form) (reverse trace.definitions) (numbered_in u form t.table)) h.number h.counts.definitions;
+      }
+
+  -- nothing is left, or work on the unit ended
+  form_finished : (nat_lt max_total total ≡ false → drop k l.items ≡ []) → FinishesForm old b known unit form (Ok l) s start total (record { items = items; trace = trace; fault = None })
+  unfolding finished_so
+  form_finished all = record {
+    finishes = finished_so;
+    goes = λ fs have.
+        let g = h.goes fs have in record {
+          counted = g.counted;
+          over = g.over;
+          whole = λ still. (
+            Ok (as_parts h.parts),
+            g.on still ∙ (ap (λ (is : List (Item Identifier)). before h.parts (to_come known fs is h.state)) (all still) ∙ ap (λ (r : Result Parts Broken). (Some r, h.state)) (all_parts h.parts)),
+            refl,
+          );
+        };
+    counted = ap (λ (t : ScopedState). (searched known).counted t) (same_turned h.state form h.at_work);
+  }
+
+-- ---- the loop over a form's items
+
+-- nothing was met
+pub record IsBlankTrace (t : Trace) : Type 0 where
+  pub definitions : t.definitions ≡ []
+  pub keywords : t.keywords ≡ []
+  pub uses : t.uses ≡ []
+
+item_at : {X : Type 0} (xs : List X) (k : ℕ) (d : X) → k < length xs → slice_get xs k ≡ Some (get_or xs k d)
+item_at [] k d low = absurd (omega (arith, low))
+item_at (x ∷ xs) zero d low = refl
+item_at (x ∷ xs) (suc k) d low = item_at xs k d (omega (arith, low))
+
+-- what came of the form so far, from each state that it may have begun in
+abbrev pub Continues : (old b : Bench) (unit form : ℕ) → code.Declared → (k start total : ℕ) → Budget → Trace → List ExpandedItem → Type 0
+Continues old b unit form d k start total budget trace items = (known : Known) (ls : List Frames) (s : ScopedState) (notes : List (Note FramedIdent)) (l : Left Identifier) → Knows old.scope.libraries known → UnitStands old.work old.scope ls s notes → s.unit ≡ unit →
+    IsDeclared old.work old.region unit form s d (Ok l) → Finishing old b known unit form l s k start total budget trace items
+
+-- what comes of the form, from each state that it may begin in
+abbrev pub Finished : (old b : Bench) (unit form : ℕ) → code.Declared → (start total : ℕ) → code_form.UnitForm → Type 0
+Finished old b unit form d start total k = (known : Known) (ls : List Frames) (s : ScopedState) (notes : List (Note FramedIdent)) (r : Passing) → Knows old.scope.libraries known → UnitStands old.work old.scope ls s notes → s.unit ≡ unit →
+    IsDeclared old.work old.region unit form s d r → FinishesForm old b known unit form r s start total k
+
+-- the call that meets the form's uses
+abbrev pub Meets : (b : Bench) (u : UnitScope) (form : ℕ) (budget : Budget) (trace next : Trace) → List code_waiting.WaitingUse → Type 0
+Meets b u form budget trace next xs = (known : Known) (ls : List Frames) (s : ScopedState) (notes : List (Note FramedIdent)) (us : List (WaitingUse Identifier)) → UnitStands b.work b.scope ls s notes → CountsFor b.work s form budget trace → AllMatch (WaitsFor b.work b.scope.unit form) xs us →
+    UnitStands b.work u ls (uses_met known form us s) notes × CountsFor b.work (uses_met known form us s) form budget next
+
+-- the call that expands the item
+abbrev pub Step : (b c : Bench) (form : ℕ) (before after : Budget) (trace next : Trace) → code_item.Item → Result ExpandedItem ExpandFault → Type 0
+Step b c form before_it after trace next x result = (known : Known) (ls : List Frames) (s : ScopedState) (notes : List (Note FramedIdent)) (i : Item Identifier) → Knows b.scope.libraries known →
+    UnitStands b.work b.scope ls s notes → CountsFor b.work s form before_it trace → ItemFor b.work b.region b.scope.unit form x i →
+    Expands b.work c.work b.region b.scope c.scope before_it after ls form next notes result (expanded known form i s)
+
+module _ (b : Bench) (unit form : ℕ) (d : code.Declared) (none : d.fault ≡ None) where
+  waits_here : (ls : List Frames) (s : ScopedState) (notes : List (Note FramedIdent)) (l : Left Identifier) → UnitStands b.work b.scope ls s notes → s.unit ≡ unit → IsDeclared b.work b.region unit form s d (Ok l) → AllMatch (WaitsFor b.work b.scope.unit form) d.uses.items l.uses
+  waits_here ls s notes l stands own h =
+      subst (λ (u : ℕ). AllMatch (WaitsFor b.work u form) d.uses.items l.uses) (sym (stands.rests.unit ∙ own)) (set_aside_of b.work b.region unit form s d l h none).0
+
+  -- what the call demands
+  pub can_meet : CanFinish b unit form d → CanDeclare b.work b.scope form d.budget d.trace
+  can_meet can = record { layout = can.layout; state = can.state; notes = can.notes; stands = can.stands; counts = can.form_is.counts }
+
+  pub uses_wait : CanFinish b unit form d → (us : List (WaitingUse Identifier)) × AllMatch (WaitsFor b.work b.scope.unit form) d.uses.items us
+  uses_wait can = let l = left_of b.work b.region unit form can.state d can.result can.form_is none in (l.0.uses, waits_here can.layout can.state can.notes l.0 can.stands can.number l.1)
+
+  module _ (u : UnitScope) (next : Trace) (call : Meets b u form d.budget d.trace next d.uses.items) where
+    -- its uses are met, and no item is expanded
+    pub uses_continue : (total : ℕ) → total ≤ max_total → Continues b (with_scope b u) unit form d 0 total total d.budget next []
+    uses_continue total few known ls s notes l knows stands own h =
+        let m = call known ls s notes l.uses stands h.counts (waits_here ls s notes l stands own h) in
+        nothing_finished b u known unit form ls s notes d l own h next m.0 m.1 total few
+
+    -- a form that isn't expanded has met nothing by now either
+    pub still_blank : IsUntouched d → CanFinish b unit form d → IsBlankTrace next
+    still_blank un can =
+        let s = can.state in
+        let names = b.work.symbols in
+        let was = can.form_is.counts in
+        let now = (call (known_by b.scope.libraries) can.layout s can.notes [] can.stands was (subst (λ (xs : List code_waiting.WaitingUse). AllMatch (WaitsFor b.work b.scope.unit form) xs []) (sym un.waiting) tt)).1 in
+        record {
+          definitions =
+              none_reversed next.definitions
+              (none_more (IsNumbered names form) (reverse next.definitions) (reverse d.trace.definitions) (numbered_in s.unit form s.table) (ap (λ (bs : List code_binder.Binder). reverse bs) un.definitions) was.definitions now.definitions);
+          keywords = none_more (IsTarget names s.unit form) next.keywords d.trace.keywords (reverse (s.keywords form)) un.keywords was.keywords now.keywords;
+          uses = none_more (IsUse names s.unit form) next.uses d.trace.uses (reverse (s.met form)) un.met was.met now.met;
+        }
+
+pub uses_stay : (b : Bench) (u : UnitScope) → IsOpened b.work b.region → u ≡ record b.scope { form = u.form } → Stays b (with_scope b u)
+uses_stay b u opened is =
+    let g = grows_itself b.work b.region in
+    stays_by b (with_scope b u) opened refl g.trees g.names g.added g.regions (ap (λ (v : UnitScope). v.env.roots) is) (ap (λ (v : UnitScope). v.libraries) is)
+
+module _ (old b : Bench) (unit form : ℕ) (d : code.Declared) (none : d.fault ≡ None) (stay : Stays old b) (k start total : ℕ) (before_it : Budget) (trace : Trace) (items : List ExpandedItem) (so : Continues old b unit form d k start total before_it trace items)
+    (xs : List code_item.Item) (whole : xs ≡ d.aside) (x : code_item.Item) (low : k < length xs) (is : x ≡ get_or xs k x) where
+  x_at : slice_get d.aside k ≡ Some x
+  x_at = subst (λ (ys : List code_item.Item). slice_get ys k ≡ Some x) whole (item_at xs k x low ∙ ap (λ (y : code_item.Item). Some y) (sym is))
+
+  -- the item that it stands for
+  record Here (set : List (Item Identifier)) : Type 0 where
+    item : Item Identifier
+    there : drop k set ≡ item ∷ drop (suc k) set
+    stands : ItemFor b.work b.region b.scope.unit form x item
+    binds : ItemBinds false item
+
+  item_is : (known : Known) (s : ScopedState) (l : Left Identifier) → IsDeclared old.work old.region unit form s d (Ok l) → Finishing old b known unit form l s k start total before_it trace items → Here l.items
+  item_is known s l h f =
+      let i = item_there old b unit form s d l h none stay.trees stay.names stay.region k x x_at in
+      record { item = i.0; there = dropped_at l.items k i.0 i.1; stands = item_here known old b b unit form l s k start total before_it before_it trace trace items f x i.0 i.2; binds = i.3 }
+
+  abbrev all_known : Known
+  all_known = known_by old.scope.libraries
+
+  all_there : Knows old.scope.libraries all_known
+  all_there n _ = refl
+
+  module _ (c : Bench) (after : Budget) (next : Trace) (trees : KeepsTrees b.work c.work) (names : KeepsNames b.work.symbols c.work.symbols) (added : AddsIn b.work c.work b.region) (regions : SameRegions b.work c.work) (same : c.region ≡ b.region) where
+    pub ok_finishes : (y : ExpandedItem) → nat_lt max_total total ≡ false → Step b c form before_it after trace next x (Ok y) → Continues old c unit form d (suc k) start (total + y.count) after next (items ++ y ∷ [])
+    ok_finishes y few call known ls s notes l knows stands own h =
+        let f = so known ls s notes l knows stands own h in
+        let i = item_is known s l h f in
+        item_finished known old b c unit form l s k start total before_it after trace next items f i.item trees names same i.there few y i.binds
+        (call known f.layout f.state f.notes i.item (stay.libraries known knows) f.stands f.counts i.stands)
+
+    pub at_finishes : (e : FormFault) (more : ℕ) → more + before_it.nodes ≡ total + after.nodes → nat_lt max_total total ≡ false → Step b c form before_it after trace next x (Err (fault.At e)) →
+        (q : code_form.UnitForm) → q.fault ≡ Some e → q.trace.definitions ≡ next.definitions → Finished old c unit form d start more q
+    at_finishes e more nodes few call q told defines known ls s notes (Err z) knows stands own h = no_fault old.work old.region unit form s d z h none
+    at_finishes e more nodes few call q told defines known ls s notes (Ok l) knows stands own h =
+        let f = so known ls s notes l knows stands own h in
+        let i = item_is known s l h f in
+        broken_now known old b c unit form l s k start total before_it after trace next items f i.item trees names same i.there few e q more nodes told defines
+        (call known f.layout f.state f.notes i.item (stay.libraries known knows) f.stands f.counts i.stands)
+
+    -- what the call leaves, by the state that there is
+    module _ (can : CanFinish old unit form d) where
+      abbrev left : (l : Left Identifier) × IsDeclared old.work old.region unit form can.state d (Ok l)
+      left = left_of old.work old.region unit form can.state d can.result can.form_is none
+
+      pub ok_stays : (y : ExpandedItem) → Step b c form before_it after trace next x (Ok y) → Stays old c
+      ok_stays y call =
+          let f = so all_known can.layout can.state can.notes left.0 all_there can.stands can.number left.1 in
+          let i = item_is all_known can.state left.0 left.1 f in
+          let goes = (call all_known f.layout f.state f.notes i.item (stay.libraries all_known all_there) f.stands f.counts i.stands).2 in
+          stays_on old b c stay (stays_by b c stay.opened same trees names added regions goes.units goes.libraries)
+
+      pub at_stays : (e : FormFault) → Step b c form before_it after trace next x (Err (fault.At e)) → Stays old c × (before_it.nodes ≤ after.nodes)
+      at_stays e call =
+          let f = so all_known can.layout can.state can.notes left.0 all_there can.stands can.number left.1 in
+          let i = item_is all_known can.state left.0 left.1 f in
+          let gone = call all_known f.layout f.state f.notes i.item (stay.libraries all_known all_there) f.stands f.counts i.stands in (
+            stays_on old b c stay (stays_by b c stay.opened same trees names added regions gone.2.units gone.2.libraries),
+            counts_more all_known old b c unit form left.0 can.state k start total before_it after trace next items f i.item trees e gone,
+          )
+
+  pub item_ready : CanFinish old unit form d → (i : Item Identifier) × ItemFor b.work b.region b.scope.unit form x i
+  item_ready can =
+      let l = left_of old.work old.region unit form can.state d can.result can.form_is none in
+      let i = item_is all_known can.state l.0 l.1 (so all_known can.layout can.state can.notes l.0 all_there can.stands can.number l.1) in (i.item, i.stands)
+
+-- ---- all items of a form, or as many as are expanded before work on the unit ends
+
+module _ (old b : Bench) (unit form : ℕ) (d : code.Declared) (none : d.fault ≡ None) (k start total : ℕ) (budget : Budget) (trace : Trace) (items : List ExpandedItem) (so : Continues old b unit form d k start total budget trace items) where
+  pub finishes_by : (nat_lt max_total total ≡ false → length d.aside ≤ k) → Finished old b unit form d start total (record { items = items; trace = trace; fault = None })
+  finishes_by all known ls s notes (Err e) knows stands own h = no_fault old.work old.region unit form s d e h none
+  finishes_by all known ls s notes (Ok l) knows stands own h =
+      form_finished old b known unit form l s k start total budget trace items (so known ls s notes l knows stands own h)
+      (λ few.
+      let long = matched_length (ItemFor old.work old.region unit form) d.aside l.items (set_aside_of old.work old.region unit form s d l h none).1 in
+      let there = all few in
+      dropped_behind l.items k (omega (arith, there, long)))
+
+  -- what a loop over the items knows of the scopes
+  pub can_go_on : CanFinish old unit form d → CanDeclare b.work b.scope form budget trace
+  can_go_on can =
+      let l = left_of old.work old.region unit form can.state d can.result can.form_is none in
+      let h = so (known_by old.scope.libraries) can.layout can.state can.notes l.0 (λ n _. refl) can.stands can.number l.1 in
+      record { layout = h.layout; state = h.state; notes = h.notes; stands = h.stands; counts = h.counts }
+
+-- a form that set nothing aside has no item
+pub none_there : {P : Type 0} (xs ys : List code_item.Item) → xs ≡ ys → ys ≡ [] → (k : ℕ) → k < length xs → P
+none_there xs ys same none k low = absurd (let long : length xs ≡ 0 = ap (λ (zs : List code_item.Item). length zs) (same ∙ none) in omega (arith, low, long))

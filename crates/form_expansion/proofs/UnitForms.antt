@@ -1,0 +1,87 @@
+-- The forms of a unit by their numbers: what they count together, and what the unit comes to.
+use Rattle.std.proofs.Common.{◌≡◌, ℕ, suc, ◌+◌, ◌≤◌, ◌<◌, List, [], ◌∷◌, ◌++◌, Bool, true, false, cond, Option, Some, None, refl, ap, inl, inr, arith}
+use Rattle.scheme_model.specs.Data.{place_of}
+use Rattle.scheme_model.specs.DataTrees.{tree_of}
+use Rattle.scheme_model.specs.Trees.{Tree, placed_in}
+use Rattle.scheme_model.specs.Order.{Ops}
+use Rattle.scheme_model.specs.Expression.{expand}
+use Rattle.scheme_model.specs.Declarations.{UnitForm}
+use Rattle.scheme_model.specs.ScopedProgram.{forms_over}
+use Rattle.scheme_model.specs.UnitExpansion.{Formed, LeftOf, ◌then◌, passes, finished, nodes_in, unit}
+use Rattle.form_expansion.specs.Ends.{numbers_of, Rise, IsAmong}
+
+-- ---- numbers
+
+pub rise_from : (n m : ℕ) (fs : List ℕ) → n ≤ m → Rise m fs → Rise n fs
+rise_from n m [] le h = tt
+rise_from n m (f ∷ fs) le h = (let low : m ≤ f = h.0 in omega (arith, le, low), h.1)
+
+pub forms_rise : {A : Type 0} (written : List ℕ → A) (u n : ℕ) (fs : List UnitForm) → Rise n (numbers_of (forms_over written u n fs))
+forms_rise {A} written u n [] = tt
+forms_rise {A} written u n (f ∷ fs) = go f.declared (forms_rise written u (suc n) fs)
+  where
+    go : (b : Bool) → Rise (suc n) (numbers_of (forms_over written u (suc n) fs)) →
+        Rise n (numbers_of (cond b (forms_over written u (suc n) fs) ((n, tree_of written (placed_in u n (place_of f.datum).first) f.datum) ∷ forms_over written u (suc n) fs)))
+    go true later = rise_from n (suc n) (numbers_of (forms_over written u (suc n) fs)) (omega arith) later
+    go false later = (omega arith, later)
+
+-- one of those that rise is no less than where they begin
+behind : (n : ℕ) (fs : List ℕ) {form : ℕ} → Rise n fs → IsAmong form fs → n ≤ form
+behind n [] h in_ = absurd in_
+behind n (f ∷ fs) h in_ = elim in_ [
+  | inl same ↦ let le : n ≤ f = h.0 in omega (arith, le, same)
+  | inr later ↦ let le : n ≤ f = h.0 in let low = behind (suc f) fs h.1 later in omega (arith, le, low)
+]
+
+-- a number between others
+pub among : {X : Type 0} (front rest : List (ℕ × X)) (r : ℕ × X) → IsAmong r.0 (numbers_of (front ++ r ∷ rest))
+among [] rest r = inl refl
+among (q ∷ front) rest r = inr (among front rest r)
+
+-- ---- nodes
+
+module _ {E A L S : Type 0} (ops : Ops E A L S) where
+  abbrev pub nodes_at : ℕ → S → ℕ
+  nodes_at m s = (ops.counted (ops.turn m s)).nodes
+
+  pub none_counted : (s : S) → ((m : ℕ) → nodes_at m s ≡ 0) → (fs : List ℕ) → nodes_in ops fs s ≡ 0
+  none_counted s none [] = refl
+  none_counted s none (f ∷ fs) = let a = none f in let b = none_counted s none fs in omega (arith, a, b)
+
+  pub same_counted : (s t : S) → ((m : ℕ) → nodes_at m t ≡ nodes_at m s) → (fs : List ℕ) → nodes_in ops fs t ≡ nodes_in ops fs s
+  same_counted s t same [] = refl
+  same_counted s t same (f ∷ fs) = let a = same f in let b = same_counted s t same fs in omega (arith, a, b)
+
+  module _ (form : ℕ) (s t : S) (others : (m : ℕ) → (m ≡ form → ⊥) → nodes_at m t ≡ nodes_at m s) where
+    -- those behind a form
+    apart_counted : (n : ℕ) (fs : List ℕ) → form < n → Rise n fs → nodes_in ops fs t ≡ nodes_in ops fs s
+    apart_counted n [] low h = refl
+    apart_counted n (f ∷ fs) low h =
+        let le : n ≤ f = h.0 in
+        let a = others f (λ same. omega (arith, low, le, same)) in let b = apart_counted (suc f) fs (omega (arith, low, le)) h.1 in omega (arith, a, b)
+
+    -- a step of one form counts what that form counts more
+    pub step_counted : (n : ℕ) (fs : List ℕ) → Rise n fs → IsAmong form fs → nodes_in ops fs t + nodes_at form s ≡ nodes_in ops fs s + nodes_at form t
+    step_counted n [] h in_ = absurd in_
+    step_counted n (f ∷ fs) h in_ = elim in_ [
+      | inl same ↦
+          let b : nodes_in ops fs t ≡ nodes_in ops fs s = apart_counted (suc f) fs (omega (arith, same)) h.1 in
+          let here : nodes_at f t ≡ nodes_at form t = ap (λ m. nodes_at m t) same in
+          let was : nodes_at f s ≡ nodes_at form s = ap (λ m. nodes_at m s) same in
+          omega (arith, b, here, was)
+      | inr later ↦
+          let low = behind (suc f) fs h.1 later in
+          let a = others f (λ same. omega (arith, low, same)) in let b = step_counted (suc f) fs h.1 later in omega (arith, a, b)
+    ]
+
+  -- ---- the unit
+
+  module _ (turns : ℕ) (e : E) (ts : List (ℕ × Tree A)) (s : S) where
+    abbrev then_finished : Option (List (LeftOf A)) × S → Option (List Formed) × S
+    then_finished q = q then finished ops (expand ops turns) e (numbers_of ts)
+
+    pub ends_passing : (t : S) → passes ops turns e (numbers_of ts) ts [] s ≡ (None, t) → unit ops turns e ts s ≡ (None, t)
+    ends_passing t h = ap then_finished h
+
+    pub goes_through : (rs : List (LeftOf A)) (t : S) → passes ops turns e (numbers_of ts) ts [] s ≡ (Some rs, t) → unit ops turns e ts s ≡ finished ops (expand ops turns) e (numbers_of ts) rs t
+    goes_through rs t h = ap then_finished h

@@ -1,0 +1,13 @@
+use Rattle.std.proofs.Common.{◌≡◌, vec_len}
+use Rattle.form_expansion.proofs.PreludeMacros.{Adding}
+use Rattle.form_expansion.proofs.prelude.add_macros.Given as goal
+
+abbrev pub invariant-loop-name : goal.invariant-loop-name
+invariant-loop-name l = record {
+  adding : Adding l.work l.scope l.rest.items;
+  trees : l.work.trees ≡ l.fn.work.trees;
+  roots : l.scope.env.roots ≡ l.fn.scope.env.roots;
+}
+
+abbrev pub decreases-loop-name : goal.decreases-loop-name
+decreases-loop-name l = vec_len l.rest

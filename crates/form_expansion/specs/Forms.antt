@@ -1,0 +1,271 @@
+-- The forms of a unit as they are gone through and expanded (R7RS 5.1, 5.3): what the code holds of each, and the state of the unit
+-- that the trees and scopes stand for meanwhile.
+use Rattle.std.specs.Prelude.{◌≡◌, ◌⊎◌, ℕ, suc, ◌^◌, ◌≤◌, ◌<◌, nat_lt, List, [], ◌∷◌, length, reverse, slice_get, false, Option, Some, None, Result, Ok, Err, String}
+use Rattle.std.specs.declared.alloc.Global.{Global}
+use Rattle.std.specs.BTreeSet.{BTreeSet, contains_text}
+use Rattle.scheme_model.specs.Ident.{Ident as Identifier}
+use Rattle.scheme_model.specs.Data.{Datum}
+use Rattle.scheme_model.specs.Cores.{Parts}
+use Rattle.scheme_model.specs.Steps.{Broken}
+use Rattle.scheme_model.specs.Order.{Left, Note, Pass, Counted}
+use Rattle.scheme_model.specs.UnitExpansion.{Formed, LeftOf, passes, form_parts, finished, max_total, nodes_in}
+use Rattle.scheme_model.specs.Expression.{expand}
+use Rattle.scheme_model.specs.Program.{Prepared, enough_turns}
+use Rattle.scheme_model.specs.Requirements.{Known}
+use Rattle.scheme_model.specs.Substitution.{Defined}
+use Rattle.scheme_model.specs.Trees.{Tree}
+use Rattle.scheme_model.specs.ScopedExpansion.{Frames, FramedIdent, ScopedState}
+use Rattle.syntax_tree.specs.declared.trees.Work.{Work}
+use Rattle.syntax_tree.specs.declared.trees.table.Region.{Region}
+use Rattle.syntax_tree.specs.Works.{IsOpened, KeepsTrees, SameRegions, AddsIn}
+use Rattle.syntax_tree.specs.Names.{KeepsNames}
+use Rattle.datum_reader.specs.Seeded.{seeded}
+use Rattle.core_tree.specs.Names.{AllMatch}
+use Rattle.core_tree.specs.Traces.{IsFault}
+use Rattle.core_tree.specs.Units.{FormsStand, IsResult, AreDefinitions, definitions_from, defined_by}
+use Rattle.core_tree.specs.declared.traces.FormFault.{FormFault}
+use Rattle.core_tree.specs.declared.units.UnitForm as code_form
+use Rattle.feature_requirements.specs.Judged.{Knows, library_text}
+use Rattle.unit_scopes.specs.Opened.{IsNew}
+use Rattle.unit_scopes.specs.Others.{InOrder}
+use Rattle.unit_scopes.specs.State.{IsNumbered, numbered_in}
+use Rattle.unit_scopes.specs.Searched.{searched, searched_unit_over}
+use Rattle.unit_scopes.specs.Stepped.{turned, IsFresh}
+use Rattle.expansion_laws.specs.Tops.{OfOk, ItemsBind}
+use Rattle.unit_scopes.specs.Kept.{WaitsFor}
+use Rattle.unit_scopes.specs.Units.{UnitStands, CountsFor, HasSpace, ItemFor, declared}
+use Rattle.unit_scopes.specs.declared.scope.Budget.{Budget}
+use Rattle.form_expansion.specs.Ends.{numbers_of, Rise, IsAmong, Comes}
+use Rattle.form_expansion.specs.declared.forms.Bench.{Bench}
+use Rattle.form_expansion.specs.declared.forms.Declared as code
+
+-- what is left of a form, or why it is broken
+abbrev pub Passing : Type 0
+Passing = Result (Left Identifier) Broken
+
+-- the libraries that the texts are of
+abbrev pub known_by : BTreeSet (String Global) → Known
+known_by libraries n = contains_text libraries (library_text n)
+
+-- ---- the bench
+
+-- its trees and scopes belong together: they stand for some state of a unit
+pub record IsBench (b : Bench) : Type 0 where
+  pub region : IsOpened b.work b.region
+  pub layout : List Frames
+  pub state : ScopedState
+  pub notes : List (Note FramedIdent)
+  pub stands : UnitStands b.work b.scope layout state notes
+
+-- a unit was begun of which nothing is done yet
+pub record IsBegun (b : Bench) (unit : ℕ) : Type 0 where
+  pub region : IsOpened b.work b.region
+  pub layout : List Frames
+  pub state : ScopedState
+  pub stands : UnitStands b.work b.scope layout state []
+  pub number : state.unit ≡ unit
+  pub fresh : (form : ℕ) → IsFresh state form
+
+-- trees and names stay, and so do units that are still to be begun and the libraries that there are
+pub record Stays (old new : Bench) : Type 0 where
+  pub trees : KeepsTrees old.work new.work
+  pub names : KeepsNames old.work.symbols new.work.symbols
+  pub region : new.region ≡ old.region
+  pub opened : IsOpened new.work new.region
+  pub added : AddsIn old.work new.work old.region
+  pub regions : SameRegions old.work new.work
+  pub others : (v : ℕ) → IsNew old.scope v → IsNew new.scope v
+  pub libraries : (known : Known) → Knows old.scope.libraries known → Knows new.scope.libraries known
+
+-- nothing but the form that is at work is another
+abbrev pub IsTurned : (old new : Bench) → Type 0
+IsTurned old new = new ≡ record old { scope = record old.scope { form = new.scope.form } }
+
+-- ---- forms that were gone through
+
+-- nothing is met in a form that isn't expanded
+pub record IsUntouched (d : code.Declared) : Type 0 where
+  pub uses : d.budget.uses ≡ 0
+  pub nodes : d.budget.nodes ≡ 0
+  pub locals : d.budget.locals ≡ 0
+  pub definitions : d.trace.definitions ≡ []
+  pub keywords : d.trace.keywords ≡ []
+  pub met : d.trace.uses ≡ []
+  pub waiting : d.uses.items ≡ []
+  pub aside : d.aside ≡ []
+  pub fault : d.fault ≡ None
+
+-- what is left of a form, or its fault
+abbrev pub IsSetAside : Work → Region → (unit form : ℕ) → code.Declared → Option FormFault → Passing → Type 0
+IsSetAside work region unit form d None (Ok l) = AllMatch (WaitsFor work unit form) d.uses.items l.uses × AllMatch (ItemFor work region unit form) d.aside l.items
+IsSetAside work region unit form d None (Err b) = ⊥
+IsSetAside work region unit form d (Some e) (Ok l) = ⊥
+IsSetAside work region unit form d (Some e) (Err b) = IsFault work.symbols unit form e b
+
+-- a form that isn't broken has space for what it set aside
+abbrev pub HasSpaceLeft : Budget → Option FormFault → Type 0
+HasSpaceLeft b None = HasSpace (2 ^ 43) b
+HasSpaceLeft b (Some e) = Unit {0}
+
+pub record IsDeclared (work : Work) (region : Region) (unit form : ℕ) (s : ScopedState) (d : code.Declared) (r : Passing) : Type 0 where
+  pub counts : CountsFor work s form d.budget d.trace
+  pub set_aside : IsSetAside work region unit form d d.fault r
+  pub tops : OfOk (λ l. ItemsBind false l.items) r
+  pub space : HasSpaceLeft d.budget d.fault
+
+-- ---- one form
+
+-- the unit stands, and the form is new
+pub record CanPass (b : Bench) (unit form : ℕ) : Type 0 where
+  pub layout : List Frames
+  pub state : ScopedState
+  pub notes : List (Note FramedIdent)
+  pub stands : UnitStands b.work b.scope layout state notes
+  pub number : state.unit ≡ unit
+  pub fresh : IsFresh state form
+
+-- the unit stands, and the form was gone through
+pub record CanFinish (b : Bench) (unit form : ℕ) (d : code.Declared) : Type 0 where
+  pub layout : List Frames
+  pub state : ScopedState
+  pub notes : List (Note FramedIdent)
+  pub stands : UnitStands b.work b.scope layout state notes
+  pub number : state.unit ≡ unit
+  pub result : Passing
+  pub form_is : IsDeclared b.work b.region unit form state d result
+
+-- a form that is expanded, as it is gone through
+abbrev pub passed : Known → (unit form : ℕ) → Datum → List (Note FramedIdent) → ScopedState → Pass Identifier FramedIdent × ScopedState
+passed known unit form d notes s = declared known form (seeded unit form d) notes s
+
+abbrev pub AreInOrder : (behind : ℕ) → ScopedState → Type 0
+AreInOrder behind s = InOrder (λ (d : Defined). d.form) 0 behind (defined_by s.unit s.table)
+
+-- what was gone through of the other forms stays so
+abbrev pub KeepsOthers : (old new : Bench) → (unit form : ℕ) → (s t : ScopedState) → Type 0
+KeepsOthers old new unit form s t = (m : ℕ) (c : code.Declared) (r : Passing) → (m ≡ form → ⊥) → IsDeclared old.work old.region unit m s c r → IsDeclared new.work new.region unit m t c r
+
+-- the same, forms to come are as new, and definitions stay in the order of their forms
+pub record LeavesOthers (old new : Bench) (unit form : ℕ) (s t : ScopedState) : Type 0 where
+  pub number : t.unit ≡ unit
+  pub kept : KeepsOthers old new unit form s t
+  pub fresh : (m : ℕ) → (m ≡ form → ⊥) → IsFresh s m → IsFresh t m
+  pub in_order : (behind : ℕ) → behind ≤ suc form → AreInOrder behind s → AreInOrder (suc form) t
+
+-- a form that was gone through by this step
+pub record PassesTo (old new : Bench) (unit form : ℕ) (s : ScopedState) (p : Pass Identifier FramedIdent × ScopedState) (c : code.Declared) : Type 0 where
+  pub layout : List Frames
+  pub stands : UnitStands new.work new.scope layout p.1 p.0.notes
+  pub form_is : IsDeclared new.work new.region unit form p.1 c p.0.left
+  pub others : LeavesOthers old new unit form s p.1
+
+abbrev pub PassesForm : (old new : Bench) → Known → (unit form : ℕ) → Datum → List (Note FramedIdent) → ScopedState → code.Declared → Type 0
+PassesForm old new known unit form d notes s c = PassesTo old new unit form s (passed known unit form d notes s) c
+
+-- a form's uses are met, and what it set aside is expanded, while these forms count
+abbrev pub expanding : Known → List ℕ → (form : ℕ) → Passing → ScopedState → Option (Result Parts Broken) × ScopedState
+expanding known fs form r s = form_parts (searched known) (expand (searched known) enough_turns) [] fs r (turned form s)
+
+-- forms with these numbers, among which is this one, have counted so many nodes
+pub record HaveCounted (known : Known) (fs : List ℕ) (form : ℕ) (s : ScopedState) (total : ℕ) : Type 0 where
+  pub rise : Rise 0 fs
+  pub among : IsAmong form fs
+  pub counted : nodes_in (searched known) fs s ≡ total
+
+-- from one state a form came to the last: work on the unit ended there if that makes the nodes too many, and else gave this
+abbrev pub GoesTo : Known → (form : ℕ) → Passing → (s : ScopedState) (before after : ℕ) → (last : ScopedState) → Result Parts Broken → Type 0
+GoesTo known form r s before after last result =
+    (fs : List ℕ) → HaveCounted known fs form s before → Comes (searched known) fs (expanding known fs form r s) after last (λ given. given ≡ result)
+
+-- what a form came to, and the state then: the unit's definitions are those that there were
+pub record FinishesTo (old new : Bench) (unit form : ℕ) (s : ScopedState) (c : code_form.UnitForm) : Type 0 where
+  pub layout : List Frames
+  pub state : ScopedState
+  pub notes : List (Note FramedIdent)
+  pub stands : UnitStands new.work new.scope layout state notes
+  pub number : state.unit ≡ unit
+  pub kept : KeepsOthers old new unit form s state
+  pub table : state.table ≡ s.table
+  pub result : Result Parts Broken
+  pub met : Counted
+  pub result_is : IsResult new.work unit form c result met
+  pub definitions : AllMatch (IsNumbered new.work.symbols form) (reverse c.trace.definitions) (numbered_in unit form state.table)
+
+-- all that a form set aside is expanded, or as much as it takes to count too many nodes
+pub record FinishesForm (old new : Bench) (known : Known) (unit form : ℕ) (r : Passing) (s : ScopedState) (before after : ℕ) (c : code_form.UnitForm) : Type 0 where
+  pub finishes : FinishesTo old new unit form s c
+  pub goes : GoesTo known form r s before after finishes.state finishes.result
+  pub counted : finishes.met ≡ (searched known).counted finishes.state
+
+-- ---- all forms
+
+-- forms were gone through from the first on, and those from a place on are still held: what each set aside, in the state that is
+-- reached by now
+pub record FormsHeld (b : Bench) (unit place : ℕ) (ds : List code.Declared) : Type 0 where
+  pub layout : List Frames
+  pub state : ScopedState
+  pub notes : List (Note FramedIdent)
+  pub stands : UnitStands b.work b.scope layout state notes
+  pub number : state.unit ≡ unit
+  pub held : (m : ℕ) (d : code.Declared) → place ≤ m → slice_get ds m ≡ Some d → (r : Passing) × IsDeclared b.work b.region unit m state d r
+  pub in_order : AreInOrder (length ds) state
+
+-- the forms from one on are as new
+abbrev pub AreFresh : ℕ → ScopedState → Type 0
+AreFresh place s = (m : ℕ) → place ≤ m → IsFresh s m
+
+-- forms of a unit that stand for what came of some, and what they tell of its definitions
+pub record AreFormed (work : Work) (unit : ℕ) (cs : List code_form.UnitForm) : Type 0 where
+  pub formed : List Formed
+  pub stand : FormsStand work unit 0 cs formed
+  pub defined : List Defined
+  pub definitions : AreDefinitions work.symbols (reverse (definitions_from 0 cs)) defined
+
+-- the forms from a number on: each is the next that was gone through, or isn't expanded
+abbrev pub AreDeclared : Work → Region → (unit form : ℕ) → ScopedState → List code.Declared → List (LeftOf Identifier) → Type 0
+AreDeclared work region unit form s [] [] = Unit {0}
+AreDeclared work region unit form s [] (r ∷ rs) = ⊥
+AreDeclared work region unit form s (d ∷ ds) [] = IsUntouched d × AreDeclared work region unit (suc form) s ds []
+AreDeclared work region unit form s (d ∷ ds) (r ∷ rs) =
+    (IsUntouched d × (form < r.0) × AreDeclared work region unit (suc form) s ds (r ∷ rs))
+    ⊎ ((r.0 ≡ form) × IsDeclared work region unit form s d r.1 × AreDeclared work region unit (suc form) s ds rs)
+
+-- forms with their numbers are gone through: all, or as many as it takes to count too many nodes
+pub record Passes (b : Bench) (unit : ℕ) (known : Known) (ts : List (ℕ × Tree Identifier)) (s : ScopedState) (total : ℕ) (ds : List code.Declared) : Type 0 where
+  pub held : FormsHeld b unit 0 ds
+  pub comes : Comes (searched known) (numbers_of ts) (passes (searched known) enough_turns [] (numbers_of ts) ts [] s) total held.state (AreDeclared b.work b.region unit 0 held.state ds)
+
+-- forms that were gone through stand with what each set aside, by numbers that rise, and have counted so many nodes, which aren't too many
+pub record CanFinishAll (b : Bench) (unit : ℕ) (known : Known) (rs : List (LeftOf Identifier)) (s : ScopedState) (total : ℕ) (ds : List code.Declared) : Type 0 where
+  pub few : nat_lt max_total total ≡ false
+  pub rise : Rise 0 (numbers_of rs)
+  pub counted : nodes_in (searched known) (numbers_of rs) s ≡ total
+  pub forms : AreDeclared b.work b.region unit 0 s ds rs
+
+-- what they set aside is expanded: all of it, or as much as it takes to count too many nodes
+pub record Finishes (b : Bench) (unit : ℕ) (known : Known) (rs : List (LeftOf Identifier)) (s : ScopedState) (total : ℕ) (cs : List code_form.UnitForm) : Type 0 where
+  pub layout : List Frames
+  pub last : ScopedState
+  pub notes : List (Note FramedIdent)
+  pub stands : UnitStands b.work b.scope layout last notes
+  pub comes : Comes (searched known) (numbers_of rs) (finished (searched known) (expand (searched known) enough_turns) [] (numbers_of rs) rs s) total last (FormsStand b.work unit 0 cs)
+  pub definitions : nat_lt max_total total ≡ false → AreDefinitions b.work.symbols (reverse (definitions_from 0 cs)) (defined_by unit last.table)
+
+-- ---- the unit
+
+-- the bench stands for this state
+pub record StandsAt (b : Bench) (s : ScopedState) : Type 0 where
+  pub layout : List Frames
+  pub notes : List (Note FramedIdent)
+  pub stands : UnitStands b.work b.scope layout s notes
+
+-- what the forms of a unit come to, or nothing where work on it ended
+abbrev pub AreUnfolded : Bench → (unit : ℕ) → ScopedState → Option (List code_form.UnitForm) → Option (List Formed) → Type 0
+AreUnfolded b unit t None None = Unit {0}
+AreUnfolded b unit t None (Some fs) = ⊥
+AreUnfolded b unit t (Some cs) None = ⊥
+AreUnfolded b unit t (Some cs) (Some fs) = FormsStand b.work unit 0 cs fs × AreDefinitions b.work.symbols (reverse (definitions_from 0 cs)) (defined_by unit t.table)
+
+pub record Unfolds (b : Bench) (known : Known) (p : Prepared) (s : ScopedState) (cs : Option (List code_form.UnitForm)) : Type 0 where
+  pub stands : StandsAt b (searched_unit_over known p s).1
+  pub forms : AreUnfolded b p.number (searched_unit_over known p s).1 cs (searched_unit_over known p s).0

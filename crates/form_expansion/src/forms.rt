@@ -1,0 +1,384 @@
+//! The forms of a unit (R7RS 5.1): all are gone through in order, and then what they set aside is expanded in order.
+ghost use Rattle.std.specs.Prelude.{◌≡◌, ℕ, ◌^◌, ◌≤◌, List, [], length, vec_len, nat_lt, true, false, None, OnOk, IfOk, IfSome};
+ghost use Rattle.scheme_model.specs.Ident.{Ident as Identifier, Written};
+ghost use Rattle.scheme_model.specs.Trees.{Tree as ModelTree};
+ghost use Rattle.scheme_model.specs.UnitExpansion.{max_total};
+ghost use Rattle.scheme_model.specs.Requirements.{Known};
+ghost use Rattle.scheme_model.specs.Program.{Prepared};
+ghost use Rattle.scheme_model.specs.ScopedProgram.{forms_over};
+ghost use Rattle.scheme_model.specs.Order.{Note, Item as ModelItem};
+ghost use Rattle.scheme_model.specs.ScopedExpansion.{Frames, FramedIdent, ScopedState};
+ghost use Rattle.syntax_tree.specs.Names.{KeepsNames};
+ghost use Rattle.syntax_tree.specs.Works.{IsOpened, StandsFor, KeepsTrees, SameRegions, AddsIn};
+ghost use Rattle.datum_reader.specs.WellFormed.{WasRead};
+ghost use Rattle.datum_reader.specs.Views.{datum_of};
+ghost use Rattle.library_table.specs.UnitsRead.{forms_of};
+ghost use Rattle.core_tree.specs.Units.{IsBlank};
+ghost use Rattle.feature_requirements.specs.Judged.{Knows};
+ghost use Rattle.unit_scopes.specs.Stepped.{IsFresh};
+ghost use Rattle.unit_scopes.specs.Outcomes.{IsAtWork};
+ghost use Rattle.unit_scopes.specs.Units.{UnitStands, CountsFor, HasSpace, ItemFor, CanDeclare, Expands, declared, expanded};
+ghost use Rattle.form_expansion.specs.Forms.{IsBench, IsBegun, IsUntouched, IsDeclared, Passing, PassesTo, PassesForm, FinishesForm, CanPass, CanFinish, CanFinishAll, FormsHeld, Passes, Finishes, AreFormed, Unfolds, Stays, IsTurned};
+ghost use Rattle.document_units.specs.WereRead.{WereRead};
+
+use core_tree::traces::{FormFault, Trace};
+use core_tree::units::{ExpandedItem, UnitForm};
+use datum_reader::seed;
+use document_units::form_numbers::number_of;
+use expander::{
+    Budget, ExpandFault, Item, Left, UnitScope, WaitingUse, declare_form, expand_item, meet_uses,
+};
+use library_table::UnitForm as SourceForm;
+use ls_base::limits::MAX_UNIT_NODES;
+use ls_base::{Items, Mem, Memory, Steps};
+use std::alloc::Global;
+use std::sync::ledger::Ledger;
+use syntax_tree::trees::{PoolFault, Region, Tree, Work};
+
+/// What units are expanded with: the trees, the region of all that is made, and the scopes.
+#[derive(Drop)]
+pub struct Bench {
+    pub work: Work,
+    pub region: Region,
+    pub scope: UnitScope,
+}
+
+/// A form that was gone through: what it has counted and met, its macro uses that wait for what their literals mean, what it set
+/// aside, and its fault.
+#[derive(Drop)]
+struct Declared {
+    budget: Budget,
+    trace: Trace,
+    uses: Vec<WaitingUse>,
+    aside: Items<Item>,
+    fault: Option<FormFault>,
+}
+
+/// What the forms of the open unit expand to. `None` where they count too many nodes together, at which work on the unit ends.
+pub fn expand_forms<L: Ledger>(
+    alloc: Global,
+    bench: &mut Bench,
+    unit: u32,
+    forms: &[SourceForm],
+    steps: &mut Steps<L>,
+) -> Mem<Option<Items<UnitForm>>>
+    requires begun { IsBegun bench.old unit }
+    requires read { WereRead (forms_of forms.now) }
+    // The forms stand for what came of the unit's, and their definitions are told in order.
+    ensures formed { IfOk result (λ forms. IfSome forms (AreFormed bench.new.work unit)) }
+    ensures bench { OnOk result (IsBench bench.new) }
+    ensures stays { OnOk result (Stays bench.old bench.new) }
+    // They are the definition's, or work on the unit ended, and the bench stands for the state in which it did.
+    ensures unfolds { (known : Known) (ls : List Frames) (s : ScopedState) (p : Prepared) → Knows bench.old.scope.libraries known → UnitStands bench.old.work bench.old.scope ls s [] → s.unit ≡ unit →
+        ((form : ℕ) → IsFresh s form) → p.number ≡ unit → p.forms ≡ forms_of forms.now → IfOk result (Unfolds bench.new known p s) }
+    ensures count { IfOk result (λ expanded. IfSome expanded (λ expanded. length expanded ≡ length forms.now)) }
+{
+    let mut total = 0;
+    let declared = declare_all(alloc, bench, unit, forms, &mut total, steps)?;
+    if is_large(total) {
+        return Ok(None);
+    }
+    let expanded = finish_all(alloc, bench, unit, declared, &mut total, steps)?;
+    if is_large(total) {
+        return Ok(None);
+    }
+    Ok(Some(expanded))
+}
+
+/// Whether forms count too many nodes together.
+fn is_large(total: usize) -> bool
+    ensures { result ≡ nat_lt max_total total }
+{
+    total > MAX_UNIT_NODES
+}
+
+/// Goes through forms, until they count too many nodes.
+fn declare_all<L: Ledger>(
+    alloc: Global,
+    bench: &mut Bench,
+    unit: u32,
+    forms: &[SourceForm],
+    total: &mut usize,
+    steps: &mut Steps<L>,
+) -> Mem<Vec<Declared>>
+    requires begun { IsBegun bench.old unit }
+    requires read { WereRead (forms_of forms.now) }
+    requires nothing { total.old ≡ 0 }
+    ensures held { IfOk result (λ all. FormsHeld bench.new unit 0 all.items) }
+    ensures count { IfOk result (λ all. nat_lt max_total total.new ≡ false → vec_len all ≡ length forms.now) }
+    ensures stays { OnOk result (Stays bench.old bench.new) }
+    ensures passes { (known : Known) (ls : List Frames) (s : ScopedState) → Knows bench.old.scope.libraries known → UnitStands bench.old.work bench.old.scope ls s [] → s.unit ≡ unit → ((form : ℕ) → IsFresh s form) →
+        IfOk result (λ all. Passes bench.new unit known (forms_over (Written unit) unit 0 (forms_of forms.now)) s total.new all.items) }
+{
+    let mut all = Vec::new(alloc);
+    for (place, form) in forms.iter().enumerate() {
+        if is_large(*total) {
+            break;
+        }
+        let number = number_of(place)?;
+        let declared = declare(alloc, bench, unit, number, form, steps)?;
+        *total += declared.budget.nodes as usize;
+        all.push(declared)?;
+    }
+    Ok(all)
+}
+
+/// Goes through a form, unless it is a declaration.
+fn declare<L: Ledger>(
+    alloc: Global,
+    bench: &mut Bench,
+    unit: u32,
+    number: u32,
+    form: &SourceForm,
+    steps: &mut Steps<L>,
+) -> Mem<Declared>
+    requires region { IsOpened bench.old.work bench.old.region }
+    requires read { form.now.declared ≡ false → WasRead (datum_of form.now.datum) }
+    requires stands { CanPass bench.old unit number }
+    ensures blank { form.now.declared ≡ true → IfOk result IsUntouched }
+    ensures same { form.now.declared ≡ true → OnOk result (bench.new ≡ bench.old) }
+    ensures passes { (known : Known) (ls : List Frames) (s : ScopedState) (notes : List (Note FramedIdent)) → form.now.declared ≡ false → Knows bench.old.scope.libraries known →
+        UnitStands bench.old.work bench.old.scope ls s notes → s.unit ≡ unit → IsFresh s number →
+        IfOk result (PassesForm bench.old bench.new known unit number (datum_of form.now.datum) notes s) }
+    ensures few { IfOk result (λ form. form.budget.nodes ≤ 200000) }
+    ensures stays { OnOk result (Stays bench.old bench.new) }
+{
+    let blank = blank(alloc);
+    if form.declared {
+        return Ok(blank);
+    }
+    let Bench { work, region, .. } = bench;
+    match seed(alloc, work, region, &form.datum, unit, number) {
+        Ok(tree) => {
+            work.symbols.told_apart();
+            Ok(declare_tree(bench, tree, number, blank, steps)?)
+        }
+        Err(PoolFault::Full) => Err(Memory),
+        Err(PoolFault::Memory) => Err(Memory),
+    }
+}
+
+/// A form that has met nothing.
+fn blank(alloc: Global) -> Declared
+    ensures { IsUntouched result }
+{
+    Declared {
+        budget: Budget {
+            uses: 0,
+            nodes: 0,
+            locals: 0,
+        },
+        trace: blank_trace(alloc),
+        uses: Vec::new(alloc),
+        aside: Items::new(alloc),
+        fault: None,
+    }
+}
+
+/// A trace of nothing.
+pub fn blank_trace(alloc: Global) -> Trace
+    ensures definitions { result.definitions ≡ [] }
+    ensures keywords { result.keywords ≡ [] }
+    ensures uses { result.uses ≡ [] }
+{
+    Trace {
+        definitions: Items::new(alloc),
+        keywords: Items::new(alloc),
+        uses: Items::new(alloc),
+    }
+}
+
+/// Goes through the tree of a form.
+fn declare_tree<L: Ledger>(
+    bench: &mut Bench,
+    tree: Tree,
+    number: u32,
+    blank: Declared,
+    steps: &mut Steps<L>,
+) -> Mem<Declared>
+    requires region { IsOpened bench.old.work bench.old.region }
+    requires form { IsAtWork bench.old.work bench.old.region tree }
+    requires stands { CanDeclare bench.old.work bench.old.scope number blank.budget blank.trace }
+    requires blank { IsUntouched blank }
+    ensures passes { (known : Known) (ls : List Frames) (s : ScopedState) (notes : List (Note FramedIdent)) (t : ModelTree Identifier) → Knows bench.old.scope.libraries known →
+        UnitStands bench.old.work bench.old.scope ls s notes → CountsFor bench.old.work s number blank.budget blank.trace → StandsFor bench.old.work tree t →
+        IfOk result (PassesTo bench.old bench.new s.unit number s (declared known number t notes s)) }
+    ensures stays { OnOk result (Stays bench.old bench.new) }
+{
+    let Bench {
+        work,
+        region,
+        scope,
+    } = bench;
+    let mut form = blank;
+    match declare_form(
+        scope,
+        work,
+        region,
+        tree,
+        number,
+        &mut form.budget,
+        &mut form.trace,
+        steps,
+    ) {
+        Ok(left) => {
+            let Left { uses, items } = left;
+            form.uses = uses;
+            form.aside = items;
+            Ok(form)
+        }
+        Err(fault) => {
+            form.fault = Some(form_fault(fault)?);
+            Ok(form)
+        }
+    }
+}
+
+/// The fault of a broken form.
+fn form_fault(fault: ExpandFault) -> Mem<FormFault>
+    ensures { IfOk result (λ told. fault ≡ ExpandFault.At told) }
+{
+    match fault {
+        ExpandFault::At(fault) => Ok(fault),
+        ExpandFault::Full => Err(Memory),
+        ExpandFault::Memory => Err(Memory),
+    }
+}
+
+/// Expands what forms set aside, until they count too many nodes.
+fn finish_all<L: Ledger>(
+    alloc: Global,
+    bench: &mut Bench,
+    unit: u32,
+    declared: Vec<Declared>,
+    total: &mut usize,
+    steps: &mut Steps<L>,
+) -> Mem<Items<UnitForm>>
+    requires region { IsOpened bench.old.work bench.old.region }
+    requires held { FormsHeld bench.old unit 0 declared.items }
+    ensures formed { IfOk result (λ forms. nat_lt max_total total.new ≡ false → AreFormed bench.new.work unit forms) }
+    ensures count { IfOk result (λ forms. nat_lt max_total total.new ≡ false → length forms ≡ vec_len declared) }
+    ensures bench { OnOk result (IsBench bench.new) }
+    ensures stays { OnOk result (Stays bench.old bench.new) }
+    ensures finishes { (known : Known) (h : FormsHeld bench.old unit 0 declared.items) (rs : List (ℕ × Passing)) → Knows bench.old.scope.libraries known →
+        CanFinishAll bench.old unit known rs h.state total.old declared.items → IfOk result (Finishes bench.new unit known rs h.state total.new) }
+{
+    let mut forms = Items::new(alloc);
+    for (place, form) in declared.into_iter().enumerate() {
+        if is_large(*total) {
+            break;
+        }
+        let number = number_of(place)?;
+        forms.push(finish(alloc, bench, unit, number, form, total, steps)?)?;
+    }
+    Ok(forms)
+}
+
+/// Meets the uses of a form, and expands what it set aside. A broken form has nothing but its fault and what it defined.
+fn finish<L: Ledger>(
+    alloc: Global,
+    bench: &mut Bench,
+    unit: u32,
+    number: u32,
+    form: Declared,
+    total: &mut usize,
+    steps: &mut Steps<L>,
+) -> Mem<UnitForm>
+    requires region { IsOpened bench.old.work bench.old.region }
+    requires stands { CanFinish bench.old unit number form }
+    requires few { total.old ≤ max_total }
+    ensures blank { IsUntouched form → IfOk result IsBlank }
+    ensures same { IsUntouched form → OnOk result (IsTurned bench.old bench.new × (total.new ≡ total.old)) }
+    ensures finishes { (known : Known) (ls : List Frames) (s : ScopedState) (notes : List (Note FramedIdent)) (r : Passing) → Knows bench.old.scope.libraries known →
+        UnitStands bench.old.work bench.old.scope ls s notes → s.unit ≡ unit → IsDeclared bench.old.work bench.old.region unit number s form r →
+        IfOk result (FinishesForm bench.old bench.new known unit number r s total.old total.new) }
+    ensures stays { OnOk result (Stays bench.old bench.new) }
+{
+    let Declared {
+        mut budget,
+        mut trace,
+        uses,
+        aside,
+        fault,
+    } = form;
+    if fault.is_some() {
+        return Ok(broken(alloc, trace, fault));
+    }
+    let Bench { work, scope, .. } = bench;
+    meet_uses(scope, work, uses.as_slice(), number, budget, &mut trace)?;
+    let mut items = Items::new(alloc);
+    for item in aside.as_slice() {
+        if is_large(*total) {
+            break;
+        }
+        let before = budget.nodes;
+        match expand(bench, item, number, &mut budget, &mut trace, steps) {
+            Ok(expanded) => {
+                *total += expanded.count as usize;
+                items.push(expanded)?;
+            }
+            Err(ExpandFault::At(fault)) => {
+                *total += (budget.nodes - before) as usize;
+                return Ok(broken(alloc, trace, Some(fault)));
+            }
+            Err(ExpandFault::Full) => return Err(Memory),
+            Err(ExpandFault::Memory) => return Err(Memory),
+        }
+    }
+    Ok(UnitForm {
+        items,
+        trace,
+        fault: None,
+    })
+}
+
+/// A form that is broken, or isn't expanded.
+fn broken(alloc: Global, trace: Trace, fault: Option<FormFault>) -> UnitForm
+    ensures items { result.items ≡ [] }
+    ensures definitions { result.trace.definitions ≡ trace.definitions }
+    ensures keywords { result.trace.keywords ≡ [] }
+    ensures uses { result.trace.uses ≡ [] }
+    ensures fault { result.fault ≡ fault }
+{
+    let Trace { definitions, .. } = trace;
+    UnitForm {
+        items: Items::new(alloc),
+        trace: Trace {
+            definitions,
+            keywords: Items::new(alloc),
+            uses: Items::new(alloc),
+        },
+        fault,
+    }
+}
+
+/// Expands an item.
+fn expand<L: Ledger>(
+    bench: &mut Bench,
+    item: &Item,
+    number: u32,
+    budget: &mut Budget,
+    trace: &mut Trace,
+    steps: &mut Steps<L>,
+) -> Result<ExpandedItem, ExpandFault>
+    requires opened { IsOpened bench.old.work bench.old.region }
+    requires item { (i : ModelItem Identifier) × ItemFor bench.old.work bench.old.region bench.old.scope.unit number item.now i }
+    requires stands { CanDeclare bench.old.work bench.old.scope number budget.old trace.old }
+    requires space { HasSpace (2 ^ 43) budget.old }
+    ensures expanded { (known : Known) (ls : List Frames) (s : ScopedState) (notes : List (Note FramedIdent)) (i : ModelItem Identifier) → Knows bench.old.scope.libraries known →
+        UnitStands bench.old.work bench.old.scope ls s notes → CountsFor bench.old.work s number budget.old trace.old → ItemFor bench.old.work bench.old.region bench.old.scope.unit number item.now i →
+        Expands bench.old.work bench.new.work bench.old.region bench.old.scope bench.new.scope budget.old budget.new ls number trace.new notes result (expanded known number i s) }
+    ensures space { OnOk result (HasSpace (2 ^ 43) budget.new) }
+    ensures keeps { KeepsTrees bench.old.work bench.new.work }
+    ensures names { KeepsNames bench.old.work.symbols bench.new.work.symbols }
+    ensures added { AddsIn bench.old.work bench.new.work bench.old.region }
+    ensures regions { SameRegions bench.old.work bench.new.work }
+    ensures region { bench.new.region ≡ bench.old.region }
+{
+    let Bench {
+        work,
+        region,
+        scope,
+    } = bench;
+    expand_item(scope, work, region, item, number, budget, trace, steps)
+}

@@ -1,0 +1,6 @@
+//! The forms of a unit as they are gone through and expanded (R7RS 5.1, 5.3), behind the prelude.
+#![tactic(auto)]
+
+pub mod forms;
+pub mod prelude;
+pub mod refused;
