@@ -1,0 +1,2 @@
+pub mod SameLaws  -- No two points differ exactly where all agree; what is bound agrees with itself; and agreement goes both ways round
+pub mod SameShown  -- Comparisons of programs in the notation of rows
