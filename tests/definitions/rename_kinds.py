@@ -13,12 +13,8 @@ use Rattle.scheme_model.specs.StandardLibraries.{standard_libraries}
 use Rattle.scheme_model.specs.Prelude.{prelude}
 use Rattle.scheme_model.specs.Kinds as k
 use Rattle.scheme_model.specs.Data as g
-use Rattle.scheme_model.specs.Diagnostics.{Span}
 use Rattle.rename_model.specs.Difference as w
 use Rattle.rename_model.proofs.SameShown.{CALLED}
-
-abbrev s : ℕ → ℕ → Span
-s start end = record { start = start; end = end }
 
 abbrev p : ℕ → ℕ → ℕ → ℕ → g.Place
 p first last start end = record { first = first; last = last; start = start; end = end }
@@ -28,6 +24,12 @@ o unit form token = record { unit = unit; form = form; token = token }
 
 abbrev d : w.Kind → (unit form : ℕ) → Option Occ → (before after : w.Side) → w.Difference
 d kind unit form place before after = record { kind = kind; unit = unit; form = form; occ = place; before = before; after = after }
+"""
+SPANS = """use Rattle.scheme_model.specs.Diagnostics.{Span}
+
+abbrev s : ℕ → ℕ → Span
+s start end = record { start = start; end = end }
+
 """
 
 SIDES = {"binder": lambda v: f"(w.AtBinder {occ(v)})", "standard": lambda v: f"(w.OfStandard {terms.utf8(v)})",
@@ -82,7 +84,7 @@ class Renames(kinds.Kind):
     module = "RenameRows"
     says = "Open documents, and how they differ from what they are once identifiers that begin at these bytes have other names."
     unfolding = kinds.Workspaces.unfolding
-    head = HEAD.replace("CALLED", "renamed_rows")
+    head = HEAD.replace("CALLED", "renamed_rows").replace("\nabbrev p", SPANS + "abbrev p")
 
     def fits(self, row):
         return "edits" in row
