@@ -26,15 +26,15 @@ use Rattle.core_tree.specs.declared.traces.MacroUse.{MacroUse}
 use Rattle.core_tree.specs.declared.units.UnitForm.{UnitForm}
 use Rattle.core_tree.specs.declared.units.Unit.{Unit as CodeUnit}
 use Rattle.scheme_model.specs.Accesses.{assigned_in, referred_in, form_keywords, unit_keywords, all_keywords, target_places, written_in, read_in}
-use Rattle.arrow_index.specs.Index.{AreOccs}
+use Rattle.program_leaves.specs.Pairs.{AreOccs}
 use Rattle.arrow_index.specs.Keywords.{core_places, macro_places, trace_places, keyword_places, forms_keywords, units_keywords}
-use Rattle.arrow_index.specs.Members.{IsIn}
-use Rattle.arrow_index.specs.Placed.{occ_cmp}
+use Rattle.program_leaves.specs.Members.{IsIn}
+use Rattle.program_leaves.specs.Placed.{occ_cmp}
 use Rattle.arrow_index.proofs.ClassLaws.{member_in, in_member}
-use Rattle.arrow_index.proofs.MemberLaws.{in_left, in_right, in_either, in_from, contains_from, in_reverse, in_flat_map, from_flat_map}
-use Rattle.arrow_index.proofs.PlacedLaws.{fault_none, fault_some}
-use Rattle.arrow_index.proofs.QuotedLaws.{quoted_none}
-use Rattle.arrow_index.proofs.ToldLaws.{from_reverse}
+use Rattle.program_leaves.proofs.MemberLaws.{in_left, in_right, in_either, in_from, contains_from, in_reverse, in_flat_map, from_flat_map}
+use Rattle.program_leaves.proofs.PlacedLaws.{fault_none, fault_some}
+use Rattle.program_leaves.proofs.QuotedLaws.{quoted_none}
+use Rattle.program_leaves.proofs.ToldLaws.{from_reverse}
 
 -- ---- leaves
 

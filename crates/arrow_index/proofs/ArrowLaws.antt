@@ -8,9 +8,9 @@ use Rattle.scheme_model.specs.Cores.{Target}
 use Rattle.scheme_model.specs.Live as live
 use Rattle.scheme_model.specs.Live.{CoreLeaf, NameUse}
 use Rattle.scheme_model.specs.ProgramArrows.{Arrow, arrow_of, target_arrows, name_arrows, core_targets, macro_arrows, rule_arrows, leaf_arrows}
-use Rattle.arrow_index.specs.Members.{IsIn}
-use Rattle.arrow_index.specs.Variables.{all_arrows_at}
-use Rattle.arrow_index.proofs.MemberLaws.{in_left, in_right, in_either, among}
+use Rattle.program_leaves.specs.Members.{IsIn}
+use Rattle.program_leaves.specs.Variables.{all_arrows_at}
+use Rattle.program_leaves.proofs.MemberLaws.{in_left, in_right, in_either, among}
 
 abbrev of_target : (Meaning → Option Occ) → Target → List Arrow
 of_target binder t = arrow_of (binder t.meaning) t.occ

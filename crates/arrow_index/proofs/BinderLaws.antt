@@ -8,34 +8,29 @@ use Rattle.std.proofs.lemmas.List.{append-nil, map-append}
 use Rattle.std.proofs.lemmas.Grind.{flat_map-append}
 use Rattle.scheme_model.specs.declared.Occ.{Occ}
 use Rattle.scheme_model.specs.Entries.{same_occ}
-use Rattle.scheme_model.specs.Ident.{Ident as Identifier}
 use Rattle.scheme_model.specs.Live as live
 use Rattle.scheme_model.specs.Live.{CoreLeaf, name_places}
 use Rattle.scheme_model.specs.Trees.{Tree}
 use Rattle.scheme_model.specs.Requirements.{LibraryName}
-use Rattle.scheme_model.specs.RulesShape.{Variable}
 use Rattle.scheme_model.specs.Substitution.{Table, Defined}
 use Rattle.scheme_model.specs.Program.{Placed, Program, UnitResult, result_at}
-use Rattle.scheme_model.specs.ProgramArrows.{Arrow, any, places_at, variable_places, rule_binders, leaf_binders, table_binders, binders_in, itself_among, binders_at, arrows_of, program_leaves, program_table, is_whole}
+use Rattle.scheme_model.specs.ProgramArrows.{Arrow, any, places_at, rule_binders, leaf_binders, table_binders, binders_in, itself_among, binders_at, arrows_of, program_leaves, program_table, is_whole}
 use Rattle.syntax_tree.specs.Names.{Names}
-use Rattle.syntax_tree.specs.Placed.{IsNamed}
-use Rattle.syntax_tree.specs.declared.rules.Named as code
 use Rattle.syntax_tree.specs.declared.trees.Work.{Work}
-use Rattle.core_tree.specs.Names.{AllMatch}
 use Rattle.core_tree.specs.Units.{AreDefinitions, definitions_from, defined_by, UnitsStand}
 use Rattle.core_tree.specs.declared.cores.Binder.{Binder}
 use Rattle.core_tree.specs.declared.units.UnitForm.{UnitForm}
 use Rattle.core_tree.specs.declared.units.Unit.{Unit as CodeUnit}
-use Rattle.arrow_index.specs.declared.pairs.Pair.{Pair}
-use Rattle.arrow_index.specs.Members.{IsIn}
-use Rattle.arrow_index.specs.Index.{as_arrow, AreArrows, AreOccs}
-use Rattle.arrow_index.specs.Placed.{occ_cmp}
+use Rattle.program_leaves.specs.declared.pairs.Pair.{Pair}
+use Rattle.program_leaves.specs.Members.{IsIn}
+use Rattle.program_leaves.specs.Pairs.{as_arrow, AreArrows, AreOccs}
+use Rattle.program_leaves.specs.Placed.{occ_cmp}
 use Rattle.arrow_index.specs.Binders.{defined_places, form_places, unit_places, binders_with}
-use Rattle.arrow_index.proofs.MemberLaws.{in_left, in_right, in_either, in_from, contains_from, in_reverse, in_map, from_map, in_flat_map, from_flat_map}
-use Rattle.arrow_index.proofs.ToldLaws.{from_reverse}
-use Rattle.arrow_index.proofs.KeyLaws.{one_occ}
-use Rattle.arrow_index.proofs.GivenLaws.{bare_form}
-use Rattle.arrow_index.proofs.QuotedLaws.{quoted_none}
+use Rattle.program_leaves.proofs.MemberLaws.{in_left, in_right, in_either, in_from, contains_from, in_reverse, in_map, from_map, in_flat_map, from_flat_map}
+use Rattle.program_leaves.proofs.ToldLaws.{from_reverse}
+use Rattle.program_leaves.proofs.KeyLaws.{one_occ}
+use Rattle.program_leaves.proofs.GivenLaws.{bare_form}
+use Rattle.program_leaves.proofs.QuotedLaws.{quoted_none}
 
 -- ---- leaves
 
@@ -53,20 +48,6 @@ quoted_binds f t = quoted_none leaf_binders binders-append refl (λ o. refl) f t
 
 pub none_added : (old : List Occ) (ls : List CoreLeaf) → leaf_binders ls ≡ [] → old ≡ old ++ leaf_binders ls
 none_added old ls e = sym (append-nil old) ∙ ap (λ (q : List Occ). old ++ q) (sym e)
-
-pub some_added : (old new xs ys : List Occ) → new ≡ old ++ xs → ys ≡ xs → new ≡ old ++ ys
-some_added old new xs ys h e = h ∙ ap (λ (q : List Occ). old ++ q) (sym e)
-
-pub both_added : (old mid new xs ys zs : List Occ) → mid ≡ old ++ xs → new ≡ mid ++ ys → zs ≡ xs ++ ys → new ≡ old ++ zs
-both_added old mid new xs ys zs h k e = k ∙ ap (λ (q : List Occ). q ++ ys) h ∙ append_assoc old xs ys ∙ ap (λ (q : List Occ). old ++ q) (sym e)
-
--- ---- pattern variables
-
-pub variables_at : (names : Names) (vs : List code.Named) (ws : List (Variable Identifier)) → AllMatch (IsNamed names) vs (map (λ v. v.variable) ws) → flat_map (λ (n : code.Named). places_at n.occ) vs ≡ variable_places ws
-variables_at names [] [] h = refl
-variables_at names [] (w ∷ ws) h = absurd h
-variables_at names (v ∷ vs) [] h = absurd h
-variables_at names (v ∷ vs) (w ∷ ws) h = λ j. places_at (h.0.1 j) ++ variables_at names vs ws h.1 j
 
 -- ---- definitions
 

@@ -7,9 +7,9 @@ use Rattle.std.proofs.lemmas.Bool.Decides.{nat_tests}
 use Rattle.scheme_model.specs.declared.Occ.{Occ}
 use Rattle.scheme_model.specs.Entries.{Source, At, StandardName, same_occ}
 use Rattle.scheme_model.specs.Spelling.{Link, is_member, with_member, across, joined, closed, class_of}
-use Rattle.arrow_index.specs.Members.{IsIn}
+use Rattle.program_leaves.specs.Members.{IsIn}
 use Rattle.arrow_index.specs.Classes.{HasBothOrNone, IsClosed}
-use Rattle.arrow_index.proofs.KeyLaws.{one_occ, left, right}
+use Rattle.program_leaves.proofs.KeyLaws.{one_occ, left, right}
 
 -- ---- tests
 

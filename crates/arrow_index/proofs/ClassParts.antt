@@ -14,17 +14,17 @@ use Rattle.scheme_model.specs.declared.Occ.{Occ}
 use Rattle.scheme_model.specs.Entries.{Source, At, StandardName, same_occ}
 use Rattle.scheme_model.specs.Spelling.{Link, is_member, class_of, has_prefix, prefixes_of, standard_origins, is_joined, is_end}
 use Rattle.syntax_tree.proofs.InternLaws.{bytes_told}
-use Rattle.arrow_index.specs.Members.{IsIn}
-use Rattle.arrow_index.specs.Placed.{occ_cmp}
+use Rattle.program_leaves.specs.Members.{IsIn}
+use Rattle.program_leaves.specs.Placed.{occ_cmp}
 use Rattle.arrow_index.specs.Links.{source_of, as_link}
 use Rattle.arrow_index.specs.Classes.{parts_from, name_from, names_from, has_part, part_cmp, AreSaid, AreParts, AreStandard}
 use Rattle.arrow_index.specs.declared.links.Link as code_link
 use Rattle.arrow_index.specs.declared.links.LinkOrigin.{LinkOrigin}
 use Rattle.arrow_index.specs.declared.links.LinkOrigin.TheVariants.{Place, Standard}
 use Rattle.arrow_index.specs.declared.classes.ClassPart.{ClassPart}
-use Rattle.arrow_index.proofs.KeyLaws.{both_equal, occs_equal, one_occ, left, right}
-use Rattle.arrow_index.proofs.MemberLaws.{in_left, in_right, in_either, in_from, contains_from, in_map, from_map, in_flat_map, from_flat_map}
-use Rattle.arrow_index.proofs.Orders.{occ_total}
+use Rattle.program_leaves.proofs.KeyLaws.{both_equal, occs_equal, one_occ, left, right}
+use Rattle.program_leaves.proofs.MemberLaws.{in_left, in_right, in_either, in_from, contains_from, in_map, from_map, in_flat_map, from_flat_map}
+use Rattle.program_leaves.proofs.Orders.{occ_total}
 use Rattle.arrow_index.proofs.ClassLaws.{or_left, same_test, itself, member_in, in_member, same_class}
 use Rattle.arrow_index.proofs.ClassWalks.{any_from, any_in, same_joined}
 

@@ -10,15 +10,15 @@ use Rattle.scheme_model.specs.declared.Occ.{Occ}
 use Rattle.scheme_model.specs.Entries.{Source, At, StandardName, same_occ}
 use Rattle.scheme_model.specs.ProgramArrows.{Arrow, uses_at}
 use Rattle.scheme_model.specs.Spelling.{Link, is_member, class_of, is_place, is_end, is_joined}
-use Rattle.arrow_index.specs.Index.{AreOccs}
-use Rattle.arrow_index.specs.Members.{IsIn}
-use Rattle.arrow_index.specs.Placed.{occ_cmp}
+use Rattle.program_leaves.specs.Pairs.{AreOccs}
+use Rattle.program_leaves.specs.Members.{IsIn}
+use Rattle.program_leaves.specs.Placed.{occ_cmp}
 use Rattle.arrow_index.specs.Links.{source_of, as_link}
 use Rattle.arrow_index.specs.declared.links.LinkOrigin.{LinkOrigin}
 use Rattle.arrow_index.specs.declared.links.LinkOrigin.TheVariants.{Place, Standard}
 use Rattle.arrow_index.specs.Classes.{HasBothOrNone, IsClosed, ways_across, ways_over, ways_of, Gains, Reaches}
-use Rattle.arrow_index.proofs.KeyLaws.{one_occ, occs_equal, occs_flip, occ_added}
-use Rattle.arrow_index.proofs.MemberLaws.{in_from, contains_from, in_map, from_map, in_flat_map, from_flat_map}
+use Rattle.program_leaves.proofs.KeyLaws.{one_occ, occs_equal, occs_flip, occ_added}
+use Rattle.program_leaves.proofs.MemberLaws.{in_from, contains_from, in_map, from_map, in_flat_map, from_flat_map}
 use Rattle.arrow_index.proofs.BinderLaws.{in_filter, from_filter}
 use Rattle.arrow_index.proofs.ClassLaws.{or_left, or_right, same_test, itself, member_in, in_member, class_holds, class_closed, class_least}
 

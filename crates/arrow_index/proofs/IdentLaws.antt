@@ -23,10 +23,10 @@ use Rattle.syntax_tree.specs.declared.symbols.UseNo.{UseNo}
 use Rattle.syntax_tree.specs.declared.symbols.Ident.TheVariants as entry
 use Rattle.syntax_tree.specs.declared.trees.Work.{Work}
 use Rattle.syntax_tree.specs.declared.units.Entry as code_entry
-use Rattle.arrow_index.specs.declared.sight.Sight.{Sight}
-use Rattle.arrow_index.specs.Placed.{global_cmp}
-use Rattle.arrow_index.specs.Sights.{Sees}
-use Rattle.arrow_index.specs.Entries.{IsEntryOf}
+use Rattle.program_leaves.specs.declared.sight.Sight.{Sight}
+use Rattle.program_leaves.specs.Placed.{global_cmp}
+use Rattle.program_leaves.specs.Sights.{Sees}
+use Rattle.program_leaves.specs.Entries.{IsEntryOf}
 
 mapped_from : {A B : Type 0} (f : A → B) (o : Option A) (b : B) → option_map f o ≡ Some b → (a : A) × (o ≡ Some a) × (f a ≡ b)
 mapped_from f None b h = absurd cc

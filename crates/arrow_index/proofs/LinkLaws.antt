@@ -16,7 +16,7 @@ use Rattle.scheme_model.specs.Trees.{Tree}
 use Rattle.syntax_tree.specs.Meant.{IsOrigin, AreOrigins}
 use Rattle.syntax_tree.specs.declared.units.Origin as code_origin
 use Rattle.core_tree.specs.Names.{AllMatch}
-use Rattle.arrow_index.proofs.QuotedLaws.{quoted_none}
+use Rattle.program_leaves.proofs.QuotedLaws.{quoted_none}
 
 pub are_match : (m : Meaning) (os : List code_origin.Origin) (ps : List Origin) → AreOrigins m os ps → AllMatch (IsOrigin m) os ps
 are_match m [] [] h = tt

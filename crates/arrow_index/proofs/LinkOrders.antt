@@ -11,9 +11,9 @@ use Rattle.std.proofs.lemmas.Map.Text.{is_eq-slice_cmp}
 use Rattle.scheme_model.specs.declared.Occ.{Occ}
 use Rattle.scheme_model.specs.Entries.{Source, At, StandardName, same_occ}
 use Rattle.syntax_tree.proofs.InternLaws.{bytes_told}
-use Rattle.arrow_index.specs.Placed.{occ_cmp}
-use Rattle.arrow_index.proofs.KeyLaws.{both_equal, occs_equal, one_occ, left, right}
-use Rattle.arrow_index.proofs.Orders.{occ_total}
+use Rattle.program_leaves.specs.Placed.{occ_cmp}
+use Rattle.program_leaves.proofs.KeyLaws.{both_equal, occs_equal, one_occ, left, right}
+use Rattle.program_leaves.proofs.Orders.{occ_total}
 use Rattle.arrow_index.specs.contracts.links.LinkOrd.TheImpl.{cmp-value}
 use Rattle.arrow_index.specs.contracts.links.LinkPartialEq.TheImpl.{eq-value}
 use Rattle.arrow_index.specs.Links.{source_of, as_link, origin_cmp, link_cmp}

@@ -10,15 +10,15 @@ use Rattle.std.proofs.lemmas.Bool.{cases_order}
 use Rattle.scheme_model.specs.declared.Occ.{Occ}
 use Rattle.scheme_model.specs.Entries.{same_occ}
 use Rattle.scheme_model.specs.ProgramArrows.{Arrow, uses_at}
-use Rattle.arrow_index.specs.declared.pairs.Pair.{Pair}
-use Rattle.arrow_index.specs.Members.{IsIn}
-use Rattle.arrow_index.specs.Index.{as_arrow, pair_cmp, AreArrows, AreOccs}
-use Rattle.arrow_index.specs.Placed.{occ_cmp}
+use Rattle.program_leaves.specs.declared.pairs.Pair.{Pair}
+use Rattle.program_leaves.specs.Members.{IsIn}
+use Rattle.program_leaves.specs.Pairs.{as_arrow, pair_cmp, AreArrows, AreOccs}
+use Rattle.program_leaves.specs.Placed.{occ_cmp}
 use Rattle.arrow_index.specs.Binders.{targets_with}
-use Rattle.arrow_index.proofs.MemberLaws.{in_from, contains_from, in_map, from_map, in_flat_map, from_flat_map}
-use Rattle.arrow_index.proofs.KeyLaws.{one_occ, occs_equal}
+use Rattle.program_leaves.proofs.MemberLaws.{in_from, contains_from, in_map, from_map, in_flat_map, from_flat_map}
+use Rattle.program_leaves.proofs.KeyLaws.{one_occ, occs_equal}
 use Rattle.arrow_index.proofs.BinderLaws.{in_filter, from_filter, if_there, if_from}
-use Rattle.arrow_index.proofs.Orders.{occ_total}
+use Rattle.program_leaves.proofs.Orders.{occ_total}
 
 -- ---- orders
 

@@ -10,11 +10,11 @@ use Rattle.std.proofs.lemmas.Bool.{cases_order}
 use Rattle.scheme_model.specs.declared.Occ.{Occ}
 use Rattle.scheme_model.specs.Entries.{same_occ}
 use Rattle.scheme_model.specs.Spelling.{is_member}
-use Rattle.arrow_index.specs.Members.{IsIn}
-use Rattle.arrow_index.specs.Placed.{occ_cmp}
+use Rattle.program_leaves.specs.Members.{IsIn}
+use Rattle.program_leaves.specs.Placed.{occ_cmp}
 use Rattle.arrow_index.proofs.ClassLaws.{itself, member_in, in_member}
-use Rattle.arrow_index.proofs.KeyLaws.{one_occ, occs_equal}
-use Rattle.arrow_index.proofs.Orders.{occ_total}
+use Rattle.program_leaves.proofs.KeyLaws.{one_occ, occs_equal}
+use Rattle.program_leaves.proofs.Orders.{occ_total}
 
 later : (x : Occ) (xs : List Occ) (j : ℕ) (d : Occ) → AllByRecursion (λ (y : Occ). occ_cmp x y ≡ Less) xs → j < length xs → occ_cmp x (get_or xs j d) ≡ Less
 later x [] j d h lt = absurd (omega (arith, lt))

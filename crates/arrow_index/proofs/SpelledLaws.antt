@@ -14,10 +14,10 @@ use Rattle.syntax_tree.specs.declared.trees.Work.{Work}
 use Rattle.core_tree.specs.Names.{AllMatch}
 use Rattle.core_tree.specs.Units.{UnitsStand, unless_broken}
 use Rattle.core_tree.specs.declared.units.Unit.{Unit as CodeUnit}
-use Rattle.arrow_index.specs.Members.{IsIn}
-use Rattle.arrow_index.specs.Sights.{IsNameOf, all_names, all_seconds}
-use Rattle.arrow_index.proofs.AddLaws.{part_match}
-use Rattle.arrow_index.proofs.MemberLaws.{in_left, in_right, in_either, among}
+use Rattle.program_leaves.specs.Members.{IsIn}
+use Rattle.program_leaves.specs.Sights.{IsNameOf, all_names, all_seconds}
+use Rattle.program_leaves.proofs.AddLaws.{part_match}
+use Rattle.program_leaves.proofs.MemberLaws.{in_left, in_right, in_either, among}
 use Rattle.arrow_index.proofs.LinkLaws.{of_target, targets-append}
 
 abbrev of_name : NameUse → List Link

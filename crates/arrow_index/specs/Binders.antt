@@ -7,7 +7,7 @@ use Rattle.scheme_model.specs.ProgramArrows.{places_at}
 use Rattle.core_tree.specs.declared.cores.Binder.{Binder}
 use Rattle.core_tree.specs.declared.units.UnitForm.{UnitForm}
 use Rattle.core_tree.specs.declared.units.Unit.{Unit as CodeUnit}
-use Rattle.arrow_index.specs.declared.pairs.Pair.{Pair}
+use Rattle.program_leaves.specs.declared.pairs.Pair.{Pair}
 
 abbrev pub defined_places : List Binder → List Occ
 defined_places bs = flat_map (λ (b : Binder). places_at b.occ) bs

@@ -10,8 +10,8 @@ use Rattle.scheme_model.specs.declared.Occ.{Occ}
 use Rattle.scheme_model.specs.Entries.{Source, At, StandardName, same_occ}
 use Rattle.scheme_model.specs.ProgramArrows.{Arrow}
 use Rattle.scheme_model.specs.Spelling.{Link, is_member, class_of, prefixes_of, standard_origins}
-use Rattle.arrow_index.specs.Members.{IsIn}
-use Rattle.arrow_index.specs.Placed.{occ_cmp}
+use Rattle.program_leaves.specs.Members.{IsIn}
+use Rattle.program_leaves.specs.Placed.{occ_cmp}
 use Rattle.arrow_index.specs.Links.{as_link}
 use Rattle.arrow_index.specs.declared.links.Link as code_link
 use Rattle.arrow_index.specs.declared.links.LinkOrigin.{LinkOrigin}

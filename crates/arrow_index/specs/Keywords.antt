@@ -8,7 +8,7 @@ use Rattle.core_tree.specs.declared.traces.MacroUse.{MacroUse}
 use Rattle.core_tree.specs.declared.traces.Trace.{Trace}
 use Rattle.core_tree.specs.declared.units.UnitForm.{UnitForm}
 use Rattle.core_tree.specs.declared.units.Unit.{Unit as CodeUnit}
-use Rattle.arrow_index.specs.Placed.{unless_fault}
+use Rattle.program_leaves.specs.Placed.{unless_fault}
 
 abbrev pub core_places : List Target → List Occ
 core_places ts = flat_map (λ (t : Target). places_at t.occ) ts

@@ -8,7 +8,7 @@ use Rattle.std.specs.declared.cmp.Ordering.{Ordering}
 use Rattle.std.specs.declared.cmp.Ordering.TheVariants.{Less, Greater}
 use Rattle.scheme_model.specs.Entries.{Source, At, StandardName}
 use Rattle.scheme_model.specs.Spelling.{Link}
-use Rattle.arrow_index.specs.Placed.{occ_cmp}
+use Rattle.program_leaves.specs.Placed.{occ_cmp}
 use Rattle.arrow_index.specs.declared.links.Link as code_link
 use Rattle.arrow_index.specs.declared.links.LinkOrigin.{LinkOrigin}
 use Rattle.arrow_index.specs.declared.links.LinkOrigin.TheVariants as origins

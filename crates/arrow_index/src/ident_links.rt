@@ -7,14 +7,14 @@ ghost use Rattle.scheme_model.specs.Program.{UnitResult};
 ghost use Rattle.scheme_model.specs.Substitution.{Table};
 ghost use Rattle.scheme_model.specs.Spelling.{links_at, ident_origins, imported_origins};
 ghost use Rattle.syntax_tree.specs.Macros.{IsIdent};
-ghost use Rattle.arrow_index.specs.Sights.{Sees};
-ghost use Rattle.arrow_index.specs.Entries.{Gives};
+ghost use Rattle.program_leaves.specs.Sights.{Sees};
+ghost use Rattle.program_leaves.specs.Entries.{Gives};
 ghost use Rattle.arrow_index.specs.Links.{as_link};
 
-use crate::entries::Entries;
 use crate::links::{Link, add_link, link_origins};
-use crate::sight::Sight;
 use ls_base::Mem;
+use program_leaves::entries::Entries;
+use program_leaves::sight::Sight;
 use scheme_model::Occ;
 use std::alloc::Global;
 use syntax_tree::symbols::{IdNo, Ident, SymNo};

@@ -2,7 +2,7 @@
 ghost use Rattle.std.specs.Prelude.{◌≡◌, ◌↔◌, List, Bool, true};
 ghost use Rattle.scheme_model.specs.declared.Occ.{Occ};
 ghost use Rattle.scheme_model.specs.Spelling.{Link, is_member, class_of};
-ghost use Rattle.arrow_index.specs.Members.{IsIn};
+ghost use Rattle.program_leaves.specs.Members.{IsIn};
 ghost use Rattle.arrow_index.specs.Classes.{IsClosed};
 
 /// The class of an occurrence is the least set that holds it and has with an end of a link the other one, so it hangs on which links

@@ -4,11 +4,11 @@ ghost use Rattle.scheme_model.specs.Entries.{Origin as ModelOrigin, Source, Stan
 ghost use Rattle.scheme_model.specs.Meaning.{Meaning as ModelMeaning};
 ghost use Rattle.scheme_model.specs.Spelling.{links_at, links_to_themselves, arrow_links};
 ghost use Rattle.syntax_tree.specs.Meant.{IsGivenMeaning, IsSource, IsOrigin, AreOrigins};
-ghost use Rattle.arrow_index.specs.Index.{as_arrow};
+ghost use Rattle.program_leaves.specs.Pairs.{as_arrow};
 ghost use Rattle.arrow_index.specs.Links.{as_link};
 
-use crate::pairs::Pair;
 use ls_base::{Mem, Text};
+use program_leaves::pairs::Pair;
 use scheme_model::Occ;
 use std::alloc::Global;
 use syntax_tree::meaning::Meaning;

@@ -3,11 +3,11 @@ ghost use Rattle.std.specs.Prelude.{◌≡◌, ◌≤◌, List, length, not, tru
 ghost use Rattle.std.specs.List.Sorted.{IsPartitionPoint, IsStrictlySortedBy};
 ghost use Rattle.std.specs.Ordering.{is_lt};
 ghost use Rattle.scheme_model.specs.ProgramArrows.{Arrow, uses_at};
-ghost use Rattle.arrow_index.specs.Placed.{occ_cmp};
-ghost use Rattle.arrow_index.specs.Index.{pair_cmp, AreArrows, AreOccs};
+ghost use Rattle.program_leaves.specs.Placed.{occ_cmp};
+ghost use Rattle.program_leaves.specs.Pairs.{pair_cmp, AreArrows, AreOccs};
 
-use crate::pairs::Pair;
 use ls_base::{Items, Mem};
+use program_leaves::pairs::Pair;
 use scheme_model::Occ;
 use std::alloc::Global;
 

@@ -8,18 +8,18 @@ ghost use Rattle.scheme_model.specs.ProgramArrows.{binders_in as program_binders
 ghost use Rattle.scheme_model.specs.Requirements.{LibraryName};
 ghost use Rattle.scheme_model.specs.Spelling.{Link as ModelLink, links_of};
 ghost use Rattle.core_tree.specs.Units.{ProgramStands, IsProgramOf};
-ghost use Rattle.arrow_index.specs.Members.{IsIn};
-ghost use Rattle.arrow_index.specs.Sights.{SeesProgram, IsSightOf};
+ghost use Rattle.program_leaves.specs.Members.{IsIn};
+ghost use Rattle.program_leaves.specs.Sights.{SeesProgram, IsSightOf};
 ghost use Rattle.arrow_index.specs.Links.{as_link, link_cmp, AreLinks};
 ghost use Rattle.arrow_index.specs.declared.links.Link.{Link as AnyLink};
 
 use crate::binders::binders_in;
-use crate::entries::Entries;
 use crate::links::{Link, link_themselves};
-use crate::sight::Sight;
 use crate::use_links::{link_all_names, link_macros, link_seconds, link_targets, link_uses};
 use core_tree::units::Program;
 use ls_base::{Items, Mem};
+use program_leaves::entries::Entries;
+use program_leaves::sight::Sight;
 use scheme_model::Occ;
 use std::alloc::Global;
 use syntax_tree::trees::Work;

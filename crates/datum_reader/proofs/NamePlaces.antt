@@ -15,10 +15,10 @@ module _ (tokens : List Token) where
   -- ---- what is numbered stands at its number
 
   -- these are the tokens from a number on
-  record From (k : ℕ) (xs : List Numbered) : Type 0 where
-    ts : List Token
-    numbered : xs ≡ number_from k ts
-    there : (i : ℕ) → slice_get tokens (k + i) ≡ slice_get ts i
+  pub record From (k : ℕ) (xs : List Numbered) : Type 0 where
+    pub ts : List Token
+    pub numbered : xs ≡ number_from k ts
+    pub there : (i : ℕ) → slice_get tokens (k + i) ≡ slice_get ts i
 
   -- the first of them, and those behind it
   record Step (k : ℕ) (x : Numbered) (xs : List Numbered) : Type 0 where
@@ -46,7 +46,7 @@ module _ (tokens : List Token) where
 
   -- ---- data whose names stand at their places, none before the datum's own
 
-  abbrev NameAt : ℕ → Leaf → Type 0
+  abbrev pub NameAt : ℕ → Leaf → Type 0
   NameAt n (Name name bars) = IsNameToken tokens n (encode_utf8_all name)
   NameAt n (Numeral text) = Unit {0}
   NameAt n (Quoted text) = Unit {0}
@@ -54,14 +54,14 @@ module _ (tokens : List Token) where
   NameAt n (Truth b) = Unit {0}
 
   abbrev mutual
-    Placed : Datum → Type 0
+    pub Placed : Datum → Type 0
     Placed (atom p (spelled leaf)) = NameAt p.first leaf
     Placed (atom p (implied mark)) = Unit {0}
     Placed (list p ds) = AllPlaced p.first ds
     Placed (vector p ds) = AllPlaced p.first ds
     Placed (bytes p texts) = Unit {0}
 
-    AllPlaced : ℕ → Data → Type 0
+    pub AllPlaced : ℕ → Data → Type 0
     AllPlaced low none = Unit {0}
     AllPlaced low (part d ds) = (low ≤ (place_of d).first) × (Placed d × AllPlaced low ds)
     AllPlaced low (tail d) = (low ≤ (place_of d).first) × Placed d
@@ -86,19 +86,19 @@ module _ (tokens : List Token) where
 
   -- ---- what was written
 
-  record Past (k : ℕ) (rest : List Numbered) : Type 0 where
-    next : ℕ
-    later : k ≤ next
-    from : From next rest
+  pub record Past (k : ℕ) (rest : List Numbered) : Type 0 where
+    pub next : ℕ
+    pub later : k ≤ next
+    pub from : From next rest
 
   record Meant (k : ℕ) (d : Datum) (rest : List Numbered) : Type 0 where
     first : (place_of d).first ≡ k
     placed : Placed d
     past : Past k rest
 
-  record Row (k low : ℕ) (ps : Parts) (rest : List Numbered) : Type 0 where
-    past : Past k rest
-    all : (end : Data) → AllPlaced low end → AllPlaced low (row (parts_meant ps) end)
+  pub record Row (k low : ℕ) (ps : Parts) (rest : List Numbered) : Type 0 where
+    pub past : Past k rest
+    pub all : (end : Data) → AllPlaced low end → AllPlaced low (row (parts_meant ps) end)
 
   past_more : (k m : ℕ) (rest : List Numbered) → k ≤ m → Past m rest → Past k rest
   past_more k m rest h p = record { next = p.next; later = omega (arith, h, p.later); from = p.from }
@@ -170,7 +170,7 @@ module _ (tokens : List Token) where
           past = past_more k b.next rest (omega (arith, b.later)) e.past;
         }
 
-    parts_placed : (ps : Parts) (k low : ℕ) (rest : List Numbered) → low ≤ k → From k (parts_tokens ps rest) → Row k low ps rest
+    pub parts_placed : (ps : Parts) (k low : ℕ) (rest : List Numbered) → low ≤ k → From k (parts_tokens ps rest) → Row k low ps rest
     parts_placed (last g) k low rest h f = record { past = gap_past g k rest f; all = λ end a. a }
     parts_placed (next g w ps) k low rest h f =
         let a = gap_past g k _ f in

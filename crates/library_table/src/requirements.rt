@@ -42,18 +42,6 @@ fn connective_in(word: &str) -> Connective
     Connective::Unknown
 }
 
-fn both(a: bool, b: bool) -> bool
-    ensures { result ≡ (a && b) }
-{
-    a && b
-}
-
-fn either(a: bool, b: bool) -> bool
-    ensures { result ≡ (a || b) }
-{
-    a || b
-}
-
 /// Whether there is the one library that is named.
 fn library_holds(
     alloc: Global,
@@ -142,7 +130,7 @@ fn all_hold(alloc: Global, known: &BTreeSet<String>, parts: &[Datum]) -> Result<
     let mut hold = true;
     for part in parts {
         let here = holds(alloc, known, part)?;
-        let next = both(hold, here);
+        let next = hold & here;
         hold = next;
     }
     Ok(hold)
@@ -157,7 +145,7 @@ fn some_holds(alloc: Global, known: &BTreeSet<String>, parts: &[Datum]) -> Resul
     let mut hold = false;
     for part in parts {
         let here = holds(alloc, known, part)?;
-        let next = either(hold, here);
+        let next = hold | here;
         hold = next;
     }
     Ok(hold)

@@ -21,12 +21,12 @@ use Rattle.program_answers.specs.declared.bytes.Lit as code_lit
 use Rattle.scheme_model.specs.Diagnostics.{Bytes}
 use Rattle.scheme_model.specs.ProgramArrows.{Arrow, uses_at}
 use Rattle.scheme_model.specs.Session.{Query, Definition, References, Highlights, Prepare, Arrows}
-use Rattle.arrow_index.specs.Index.{as_arrow, AreArrows, AreOccs}
-use Rattle.arrow_index.specs.Members.{IsIn}
-use Rattle.arrow_index.specs.declared.pairs.Pair.{Pair}
+use Rattle.program_leaves.specs.Pairs.{as_arrow, AreArrows, AreOccs}
+use Rattle.program_leaves.specs.Members.{IsIn}
+use Rattle.program_leaves.specs.declared.pairs.Pair.{Pair}
 use Rattle.arrow_index.proofs.BinderLaws.{from_filter}
-use Rattle.arrow_index.proofs.Growing.{flat_next}
-use Rattle.arrow_index.proofs.MemberLaws.{in_from, contains_from, in_map, from_map}
+use Rattle.program_leaves.proofs.Growing.{flat_next}
+use Rattle.program_leaves.proofs.MemberLaws.{in_from, contains_from, in_map, from_map}
 use Rattle.scheme_model.specs.Answers.{Nothing, Prepared, Facts, answer_about, answer_at, binders_for, bytes_before, drawn_before, drawn_in, is_bound, is_in, kind_of, lit_before, lit_in, no_answer, ordered_by, places_for, uses_for}
 use Rattle.program_answers.specs.BytesKept.{bytes_seen, has_end, lit_seen, pair_bytes}
 use Rattle.program_answers.proofs.BytesLaws.{bytes_cmp, bytes_order, drawn_order, lit_order, pair_cmp, text_order}

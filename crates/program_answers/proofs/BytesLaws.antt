@@ -12,7 +12,7 @@ use Rattle.std.proofs.lemmas.Map.Text.{is_eq-slice_cmp}
 use Rattle.scheme_model.specs.Diagnostics.{Bytes}
 use Rattle.scheme_model.specs.Entries.{is_below}
 use Rattle.syntax_tree.proofs.InternLaws.{bytes_told}
-use Rattle.arrow_index.proofs.KeyLaws.{both_equal, left, numbers_equal, one_number, right}
+use Rattle.program_leaves.proofs.KeyLaws.{both_equal, left, numbers_equal, one_number, right}
 use Rattle.scheme_model.specs.Answers.{before_or, bytes_before, drawn_before, lit_before}
 use Rattle.program_answers.specs.BytesKept.{bytes_seen, drawn_seen, lit_seen}
 use Rattle.program_answers.specs.declared.bytes.Bytes as code_bytes

@@ -4,10 +4,10 @@ use Rattle.std.specs.Prelude.{if◌then◌else◌}
 use Rattle.std.specs.List.{flat_map}
 use Rattle.std.proofs.lemmas.List.{append-nil, map-append, take_all, take_more}
 use Rattle.scheme_model.specs.declared.Occ.{Occ}
-use Rattle.arrow_index.specs.Members.{IsIn}
-use Rattle.arrow_index.specs.Index.{AreOccs}
+use Rattle.program_leaves.specs.Members.{IsIn}
+use Rattle.program_leaves.specs.Pairs.{AreOccs}
 use Rattle.arrow_index.proofs.BinderLaws.{in_filter, from_filter}
-use Rattle.arrow_index.proofs.MemberLaws.{in_left, in_right, in_either, in_from, contains_from, in_map, from_map, in_flat_map, from_flat_map}
+use Rattle.program_leaves.proofs.MemberLaws.{in_left, in_right, in_either, in_from, contains_from, in_map, from_map, in_flat_map, from_flat_map}
 
 -- ---- as they grow
 

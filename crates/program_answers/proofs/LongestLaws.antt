@@ -7,12 +7,12 @@ use Rattle.scheme_model.specs.declared.Occ.{Occ}
 use Rattle.scheme_model.specs.Entries.{same_occ}
 use Rattle.scheme_model.specs.Spelling.{Link, class_of, prefixes_of}
 use Rattle.arrow_index.specs.Classes.{AreParts}
-use Rattle.arrow_index.specs.Members.{IsIn}
+use Rattle.program_leaves.specs.Members.{IsIn}
 use Rattle.arrow_index.specs.declared.classes.ClassPart.{ClassPart}
 use Rattle.arrow_index.proofs.BinderLaws.{in_filter, from_filter}
 use Rattle.arrow_index.proofs.ClassLaws.{class_holds, itself, member_in}
-use Rattle.arrow_index.proofs.KeyLaws.{one_occ}
-use Rattle.arrow_index.proofs.MemberLaws.{in_either, in_left, in_right, in_from, contains_from, in_map, from_map}
+use Rattle.program_leaves.proofs.KeyLaws.{one_occ}
+use Rattle.program_leaves.proofs.MemberLaws.{in_either, in_left, in_right, in_from, contains_from, in_map, from_map}
 use Rattle.program_answers.specs.AskedOf.{own_prefixes}
 use Rattle.program_answers.specs.Classed.{IsLongest}
 use Rattle.program_answers.proofs.ListedLaws.{HaveSame, filter_one}

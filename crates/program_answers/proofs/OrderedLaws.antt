@@ -7,8 +7,8 @@ use Rattle.std.specs.List.Sorted.{IsStrictlySortedBy}
 use Rattle.std.specs.Ordering.{ordering_reverse, is_lt}
 use Rattle.std.specs.declared.cmp.Ordering.{Ordering}
 use Rattle.std.specs.declared.cmp.Ordering.TheVariants.{Less, Equal, Greater}
-use Rattle.arrow_index.specs.Members.{IsIn}
-use Rattle.arrow_index.proofs.MemberLaws.{in_from, contains_from, in_map, from_map}
+use Rattle.program_leaves.specs.Members.{IsIn}
+use Rattle.program_leaves.proofs.MemberLaws.{in_from, contains_from, in_map, from_map}
 use Rattle.scheme_model.specs.Answers.{put_by, ordered_by}
 
 -- a test that is a total order of which only equal items are equal

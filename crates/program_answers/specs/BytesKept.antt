@@ -2,8 +2,8 @@
 use Rattle.std.specs.Prelude.{◌≡◌, ℕ, ◌<◌, List, Bool, ◌||◌}
 use Rattle.scheme_model.specs.declared.Occ.{Occ}
 use Rattle.scheme_model.specs.Diagnostics.{Bytes}
-use Rattle.arrow_index.specs.Members.{IsIn}
-use Rattle.arrow_index.specs.declared.pairs.Pair.{Pair}
+use Rattle.program_leaves.specs.Members.{IsIn}
+use Rattle.program_leaves.specs.declared.pairs.Pair.{Pair}
 use Rattle.scheme_model.specs.Answers.{is_in}
 use Rattle.program_answers.specs.declared.bytes.Bytes as code_bytes
 use Rattle.program_answers.specs.declared.bytes.Drawn as code_drawn

@@ -8,8 +8,8 @@ ghost use Rattle.ls_base.specs.declared.encoding.Encoding.{Encoding};
 ghost use Rattle.document_store.specs.Texts.{Document as Entry};
 ghost use Rattle.scheme_model.specs.declared.Occ.{Occ as AnyOcc};
 ghost use Rattle.scheme_model.specs.ProgramArrows as program;
-ghost use Rattle.arrow_index.specs.Index.{AreArrows, pair_cmp};
-ghost use Rattle.arrow_index.specs.Members.{IsIn};
+ghost use Rattle.program_leaves.specs.Pairs.{AreArrows, pair_cmp};
+ghost use Rattle.program_leaves.specs.Members.{IsIn};
 ghost use Rattle.scheme_model.specs.Answers as told;
 ghost use Rattle.program_answers.specs.AskedOf.{IsSource};
 ghost use Rattle.program_answers.specs.BytesKept.{AreDrawnInside, AreInside, AreLitInside, HaveTokens, bytes_seen, drawn_seen, has_end, lit_seen, pair_bytes};
@@ -18,9 +18,9 @@ ghost use Rattle.program_answers.specs.ToldAnswers.{answer_of, answer_told, arro
 
 use crate::asked::Asked;
 use crate::bytes::{Bytes, Drawn, Lit, bytes_in_order, drawn_in_order, lit_in_order};
-use arrow_index::pairs::Pair;
 use arrow_index::queries::uses_of;
 use ls_base::{Answer, Arrow, Highlight, Items, Mem, Place, Pos, Query};
+use program_leaves::pairs::Pair;
 use scheme_model::Occ;
 use std::alloc::Global;
 

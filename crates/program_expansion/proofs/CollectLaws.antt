@@ -1,6 +1,7 @@
 -- Units that are put together by what they came to are those of the definition's program.
 use Rattle.std.proofs.Common.{◌≡◌, ℕ, zero, suc, ◌+◌, ◌<◌, List, [], ◌∷◌, ◌++◌, All, length, map, slice_get, Option, Some, None, refl, sym, ap, ◌∙◌, subst, arith}
 use Rattle.std.specs.Prelude.{reverse}
+use Rattle.std.specs.List.{flat_map}
 use Rattle.std.proofs.lemmas.List.{length-map}
 use Rattle.std.proofs.lemmas.Option.{slice_get_within}
 use Rattle.scheme_model.specs.Requirements.{Known, LibraryName}
@@ -9,11 +10,12 @@ use Rattle.scheme_model.specs.Substitution.{Defined}
 use Rattle.scheme_model.specs.UnitExpansion.{Formed}
 use Rattle.scheme_model.specs.Program.{Placed, Prepared, prepare, WholeFault, UnitResult, Program, broken_result}
 use Rattle.scheme_model.specs.ProgramArrows.{unit_names}
+use Rattle.scheme_model.specs.Spelling.{second_places}
 use Rattle.scheme_model.specs.ScopedProgram.{scoped_program_with}
 use Rattle.syntax_tree.specs.Meant.{AreEntries}
 use Rattle.syntax_tree.specs.declared.trees.Work.{Work}
 use Rattle.syntax_tree.specs.declared.units.Entry.{Entry}
-use Rattle.core_tree.specs.Units.{IsBlank, FormsStand, AreDefinitions, definitions_from, defined_by, AreNames, externals, error_as, unit_errors, kind_as, UnitStands, UnitsStand}
+use Rattle.core_tree.specs.Units.{IsBlank, FormsStand, AreDefinitions, definitions_from, defined_by, AreNames, externals, error_as, unit_errors, kind_as, UnitStands, UnitsStand, seconds_of, unless_broken}
 use Rattle.core_tree.specs.declared.cores.Binder.{Binder}
 use Rattle.core_tree.specs.declared.units.NameUse as code_name
 use Rattle.core_tree.specs.declared.units.UnitForm as core
@@ -39,6 +41,13 @@ blank_define form (c ∷ cs) h =
 
 no_names : (work : Work) (n : ℕ) → AreNames work.symbols n [] [] []
 no_names work n = record { told = []; match = tt; same = λ m. (λ h. h, λ h. h); front = []; last = []; parted = refl; external = tt }
+
+-- the second places of a unit's sets, and none of a broken one
+seconds_whole : (r : UnitResult) → r.fault ≡ None → seconds_of r ≡ flat_map (λ s. second_places s.set) r.unit.specs
+seconds_whole r h = ap (λ (f : Option WholeFault). unless_broken f (flat_map (λ s. second_places s.set) r.unit.specs)) h
+
+seconds_broken : (r : UnitResult) (f : WholeFault) → r.fault ≡ Some f → seconds_of r ≡ []
+seconds_broken r f h = ap (λ (o : Option WholeFault). unless_broken o (flat_map (λ s. second_places s.set) r.unit.specs)) h
 
 -- an item of a list that is long enough
 pub get : {A : Type 0} (xs : List A) (n : ℕ) → n < length xs → (x : A) × (slice_get xs n ≡ Some x)
@@ -68,6 +77,7 @@ module _ (text : LibraryName → List ℕ) (uris : List (List ℕ)) (us : List P
       names =
           subst (λ (ns : List code_name.NameUse). AreNames work.symbols n ns (unit_names us whole r) (externals whole.table r)) (sym k.come.names)
           (subst (λ (i : ℕ). AreNames work.symbols i e.names (unit_names us whole r) (externals whole.table r)) own m.names);
+      seconds = k.come.seconds ∙ (m.seconds ∙ sym (seconds_whole r m.whole));
       entries = subst (λ (es : List Entry). AreEntries work.symbols es r.entries) (sym k.come.entries) m.entries;
       exports = subst (λ (es : List Entry). AreEntries work.symbols es r.exports) (sym k.come.exports) m.exports;
       errors = errors;
@@ -88,6 +98,7 @@ module _ (text : LibraryName → List ℕ) (uris : List (List ℕ)) (us : List P
       names =
           subst (λ (q : UnitResult). AreNames work.symbols n c.names (unit_names us whole q) (externals whole.table q)) (sym is)
           (subst (λ (ns : List code_name.NameUse). AreNames work.symbols n ns [] []) (sym k.come.names) (no_names work n));
+      seconds = k.come.seconds ∙ sym (seconds_broken r f (ap (λ (q : UnitResult). q.fault) is));
       entries = subst (λ (q : UnitResult). AreEntries work.symbols c.entries q.entries) (sym is) (subst (λ (es : List Entry). AreEntries work.symbols es []) (sym k.come.entries) tt);
       exports = subst (λ (q : UnitResult). AreEntries work.symbols c.exports q.exports) (sym is) (subst (λ (es : List Entry). AreEntries work.symbols es []) (sym k.come.exports) tt);
       errors = errors;

@@ -43,3 +43,4 @@ mod UnitWalk  -- Work on a unit one form or item at a time
 pub mod FormsHold  -- Forms that were gone through are held, one more at a time
 pub mod FormsFinished  -- What forms set aside is expanded, one form more at a time
 pub mod FormsUnfold  -- What a unit's forms come to, once they were gone through and what they set aside was expanded
+pub mod UnitNumbers  -- The forms that a unit comes to have the numbers of those that are expanded

@@ -7,7 +7,7 @@ use Rattle.core_tree.specs.declared.units.Unit as unit
 use Rattle.unit_imports.specs.declared.expanded.Expanded.{Expanded}
 use Rattle.document_units.specs.declared.findings.At.{At}
 use Rattle.document_units.specs.Belongs.{AreErrorsIn}
-use Rattle.arrow_index.specs.Formed.{IsFormed, AreFormedIn}
+use Rattle.program_leaves.specs.Formed.{IsFormed, AreFormedIn}
 use Rattle.program_expansion.specs.Formed.{CameFormed}
 use Rattle.document_units.specs.Places.{AreFoundIn}
 use Rattle.program_expansion.specs.UnitsExpanded.{AreAllFound}

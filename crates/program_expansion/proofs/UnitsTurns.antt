@@ -10,7 +10,7 @@ use Rattle.core_tree.specs.Units.{IsBlank}
 use Rattle.core_tree.specs.declared.units.UnitForm.{UnitForm}
 use Rattle.expansion_laws.proofs.PartsStay.{forms_on}
 use Rattle.unit_imports.specs.declared.expanded.Expanded.{Expanded}
-use Rattle.arrow_index.specs.Formed.{IsFormed}
+use Rattle.program_leaves.specs.Formed.{IsFormed}
 use Rattle.program_expansion.specs.Formed.{CameFormed}
 use Rattle.unit_imports.specs.EntriesMeant.{HaveMeaning, ExportsMean}
 use Rattle.document_units.specs.Places.{AreFoundIn}

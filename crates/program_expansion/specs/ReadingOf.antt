@@ -10,7 +10,7 @@ use Rattle.core_tree.specs.declared.units.Program.{Program}
 use Rattle.program_expansion.specs.declared.program.Reading.{Reading}
 use Rattle.document_units.specs.Listed.{AreFoundOf}
 use Rattle.document_units.specs.Readings.{AreReadAs, Read, data_in, program_in}
-use Rattle.arrow_index.specs.Formed.{AreFormedIn}
+use Rattle.program_leaves.specs.Formed.{AreFormedIn}
 use Rattle.document_units.specs.Belongs.{Belongs}
 
 -- the program of texts that are read so

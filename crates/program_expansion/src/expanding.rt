@@ -21,7 +21,7 @@ ghost use Rattle.program_expansion.specs.Begun.{IsImport};
 ghost use Rattle.document_units.specs.Broken.{told};
 ghost use Rattle.program_expansion.specs.UnitResults.{CameTo, Expands, FindsLibraries, GoesOn, HeadsBy, IsUpTo, expanded_after, with_unit};
 ghost use Rattle.document_units.specs.UnitSources.{AreSourcesOf, IsSourceOf};
-ghost use Rattle.arrow_index.specs.Formed.{IsFormed};
+ghost use Rattle.program_leaves.specs.Formed.{IsFormed};
 ghost use Rattle.program_expansion.specs.Formed.{CameFormed};
 ghost use Rattle.program_expansion.specs.Forms.{IsBench, AreFormed};
 ghost use Rattle.document_units.specs.Libraries.{FindsBelow};

@@ -12,7 +12,7 @@ ghost use Rattle.document_store.specs.Texts.{Document as Text};
 ghost use Rattle.document_units.specs.declared.listing.Head.{Head as AnyHead};
 ghost use Rattle.document_units.specs.Belongs.{AreErrorsIn};
 ghost use Rattle.program_expansion.specs.ReadingOf.{IsReading};
-ghost use Rattle.arrow_index.specs.Formed.{AreFormedIn, IsFormed};
+ghost use Rattle.program_leaves.specs.Formed.{AreFormedIn, IsFormed};
 ghost use Rattle.document_units.specs.Broken.{told};
 ghost use Rattle.program_expansion.specs.UnitResults.{IsUpTo};
 ghost use Rattle.unit_imports.specs.Collected.{AreCollected, AreHeadsOf, Has, IsNothing};
@@ -245,6 +245,7 @@ fn unit_of(
         entries,
         forms,
         names,
+        seconds,
         exports,
         findings,
     } = came;
@@ -255,6 +256,7 @@ fn unit_of(
         forms,
         imports: mem::replace(&mut head.imports, Items::new(alloc)),
         names,
+        seconds,
         entries: Items::from_vec(entries),
         exports,
         errors: errors(alloc, findings.as_slice())?,

@@ -25,10 +25,10 @@ use Rattle.core_tree.specs.declared.cores.Target.{Target}
 use Rattle.core_tree.specs.declared.traces.FormFault.{FormFault}
 use Rattle.core_tree.specs.declared.units.ExpandedItem.{ExpandedItem}
 use Rattle.core_tree.specs.declared.units.UnitForm as code_form
-use Rattle.arrow_index.specs.Leaves.{Seen, seen_of, Binds, Uses, Assigns, Quoted, Holed, Defines, part_seen, items_seen, IsSeen, AreSeen}
-use Rattle.arrow_index.specs.declared.leaves.Leaf.{Leaf}
-use Rattle.arrow_index.proofs.LeafLaws.{parts_leaves}
-use Rattle.arrow_index.proofs.QuotedLaws.{quoted_none}
+use Rattle.program_leaves.specs.Leaves.{Seen, seen_of, Binds, Uses, Assigns, Quoted, Holed, Defines, part_seen, items_seen, IsSeen, AreSeen}
+use Rattle.program_leaves.specs.declared.leaves.Leaf.{Leaf}
+use Rattle.program_leaves.proofs.LeafLaws.{parts_leaves}
+use Rattle.program_leaves.proofs.QuotedLaws.{quoted_none}
 use Rattle.program_findings.specs.Unbound.{free_as, free_use, free_leaf, free_uses, form_unbound, unbound_as, unbound_leaf, unbound_in, IsUnbound}
 
 -- ---- lists, one behind the other

@@ -14,7 +14,7 @@ use Rattle.syntax_tree.specs.declared.meaning.Meaning.TheVariants as meaning
 use Rattle.core_tree.specs.declared.cores.Target.{Target}
 use Rattle.core_tree.specs.declared.traces.FormFault.{FormFault}
 use Rattle.core_tree.specs.declared.units.UnitForm.{UnitForm}
-use Rattle.arrow_index.specs.Leaves.{Seen, Binds, Uses, Assigns, Quoted, Holed, Defines, items_seen}
+use Rattle.program_leaves.specs.Leaves.{Seen, Binds, Uses, Assigns, Quoted, Holed, Defines, items_seen}
 
 -- ---- in the code
 

@@ -6,13 +6,13 @@ ghost use Rattle.scheme_model.specs.UnitExpansion.{Formed};
 ghost use Rattle.syntax_tree.specs.declared.trees.Work.{Work};
 ghost use Rattle.core_tree.specs.Names.{AllMatch};
 ghost use Rattle.core_tree.specs.Units.{FormsStand};
-ghost use Rattle.arrow_index.specs.Leaves.{seen_of};
+ghost use Rattle.program_leaves.specs.Leaves.{seen_of};
 ghost use Rattle.program_findings.specs.Unbound.{IsUnbound, form_unbound, free_leaf, free_use, free_uses, unbound_in};
 
-use arrow_index::leaves::{Leaf, add_form};
 use core_tree::cores::Target;
 use core_tree::units::UnitForm;
 use ls_base::Mem;
+use program_leaves::leaves::{Leaf, add_form};
 use std::alloc::Global;
 use syntax_tree::meaning::Meaning;
 

@@ -40,6 +40,7 @@ has_come count None e c some none has =
       blank = subst (λ (fs : List UnitForm). All IsBlank fs) (sym has.forms) n.blank;
       as_many = ap (λ (fs : List UnitForm). length fs) has.forms ∙ n.as_many;
       names = has.names ∙ n.names;
+      seconds = has.seconds ∙ n.seconds;
       entries = has.entries ∙ n.entries;
       exports = has.exports ∙ n.exports;
     }

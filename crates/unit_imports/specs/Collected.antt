@@ -12,6 +12,7 @@ use Rattle.document_units.specs.declared.listing.Head.{Head}
 pub record Has (c : code.Unit) (e : Expanded) : Type 0 where
   pub forms : c.forms ≡ e.forms
   pub names : c.names ≡ e.names
+  pub seconds : c.seconds ≡ e.seconds
   pub entries : c.entries ≡ e.entries.items
   pub exports : c.exports ≡ e.exports
 
@@ -29,6 +30,7 @@ pub record HasNothing (count : ℕ) (c : code.Unit) : Type 0 where
   pub blank : All IsBlank c.forms
   pub as_many : length c.forms ≡ count
   pub names : c.names ≡ []
+  pub seconds : c.seconds ≡ []
   pub entries : c.entries ≡ []
   pub exports : c.exports ≡ []
 

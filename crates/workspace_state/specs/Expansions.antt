@@ -9,8 +9,9 @@ use Rattle.syntax_tree.specs.contracts.trees.Work as work
 use Rattle.core_tree.specs.Units.{ProgramStands}
 use Rattle.core_tree.specs.declared.units.Program.{Program}
 use Rattle.core_tree.specs.contracts.units.Program as program
-use Rattle.arrow_index.specs.Formed.{AreFormedIn}
-use Rattle.arrow_index.specs.Index.{pair_cmp, IsIndexOf}
+use Rattle.program_leaves.specs.Formed.{AreFormedIn}
+use Rattle.arrow_index.specs.Index.{IsIndexOf}
+use Rattle.program_leaves.specs.Pairs.{pair_cmp}
 use Rattle.arrow_index.specs.declared.index.Index.{Index}
 
 pub record Seen : Type 0 where

@@ -1,6 +1,6 @@
 //! The program of the open documents, with the trees that it is over, and the index of it once that was collected.
 ghost use Rattle.std.specs.Prelude.{◌≡◌, [], IfOk};
-ghost use Rattle.arrow_index.specs.Formed.{AreFormedIn};
+ghost use Rattle.program_leaves.specs.Formed.{AreFormedIn};
 ghost use Rattle.core_tree.specs.Units.{IsProgramOf};
 ghost use Rattle.workspace_state.specs.Expansions.{IsIndexFor};
 ghost use Rattle.workspace_state.specs.Indexed.{index_in};

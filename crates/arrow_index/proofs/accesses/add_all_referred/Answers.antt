@@ -2,10 +2,10 @@ use Rattle.std.proofs.Common.{◌≡◌, ◌++◌, map, sym, arith}
 use Rattle.std.proofs.Math.ListN.{drop_of_length-le}
 use Rattle.std.proofs.lemmas.List.{append-nil}
 use Rattle.scheme_model.specs.Accesses.{referred_in}
-use Rattle.arrow_index.specs.Placed.{placed_of}
+use Rattle.program_leaves.specs.Placed.{placed_of}
 use Rattle.arrow_index.proofs.AccessLaws.{referred-append}
-use Rattle.arrow_index.proofs.BinderLaws.{both_added}
-use Rattle.arrow_index.proofs.StepLaws.{next_leaf, passed_none, passed_more, passed_all}
+use Rattle.program_leaves.proofs.PlaceSteps.{both_added}
+use Rattle.program_leaves.proofs.StepLaws.{next_leaf, passed_none, passed_more, passed_all}
 use Rattle.arrow_index.proofs.accesses.add_all_referred.Goals as goal
 
 pub loop-leaf-init : goal.loop-leaf-init

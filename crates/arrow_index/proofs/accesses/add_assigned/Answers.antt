@@ -4,8 +4,8 @@ use Rattle.scheme_model.specs.Live.{any_name, no_hole}
 use Rattle.scheme_model.specs.ProgramArrows.{places_at}
 use Rattle.scheme_model.specs.Trees.{map_tree}
 use Rattle.scheme_model.specs.Accesses.{assigned_in}
-use Rattle.arrow_index.specs.Leaves.{seen_of, IsSeen}
-use Rattle.arrow_index.specs.declared.leaves.Leaf.{Leaf}
+use Rattle.program_leaves.specs.Leaves.{seen_of, IsSeen}
+use Rattle.program_leaves.specs.declared.leaves.Leaf.{Leaf}
 use Rattle.arrow_index.proofs.AccessLaws.{quoted_assigned, no_more, some_more}
 use Rattle.arrow_index.proofs.accesses.add_assigned.Goals as goal
 

@@ -3,8 +3,8 @@ use Rattle.scheme_model.specs.declared.Occ.{Occ}
 use Rattle.scheme_model.specs.ProgramArrows.{program_leaves}
 use Rattle.scheme_model.specs.Accesses.{referred_in}
 use Rattle.arrow_index.specs.Keywords.{units_keywords}
-use Rattle.arrow_index.specs.Placed.{placed_of, AreAllSeen}
-use Rattle.arrow_index.specs.declared.sight.PlacedLeaf.{PlacedLeaf}
+use Rattle.program_leaves.specs.Placed.{placed_of, AreAllSeen}
+use Rattle.program_leaves.specs.declared.sight.PlacedLeaf.{PlacedLeaf}
 use Rattle.arrow_index.proofs.AccessLaws.{read_law}
 use Rattle.arrow_index.proofs.accesses.read_in.Goals as goal
 

@@ -2,8 +2,8 @@ use Rattle.std.proofs.Common.{◌++◌, List, map, sym, ap, ◌∙◌, subst}
 use Rattle.scheme_model.specs.declared.Occ.{Occ}
 use Rattle.scheme_model.specs.ProgramArrows.{program_leaves}
 use Rattle.scheme_model.specs.Accesses.{assigned_in}
-use Rattle.arrow_index.specs.Placed.{placed_of, AreAllSeen}
-use Rattle.arrow_index.specs.declared.sight.PlacedLeaf.{PlacedLeaf}
+use Rattle.program_leaves.specs.Placed.{placed_of, AreAllSeen}
+use Rattle.program_leaves.specs.declared.sight.PlacedLeaf.{PlacedLeaf}
 use Rattle.arrow_index.proofs.AccessLaws.{written_law}
 use Rattle.arrow_index.proofs.accesses.written_in.Goals as goal
 

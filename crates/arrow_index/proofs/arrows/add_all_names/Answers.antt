@@ -5,11 +5,11 @@ use Rattle.scheme_model.specs.ProgramArrows.{binder_of, name_arrows}
 use Rattle.core_tree.specs.Names.{AllMatch}
 use Rattle.core_tree.specs.declared.units.NameUse as code_name
 use Rattle.core_tree.specs.declared.units.Unit.{Unit as CodeUnit}
-use Rattle.arrow_index.specs.Index.{as_arrow}
-use Rattle.arrow_index.specs.Sights.{IsNameOf, all_names}
-use Rattle.arrow_index.proofs.AddLaws.{Past, past_none, past_more, past_all}
-use Rattle.arrow_index.proofs.Growing.{grows_by_none, grows_twice}
-use Rattle.arrow_index.proofs.StepLaws.{names-append}
+use Rattle.program_leaves.specs.Pairs.{as_arrow}
+use Rattle.program_leaves.specs.Sights.{IsNameOf, all_names}
+use Rattle.program_leaves.proofs.AddLaws.{Past, past_none, past_more, past_all}
+use Rattle.program_leaves.proofs.Growing.{grows_by_none, grows_twice}
+use Rattle.program_leaves.proofs.StepLaws.{names-append}
 use Rattle.arrow_index.proofs.arrows.add_all_names.Goals as goal
 
 pub loop-unit-init : goal.loop-unit-init

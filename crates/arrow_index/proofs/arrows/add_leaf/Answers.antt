@@ -7,12 +7,12 @@ use Rattle.scheme_model.specs.Live.{any_name, no_hole}
 use Rattle.scheme_model.specs.ProgramArrows.{arrow_of, binder_of, is_live_at, rule_arrows, leaf_arrows}
 use Rattle.core_tree.specs.Names.{AllMatch, IsLeaf}
 use Rattle.core_tree.specs.declared.cores.RuleLeaf.{RuleLeaf}
-use Rattle.arrow_index.specs.declared.leaves.Leaf.{Leaf}
-use Rattle.arrow_index.specs.Leaves.{seen_of, IsSeen}
-use Rattle.arrow_index.specs.Index.{as_arrow}
-use Rattle.arrow_index.specs.Variables.{all_arrows_at}
-use Rattle.arrow_index.proofs.Growing.{grows_as, grows_by_none, grows_twice}
-use Rattle.arrow_index.proofs.StepLaws.{quoted_arrows}
+use Rattle.program_leaves.specs.declared.leaves.Leaf.{Leaf}
+use Rattle.program_leaves.specs.Leaves.{seen_of, IsSeen}
+use Rattle.program_leaves.specs.Pairs.{as_arrow}
+use Rattle.program_leaves.specs.Variables.{all_arrows_at}
+use Rattle.program_leaves.proofs.Growing.{grows_as, grows_by_none, grows_twice}
+use Rattle.program_leaves.proofs.StepLaws.{quoted_arrows}
 use Rattle.arrow_index.proofs.arrows.add_leaf.Goals as goal
 
 pub returns-in-Binds : goal.returns-in-Binds

@@ -1,11 +1,11 @@
 use Rattle.std.proofs.Common.{◌≡◌, [], ◌++◌, map, refl, arith}
 use Rattle.std.proofs.Math.ListN.{drop_of_length-le}
 use Rattle.scheme_model.specs.ProgramArrows.{binder_of, is_live_at}
-use Rattle.arrow_index.specs.Placed.{placed_of}
-use Rattle.arrow_index.specs.Index.{as_arrow}
-use Rattle.arrow_index.specs.Variables.{all_arrows_at}
-use Rattle.arrow_index.proofs.Growing.{grows_by_none, grows_twice}
-use Rattle.arrow_index.proofs.StepLaws.{leaves-append, next_leaf, passed_none, passed_more, passed_all, seen_item}
+use Rattle.program_leaves.specs.Placed.{placed_of}
+use Rattle.program_leaves.specs.Pairs.{as_arrow}
+use Rattle.program_leaves.specs.Variables.{all_arrows_at}
+use Rattle.program_leaves.proofs.Growing.{grows_by_none, grows_twice}
+use Rattle.program_leaves.proofs.StepLaws.{leaves-append, next_leaf, passed_none, passed_more, passed_all, seen_item}
 use Rattle.arrow_index.proofs.arrows.add_leaves.Goals as goal
 
 pub loop-leaf-init : goal.loop-leaf-init

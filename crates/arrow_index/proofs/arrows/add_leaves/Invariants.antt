@@ -3,11 +3,11 @@ use Rattle.scheme_model.specs.Cores.{Target}
 use Rattle.scheme_model.specs.Substitution.{Table}
 use Rattle.scheme_model.specs.Live.{CoreLeaf, NameUse}
 use Rattle.scheme_model.specs.ProgramArrows.{binder_of, is_live_at}
-use Rattle.arrow_index.specs.Placed.{placed_of, AreAllSeen}
-use Rattle.arrow_index.specs.Index.{as_arrow}
-use Rattle.arrow_index.specs.Variables.{all_arrows_at}
-use Rattle.arrow_index.specs.Sights.{Sees}
-use Rattle.arrow_index.proofs.LiveLaws.{Passed}
+use Rattle.program_leaves.specs.Placed.{placed_of, AreAllSeen}
+use Rattle.program_leaves.specs.Pairs.{as_arrow}
+use Rattle.program_leaves.specs.Variables.{all_arrows_at}
+use Rattle.program_leaves.specs.Sights.{Sees}
+use Rattle.program_leaves.proofs.LiveLaws.{Passed}
 use Rattle.arrow_index.proofs.arrows.add_leaves.Given as goal
 
 abbrev pub invariant-loop-leaf : goal.invariant-loop-leaf

@@ -1,7 +1,7 @@
 use Rattle.std.proofs.Common.{◌++◌, Option, map, ap, ◌∙◌}
 use Rattle.scheme_model.specs.declared.Occ.{Occ}
 use Rattle.scheme_model.specs.ProgramArrows.{arrow_of}
-use Rattle.arrow_index.specs.Index.{as_arrow}
+use Rattle.program_leaves.specs.Pairs.{as_arrow}
 use Rattle.arrow_index.proofs.arrows.add_meant.Goals as goal
 
 pub returns : goal.returns

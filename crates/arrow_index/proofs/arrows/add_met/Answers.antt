@@ -3,12 +3,12 @@ use Rattle.std.proofs.lemmas.List.{get_or-map, length-map}
 use Rattle.scheme_model.specs.declared.Occ.{Occ}
 use Rattle.scheme_model.specs.ProgramArrows.{arrow_of, binder_of, target_arrows}
 use Rattle.syntax_tree.specs.declared.meaning.Meaning.TheVariants as meanings
-use Rattle.arrow_index.specs.declared.sight.PlacedTarget.{PlacedTarget}
-use Rattle.arrow_index.specs.Index.{as_arrow}
-use Rattle.arrow_index.specs.Placed.{use_of, Use, IsUseOf}
-use Rattle.arrow_index.proofs.Growing.{grows_as, grows_by_none, grows_twice}
-use Rattle.arrow_index.proofs.VariableLaws.{match_at, match_all}
-use Rattle.arrow_index.proofs.StepLaws.{targets_more}
+use Rattle.program_leaves.specs.declared.sight.PlacedTarget.{PlacedTarget}
+use Rattle.program_leaves.specs.Pairs.{as_arrow}
+use Rattle.program_leaves.specs.Placed.{use_of, Use, IsUseOf}
+use Rattle.program_leaves.proofs.Growing.{grows_as, grows_by_none, grows_twice}
+use Rattle.program_leaves.proofs.VariableLaws.{match_at, match_all}
+use Rattle.program_leaves.proofs.StepLaws.{targets_more}
 use Rattle.arrow_index.proofs.arrows.add_met.Goals as goal
 
 pub loop-target-init : goal.loop-target-init

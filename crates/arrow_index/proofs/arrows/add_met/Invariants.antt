@@ -5,9 +5,9 @@ use Rattle.scheme_model.specs.Live.{CoreLeaf, NameUse}
 use Rattle.scheme_model.specs.ProgramArrows.{binder_of, target_arrows}
 use Rattle.syntax_tree.specs.declared.trees.Work.{Work}
 use Rattle.core_tree.specs.Names.{AllMatch}
-use Rattle.arrow_index.specs.Index.{as_arrow}
-use Rattle.arrow_index.specs.Placed.{use_of, IsUseOf}
-use Rattle.arrow_index.specs.Sights.{Sees}
+use Rattle.program_leaves.specs.Pairs.{as_arrow}
+use Rattle.program_leaves.specs.Placed.{use_of, IsUseOf}
+use Rattle.program_leaves.specs.Sights.{Sees}
 use Rattle.arrow_index.proofs.arrows.add_met.Given as goal
 
 abbrev pub invariant-loop-target : goal.invariant-loop-target

@@ -2,9 +2,9 @@ use Rattle.std.proofs.Common.{[], ◌∷◌, ◌++◌, Option, map, ap, ◌∙�
 use Rattle.std.specs.Prelude.{◌||◌, not}
 use Rattle.scheme_model.specs.declared.Occ.{Occ}
 use Rattle.scheme_model.specs.ProgramArrows.{arrow_of, binder_of, is_live_at, leaf_arrows}
-use Rattle.arrow_index.specs.Index.{as_arrow}
-use Rattle.arrow_index.proofs.Growing.{grows_as, grows_by_none}
-use Rattle.arrow_index.proofs.StepLaws.{static_true, static_false}
+use Rattle.program_leaves.specs.Pairs.{as_arrow}
+use Rattle.program_leaves.proofs.Growing.{grows_as, grows_by_none}
+use Rattle.program_leaves.proofs.StepLaws.{static_true, static_false}
 use Rattle.arrow_index.proofs.arrows.add_rule_leaf.Goals as goal
 
 pub returns-then-is_static : goal.returns-then-is_static

@@ -2,10 +2,10 @@ use Rattle.std.proofs.Common.{None, false, [], ◌∷◌, take, refl, sym, ap, a
 use Rattle.scheme_model.specs.ProgramArrows.{binder_of, is_live_at, leaf_arrows}
 use Rattle.syntax_tree.specs.declared.meaning.Meaning.TheVariants as meanings
 use Rattle.core_tree.specs.Names.{IsLeaf}
-use Rattle.arrow_index.specs.Index.{as_arrow}
-use Rattle.arrow_index.proofs.Growing.{grows_as, grows_by_none, grows_twice}
-use Rattle.arrow_index.proofs.VariableLaws.{match_at, match_all}
-use Rattle.arrow_index.proofs.StepLaws.{leaf_more}
+use Rattle.program_leaves.specs.Pairs.{as_arrow}
+use Rattle.program_leaves.proofs.Growing.{grows_as, grows_by_none, grows_twice}
+use Rattle.program_leaves.proofs.VariableLaws.{match_at, match_all}
+use Rattle.program_leaves.proofs.StepLaws.{leaf_more}
 use Rattle.arrow_index.proofs.arrows.add_static.Goals as goal
 
 pub loop-leaf-init : goal.loop-leaf-init

@@ -1,11 +1,11 @@
 use Rattle.std.proofs.Common.{[], ◌++◌, map, take, Option, refl, sym, ap, ◌∙◌, arith}
 use Rattle.scheme_model.specs.declared.Occ.{Occ}
 use Rattle.scheme_model.specs.ProgramArrows.{arrow_of, binder_of, name_arrows}
-use Rattle.arrow_index.specs.Index.{as_arrow}
-use Rattle.arrow_index.specs.Sights.{IsNameOf}
-use Rattle.arrow_index.proofs.Growing.{grows_as, grows_by_none, grows_twice}
-use Rattle.arrow_index.proofs.VariableLaws.{match_item, match_all}
-use Rattle.arrow_index.proofs.StepLaws.{names_more}
+use Rattle.program_leaves.specs.Pairs.{as_arrow}
+use Rattle.program_leaves.specs.Sights.{IsNameOf}
+use Rattle.program_leaves.proofs.Growing.{grows_as, grows_by_none, grows_twice}
+use Rattle.program_leaves.proofs.VariableLaws.{match_item, match_all}
+use Rattle.program_leaves.proofs.StepLaws.{names_more}
 use Rattle.arrow_index.proofs.arrows.add_unit_names.Goals as goal
 
 pub loop-name-init : goal.loop-name-init

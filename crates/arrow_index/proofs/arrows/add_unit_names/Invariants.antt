@@ -5,8 +5,8 @@ use Rattle.scheme_model.specs.Live.{CoreLeaf, NameUse}
 use Rattle.scheme_model.specs.ProgramArrows.{binder_of, name_arrows}
 use Rattle.syntax_tree.specs.declared.trees.Work.{Work}
 use Rattle.core_tree.specs.Names.{AllMatch}
-use Rattle.arrow_index.specs.Index.{as_arrow}
-use Rattle.arrow_index.specs.Sights.{Sees, IsNameOf}
+use Rattle.program_leaves.specs.Pairs.{as_arrow}
+use Rattle.program_leaves.specs.Sights.{Sees, IsNameOf}
 use Rattle.arrow_index.proofs.arrows.add_unit_names.Given as goal
 
 abbrev pub invariant-loop-name : goal.invariant-loop-name

@@ -1,14 +1,14 @@
 use Rattle.std.proofs.Common.{◌≡◌, List, [], ◌++◌, map, sym, ap, ◌∙◌, subst}
 use Rattle.scheme_model.specs.ProgramArrows.{binder_of, is_live_at, target_arrows, name_arrows, program_leaves, program_keywords, program_names, program_table}
 use Rattle.core_tree.specs.Names.{AllMatch}
-use Rattle.arrow_index.specs.declared.sight.PlacedLeaf.{PlacedLeaf}
-use Rattle.arrow_index.specs.declared.sight.PlacedTarget.{PlacedTarget}
-use Rattle.arrow_index.specs.Members.{IsIn}
-use Rattle.arrow_index.specs.Placed.{placed_of, use_of, AreAllSeen, IsUseOf}
-use Rattle.arrow_index.specs.Index.{as_arrow}
-use Rattle.arrow_index.specs.Sights.{IsNameOf, all_names}
-use Rattle.arrow_index.specs.Variables.{all_arrows_at}
-use Rattle.arrow_index.proofs.ToldLaws.{names_told}
+use Rattle.program_leaves.specs.declared.sight.PlacedLeaf.{PlacedLeaf}
+use Rattle.program_leaves.specs.declared.sight.PlacedTarget.{PlacedTarget}
+use Rattle.program_leaves.specs.Members.{IsIn}
+use Rattle.program_leaves.specs.Placed.{placed_of, use_of, AreAllSeen, IsUseOf}
+use Rattle.program_leaves.specs.Pairs.{as_arrow}
+use Rattle.program_leaves.specs.Sights.{IsNameOf, all_names}
+use Rattle.program_leaves.specs.Variables.{all_arrows_at}
+use Rattle.program_leaves.proofs.ToldLaws.{names_told}
 use Rattle.arrow_index.proofs.ArrowLaws.{arrows_there, arrows_back}
 use Rattle.arrow_index.proofs.arrows.all_arrows.Goals as goal
 

@@ -1,8 +1,8 @@
 use Rattle.std.proofs.Common.{◌≡◌}
 use Rattle.scheme_model.specs.ProgramArrows.{arrows_of}
-use Rattle.arrow_index.specs.declared.pairs.Pair.{Pair}
-use Rattle.arrow_index.specs.Index.{as_arrow}
-use Rattle.arrow_index.proofs.MemberLaws.{same_listed}
+use Rattle.program_leaves.specs.declared.pairs.Pair.{Pair}
+use Rattle.program_leaves.specs.Pairs.{as_arrow}
+use Rattle.program_leaves.proofs.MemberLaws.{same_listed}
 use Rattle.arrow_index.proofs.arrows.arrows_seen.Goals as goal
 
 same_pair : (p q : Pair) → as_arrow p ≡ as_arrow q → p ≡ q

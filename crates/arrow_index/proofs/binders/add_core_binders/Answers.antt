@@ -2,9 +2,10 @@ use Rattle.std.proofs.Common.{◌≡◌, ◌++◌, map, sym, arith}
 use Rattle.std.proofs.Math.ListN.{drop_of_length-le}
 use Rattle.std.proofs.lemmas.List.{append-nil}
 use Rattle.scheme_model.specs.ProgramArrows.{leaf_binders}
-use Rattle.arrow_index.specs.Placed.{placed_of}
-use Rattle.arrow_index.proofs.BinderLaws.{binders-append, both_added}
-use Rattle.arrow_index.proofs.StepLaws.{next_leaf, passed_none, passed_more, passed_all, seen_item}
+use Rattle.program_leaves.specs.Placed.{placed_of}
+use Rattle.arrow_index.proofs.BinderLaws.{binders-append}
+use Rattle.program_leaves.proofs.PlaceSteps.{both_added}
+use Rattle.program_leaves.proofs.StepLaws.{next_leaf, passed_none, passed_more, passed_all, seen_item}
 use Rattle.arrow_index.proofs.binders.add_core_binders.Goals as goal
 
 pub loop-leaf-init : goal.loop-leaf-init

@@ -1,8 +1,8 @@
 use Rattle.std.proofs.Common.{◌≡◌, ◌++◌, List, map, drop}
 use Rattle.scheme_model.specs.Live.{CoreLeaf}
 use Rattle.scheme_model.specs.ProgramArrows.{leaf_binders}
-use Rattle.arrow_index.specs.Placed.{placed_of, AreAllSeen}
-use Rattle.arrow_index.proofs.LiveLaws.{Passed}
+use Rattle.program_leaves.specs.Placed.{placed_of, AreAllSeen}
+use Rattle.program_leaves.proofs.LiveLaws.{Passed}
 use Rattle.arrow_index.proofs.binders.add_core_binders.Given as goal
 
 abbrev pub invariant-loop-leaf : goal.invariant-loop-leaf

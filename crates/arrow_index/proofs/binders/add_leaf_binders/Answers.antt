@@ -4,9 +4,10 @@ use Rattle.scheme_model.specs.Ident.{symbol_of}
 use Rattle.scheme_model.specs.Trees.{map_tree}
 use Rattle.scheme_model.specs.Live.{any_name, no_hole}
 use Rattle.scheme_model.specs.ProgramArrows.{places_at, rule_binders, leaf_binders}
-use Rattle.arrow_index.specs.declared.leaves.Leaf.{Leaf}
-use Rattle.arrow_index.specs.Leaves.{seen_of, IsSeen}
-use Rattle.arrow_index.proofs.BinderLaws.{quoted_binds, none_added, some_added}
+use Rattle.program_leaves.specs.declared.leaves.Leaf.{Leaf}
+use Rattle.program_leaves.specs.Leaves.{seen_of, IsSeen}
+use Rattle.arrow_index.proofs.BinderLaws.{quoted_binds, none_added}
+use Rattle.program_leaves.proofs.PlaceSteps.{some_added}
 use Rattle.arrow_index.proofs.binders.add_leaf_binders.Goals as goal
 
 pub returns-in_ok-add_place-in-Binds : goal.returns-in_ok-add_place-in-Binds

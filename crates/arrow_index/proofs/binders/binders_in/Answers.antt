@@ -1,8 +1,8 @@
 use Rattle.std.proofs.Common.{◌++◌, List, map, sym, ap, ◌∙◌, subst}
 use Rattle.scheme_model.specs.declared.Occ.{Occ}
 use Rattle.scheme_model.specs.ProgramArrows.{leaf_binders, program_leaves}
-use Rattle.arrow_index.specs.declared.sight.PlacedLeaf.{PlacedLeaf}
-use Rattle.arrow_index.specs.Placed.{placed_of, AreAllSeen}
+use Rattle.program_leaves.specs.declared.sight.PlacedLeaf.{PlacedLeaf}
+use Rattle.program_leaves.specs.Placed.{placed_of, AreAllSeen}
 use Rattle.arrow_index.specs.Binders.{unit_places}
 use Rattle.arrow_index.proofs.BinderLaws.{binders_law}
 use Rattle.arrow_index.proofs.binders.binders_in.Goals as goal

@@ -1,7 +1,7 @@
 use Rattle.std.proofs.Common.{◌↔◌, List, sym, subst}
 use Rattle.scheme_model.specs.declared.Occ.{Occ}
 use Rattle.scheme_model.specs.ProgramArrows.{binders_in}
-use Rattle.arrow_index.specs.Members.{IsIn}
+use Rattle.program_leaves.specs.Members.{IsIn}
 use Rattle.arrow_index.proofs.binders.binders_of.Goals as goal
 
 pub binders_in-requires : goal.binders_in-requires

@@ -1,5 +1,5 @@
-use Rattle.arrow_index.proofs.Orders.{each_once, occ_total, occ_ties}
-use Rattle.arrow_index.proofs.KeyLaws.{one_occ}
+use Rattle.program_leaves.proofs.Orders.{each_once, occ_total, occ_ties}
+use Rattle.program_leaves.proofs.KeyLaws.{one_occ}
 use Rattle.arrow_index.proofs.binders.occs_in_order.Goals as goal
 
 pub returns : goal.returns

@@ -1,7 +1,7 @@
 use Rattle.std.proofs.Common.{◌≡◌, take}
 use Rattle.std.specs.List.{flat_map}
 use Rattle.std.specs.BTreeSet.{contains}
-use Rattle.arrow_index.specs.Placed.{occ_cmp}
+use Rattle.program_leaves.specs.Placed.{occ_cmp}
 use Rattle.arrow_index.specs.Classes.{names_from}
 use Rattle.arrow_index.proofs.classes.all_names.Given as goal
 

@@ -1,5 +1,5 @@
 use Rattle.std.proofs.Common.{◌≡◌, map, take}
-use Rattle.arrow_index.specs.Index.{as_arrow}
+use Rattle.program_leaves.specs.Pairs.{as_arrow}
 use Rattle.arrow_index.specs.Links.{as_link}
 use Rattle.arrow_index.specs.Classes.{ways_of}
 use Rattle.arrow_index.proofs.classes.all_ways.Given as goal

@@ -1,5 +1,5 @@
 use Rattle.std.specs.BTreeSet.{contains}
-use Rattle.arrow_index.specs.Placed.{occ_cmp}
+use Rattle.program_leaves.specs.Placed.{occ_cmp}
 use Rattle.arrow_index.proofs.ClassParts.{parts_law}
 use Rattle.arrow_index.proofs.classes.class_of.Goals as goal
 

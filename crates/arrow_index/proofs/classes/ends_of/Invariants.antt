@@ -1,7 +1,7 @@
 use Rattle.std.proofs.Common.{◌≡◌, map, take}
 use Rattle.std.specs.BTreeSet.{contains}
 use Rattle.scheme_model.specs.declared.Occ.{Occ}
-use Rattle.arrow_index.specs.Placed.{occ_cmp}
+use Rattle.program_leaves.specs.Placed.{occ_cmp}
 use Rattle.arrow_index.specs.Links.{as_link}
 use Rattle.scheme_model.specs.Spelling.{is_joined}
 use Rattle.arrow_index.proofs.classes.ends_of.Given as goal

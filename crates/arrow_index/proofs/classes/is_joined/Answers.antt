@@ -3,7 +3,7 @@ use Rattle.std.proofs.lemmas.List.{take_all}
 use Rattle.arrow_index.specs.Links.{as_link}
 use Rattle.scheme_model.specs.Spelling.{is_end, is_joined}
 use Rattle.arrow_index.specs.declared.links.Link.{Link}
-use Rattle.arrow_index.proofs.MemberLaws.{in_from, in_map}
+use Rattle.program_leaves.proofs.MemberLaws.{in_from, in_map}
 use Rattle.arrow_index.proofs.ClassWalks.{any_from}
 use Rattle.arrow_index.proofs.ClassParts.{joined_said}
 use Rattle.arrow_index.proofs.classes.is_joined.Goals as goal

@@ -1,6 +1,6 @@
 use Rattle.std.proofs.lemmas.Cmp.{nat_list_cmp_total}
 use Rattle.syntax_tree.proofs.InternLaws.{bytes_told}
-use Rattle.arrow_index.proofs.Orders.{each_once}
+use Rattle.program_leaves.proofs.Orders.{each_once}
 use Rattle.arrow_index.proofs.ClassParts.{name_ties}
 use Rattle.arrow_index.proofs.classes.names_in_order.Goals as goal
 

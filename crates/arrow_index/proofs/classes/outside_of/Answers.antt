@@ -4,8 +4,8 @@ use Rattle.scheme_model.specs.declared.Occ.{Occ}
 use Rattle.scheme_model.specs.Entries.{same_occ}
 use Rattle.scheme_model.specs.ProgramArrows.{uses_at}
 use Rattle.arrow_index.specs.Links.{as_link}
-use Rattle.arrow_index.specs.declared.pairs.Pair.{Pair}
-use Rattle.arrow_index.specs.Index.{AreArrows, AreOccs}
+use Rattle.program_leaves.specs.declared.pairs.Pair.{Pair}
+use Rattle.program_leaves.specs.Pairs.{AreArrows, AreOccs}
 use Rattle.arrow_index.specs.Classes.{ways_of, Reaches}
 use Rattle.arrow_index.proofs.ClassWalks.{IsWalk, walk_first, walk_next, walk_done}
 use Rattle.arrow_index.proofs.classes.outside_of.Goals as goal

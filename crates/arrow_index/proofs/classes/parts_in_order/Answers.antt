@@ -1,4 +1,4 @@
-use Rattle.arrow_index.proofs.Orders.{each_once}
+use Rattle.program_leaves.proofs.Orders.{each_once}
 use Rattle.arrow_index.proofs.ClassParts.{part_total, part_ties, one_part}
 use Rattle.arrow_index.proofs.classes.parts_in_order.Goals as goal
 

@@ -1,11 +1,11 @@
 use Rattle.std.proofs.Common.{◌≡◌, List, map, sym, subst}
 use Rattle.scheme_model.specs.ProgramArrows.{Arrow}
-use Rattle.arrow_index.specs.declared.pairs.Pair.{Pair}
-use Rattle.arrow_index.specs.Index.{as_arrow}
+use Rattle.program_leaves.specs.declared.pairs.Pair.{Pair}
+use Rattle.program_leaves.specs.Pairs.{as_arrow}
 use Rattle.arrow_index.specs.Links.{as_link}
-use Rattle.arrow_index.specs.Members.{IsIn}
+use Rattle.program_leaves.specs.Members.{IsIn}
 use Rattle.arrow_index.specs.Classes.{ways_of}
-use Rattle.arrow_index.proofs.MemberLaws.{same_listed}
+use Rattle.program_leaves.proofs.MemberLaws.{same_listed}
 use Rattle.arrow_index.proofs.classes.ways.Goals as goal
 
 same_pair : (p q : Pair) → as_arrow p ≡ as_arrow q → p ≡ q

@@ -6,8 +6,8 @@ use Rattle.scheme_model.specs.Program.{result_at}
 use Rattle.scheme_model.specs.Spelling.{links_at, entries_at, imported_origins}
 use Rattle.syntax_tree.specs.Meant.{AreOrigins}
 use Rattle.syntax_tree.specs.declared.units.Origin.{Origin}
-use Rattle.arrow_index.proofs.Growing.{grows_by_none}
-use Rattle.arrow_index.specs.Entries.{now_of, entry_found}
+use Rattle.program_leaves.proofs.Growing.{grows_by_none}
+use Rattle.program_leaves.specs.Entries.{now_of, entry_found}
 use Rattle.arrow_index.specs.Links.{as_link}
 use Rattle.arrow_index.proofs.IdentLaws.{entry_given, entry_none}
 use Rattle.arrow_index.proofs.ident_links.link_given.Goals as goal

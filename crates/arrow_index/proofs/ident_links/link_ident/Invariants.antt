@@ -3,7 +3,7 @@ use Rattle.scheme_model.specs.Cores.{Target}
 use Rattle.scheme_model.specs.Live.{CoreLeaf, NameUse}
 use Rattle.scheme_model.specs.Program.{UnitResult}
 use Rattle.scheme_model.specs.Substitution.{Table}
-use Rattle.arrow_index.specs.Sights.{Sees}
+use Rattle.program_leaves.specs.Sights.{Sees}
 use Rattle.arrow_index.proofs.IdentLaws.{Reached, depth_at}
 use Rattle.arrow_index.proofs.ident_links.link_ident.Given as goal
 

@@ -2,9 +2,9 @@ use Rattle.std.proofs.Common.{List, [], ◌∷◌, ◌+◌, map, take, get_or, r
 use Rattle.std.proofs.lemmas.List.{map-append, take_more, take_all}
 use Rattle.scheme_model.specs.declared.Occ.{Occ}
 use Rattle.scheme_model.specs.Spelling.{arrow_links}
-use Rattle.arrow_index.specs.declared.pairs.Pair.{Pair}
-use Rattle.arrow_index.specs.Index.{as_arrow}
-use Rattle.arrow_index.proofs.Growing.{grows_as, grows_by_none, grows_twice}
+use Rattle.program_leaves.specs.declared.pairs.Pair.{Pair}
+use Rattle.program_leaves.specs.Pairs.{as_arrow}
+use Rattle.program_leaves.proofs.Growing.{grows_as, grows_by_none, grows_twice}
 use Rattle.arrow_index.specs.Links.{as_link}
 use Rattle.arrow_index.proofs.LinkLaws.{arrows-append}
 use Rattle.arrow_index.proofs.links.link_arrows.Goals as goal

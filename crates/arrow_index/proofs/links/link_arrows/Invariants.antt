@@ -1,6 +1,6 @@
 use Rattle.std.proofs.Common.{◌≡◌, ◌++◌, map, take}
 use Rattle.scheme_model.specs.Spelling.{arrow_links}
-use Rattle.arrow_index.specs.Index.{as_arrow}
+use Rattle.program_leaves.specs.Pairs.{as_arrow}
 use Rattle.arrow_index.specs.Links.{as_link}
 use Rattle.arrow_index.proofs.links.link_arrows.Given as goal
 

@@ -1,8 +1,8 @@
 use Rattle.std.proofs.Common.{[], ◌∷◌, ◌+◌, Some, take, refl, sym, ap, ◌∙◌, arith}
 use Rattle.scheme_model.specs.Spelling.{links_at}
 use Rattle.syntax_tree.specs.Meant.{IsOrigin}
-use Rattle.arrow_index.proofs.Growing.{grows_as, grows_by_none, grows_twice}
-use Rattle.arrow_index.proofs.VariableLaws.{match_item, match_all}
+use Rattle.program_leaves.proofs.Growing.{grows_as, grows_by_none, grows_twice}
+use Rattle.program_leaves.proofs.VariableLaws.{match_item, match_all}
 use Rattle.arrow_index.specs.Links.{as_link}
 use Rattle.arrow_index.proofs.LinkLaws.{are_match, links-append}
 use Rattle.arrow_index.proofs.links.link_origins.Goals as goal

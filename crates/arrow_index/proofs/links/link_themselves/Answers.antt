@@ -2,7 +2,7 @@ use Rattle.std.proofs.Common.{[], ◌∷◌, ◌+◌, take, get_or, refl, sym, a
 use Rattle.std.proofs.lemmas.List.{take_more, take_all}
 use Rattle.scheme_model.specs.declared.Occ.{Occ}
 use Rattle.scheme_model.specs.Spelling.{links_to_themselves}
-use Rattle.arrow_index.proofs.Growing.{grows_as, grows_by_none, grows_twice}
+use Rattle.program_leaves.proofs.Growing.{grows_as, grows_by_none, grows_twice}
 use Rattle.arrow_index.specs.Links.{as_link}
 use Rattle.arrow_index.proofs.LinkLaws.{themselves-append}
 use Rattle.arrow_index.proofs.links.link_themselves.Goals as goal

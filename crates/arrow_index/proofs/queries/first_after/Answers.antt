@@ -1,8 +1,8 @@
 use Rattle.std.proofs.Common.{not, rules}
 use Rattle.std.specs.Ordering.{is_lt}
 use Rattle.std.proofs.lemmas.List.Sorted.{IsPartitionPoint-from_clause}
-use Rattle.arrow_index.specs.declared.pairs.Pair.{Pair}
-use Rattle.arrow_index.specs.Placed.{occ_cmp}
+use Rattle.program_leaves.specs.declared.pairs.Pair.{Pair}
+use Rattle.program_leaves.specs.Placed.{occ_cmp}
 use Rattle.arrow_index.proofs.QueryLaws.{after_parts}
 use Rattle.arrow_index.proofs.queries.first_after.Goals as goal
 

@@ -1,8 +1,8 @@
 use Rattle.std.proofs.Common.{◌<◌, ◌++◌, length, get_or, sym, ◌∙◌, arith}
 use Rattle.scheme_model.specs.declared.Occ.{Occ}
-use Rattle.arrow_index.specs.declared.pairs.Pair.{Pair}
+use Rattle.program_leaves.specs.declared.pairs.Pair.{Pair}
 use Rattle.arrow_index.specs.Binders.{targets_with}
-use Rattle.arrow_index.proofs.Growing.{flat_next}
+use Rattle.program_leaves.proofs.Growing.{flat_next}
 use Rattle.arrow_index.proofs.QueryLaws.{none_before, none_after, at_binder, one_target, uses_law}
 use Rattle.arrow_index.proofs.queries.uses_of.Goals as goal
 

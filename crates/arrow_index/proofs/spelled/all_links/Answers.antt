@@ -4,12 +4,12 @@ use Rattle.scheme_model.specs.ProgramArrows.{core_targets, is_live_at, binders_i
 use Rattle.scheme_model.specs.Spelling.{Link, target_links, name_links, links_to_themselves, macro_links, second_places_in}
 use Rattle.core_tree.specs.Names.{AllMatch}
 use Rattle.core_tree.specs.declared.units.Unit.{Unit as CodeUnit}
-use Rattle.arrow_index.specs.declared.sight.PlacedLeaf.{PlacedLeaf}
-use Rattle.arrow_index.specs.declared.sight.PlacedTarget.{PlacedTarget}
-use Rattle.arrow_index.specs.Placed.{placed_of, use_of, AreAllSeen, IsUseOf}
-use Rattle.arrow_index.specs.Members.{IsIn}
-use Rattle.arrow_index.specs.Sights.{IsNameOf, all_names, all_seconds}
-use Rattle.arrow_index.proofs.ToldLaws.{names_told}
+use Rattle.program_leaves.specs.declared.sight.PlacedLeaf.{PlacedLeaf}
+use Rattle.program_leaves.specs.declared.sight.PlacedTarget.{PlacedTarget}
+use Rattle.program_leaves.specs.Placed.{placed_of, use_of, AreAllSeen, IsUseOf}
+use Rattle.program_leaves.specs.Members.{IsIn}
+use Rattle.program_leaves.specs.Sights.{IsNameOf, all_names, all_seconds}
+use Rattle.program_leaves.proofs.ToldLaws.{names_told}
 use Rattle.arrow_index.specs.Links.{as_link}
 use Rattle.arrow_index.proofs.LinkLaws.{themselves-append}
 use Rattle.arrow_index.proofs.SpelledLaws.{links_law, seconds_told, same_before}

@@ -1,7 +1,7 @@
 use Rattle.std.proofs.Common.{[], Bool, subst, IsSorted}
 use Rattle.std.specs.declared.cmp.Ordering.{Ordering}
 use Rattle.std.specs.List.Retain.{IsFiltered, DiffersFromLast}
-use Rattle.arrow_index.proofs.Orders.{each_once}
+use Rattle.program_leaves.proofs.Orders.{each_once}
 use Rattle.arrow_index.specs.declared.links.Link.{Link}
 use Rattle.arrow_index.proofs.LinkOrders.{link_total, link_ties, one_link, cmp_is, eq_is}
 use Rattle.arrow_index.proofs.spelled.links_in_order.Goals as goal

@@ -1,7 +1,7 @@
 use Rattle.scheme_model.specs.Spelling.{links_of}
 use Rattle.arrow_index.specs.Links.{as_link}
 use Rattle.arrow_index.proofs.LinkOrders.{same_as_link}
-use Rattle.arrow_index.proofs.MemberLaws.{same_listed}
+use Rattle.program_leaves.proofs.MemberLaws.{same_listed}
 use Rattle.arrow_index.proofs.spelled.links_seen.Goals as goal
 
 pub returns : goal.returns

@@ -1,8 +1,8 @@
 use Rattle.std.proofs.Common.{◌↔◌, List, sym, subst}
 use Rattle.scheme_model.specs.declared.Occ.{Occ}
 use Rattle.scheme_model.specs.ProgramArrows.{binders_in}
-use Rattle.arrow_index.specs.Members.{IsIn}
-use Rattle.arrow_index.proofs.PlacedLaws.{units_formed}
+use Rattle.program_leaves.specs.Members.{IsIn}
+use Rattle.program_leaves.proofs.PlacedLaws.{units_formed}
 use Rattle.arrow_index.proofs.spelled.spelled_links.Goals as goal
 
 pub of-requires : goal.of-requires

@@ -5,9 +5,9 @@ use Rattle.scheme_model.specs.Spelling.{name_links}
 use Rattle.core_tree.specs.Names.{AllMatch}
 use Rattle.core_tree.specs.declared.units.NameUse as code_name
 use Rattle.core_tree.specs.declared.units.Unit.{Unit as CodeUnit}
-use Rattle.arrow_index.specs.Sights.{IsNameOf, all_names}
-use Rattle.arrow_index.proofs.AddLaws.{Past, past_none, past_more, past_all}
-use Rattle.arrow_index.proofs.Growing.{grows_by_none, grows_twice}
+use Rattle.program_leaves.specs.Sights.{IsNameOf, all_names}
+use Rattle.program_leaves.proofs.AddLaws.{Past, past_none, past_more, past_all}
+use Rattle.program_leaves.proofs.Growing.{grows_by_none, grows_twice}
 use Rattle.arrow_index.specs.Links.{as_link}
 use Rattle.arrow_index.proofs.LinkLaws.{names-append}
 use Rattle.arrow_index.proofs.SpelledLaws.{names_at}

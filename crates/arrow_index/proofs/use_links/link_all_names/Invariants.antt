@@ -2,8 +2,8 @@ use Rattle.std.proofs.Common.{◌≡◌, ◌++◌, List, map, drop}
 use Rattle.scheme_model.specs.Live.{NameUse}
 use Rattle.scheme_model.specs.Spelling.{name_links}
 use Rattle.core_tree.specs.Names.{AllMatch}
-use Rattle.arrow_index.specs.Sights.{IsNameOf, all_names}
-use Rattle.arrow_index.proofs.AddLaws.{Past}
+use Rattle.program_leaves.specs.Sights.{IsNameOf, all_names}
+use Rattle.program_leaves.proofs.AddLaws.{Past}
 use Rattle.arrow_index.specs.Links.{as_link}
 use Rattle.arrow_index.proofs.use_links.link_all_names.Given as goal
 

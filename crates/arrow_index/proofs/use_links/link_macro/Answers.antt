@@ -7,11 +7,11 @@ use Rattle.scheme_model.specs.ProgramArrows.{Arrow, is_live_at, rule_arrows}
 use Rattle.scheme_model.specs.Spelling.{arrow_links, macro_links}
 use Rattle.core_tree.specs.Names.{AllMatch, IsLeaf}
 use Rattle.core_tree.specs.declared.cores.RuleLeaf.{RuleLeaf}
-use Rattle.arrow_index.specs.declared.pairs.Pair.{Pair}
-use Rattle.arrow_index.specs.declared.leaves.Leaf.{Leaf}
-use Rattle.arrow_index.specs.Index.{as_arrow}
-use Rattle.arrow_index.specs.Leaves.{seen_of, IsSeen}
-use Rattle.arrow_index.proofs.Growing.{grows_by_none, grows_twice}
+use Rattle.program_leaves.specs.declared.pairs.Pair.{Pair}
+use Rattle.program_leaves.specs.declared.leaves.Leaf.{Leaf}
+use Rattle.program_leaves.specs.Pairs.{as_arrow}
+use Rattle.program_leaves.specs.Leaves.{seen_of, IsSeen}
+use Rattle.program_leaves.proofs.Growing.{grows_by_none, grows_twice}
 use Rattle.arrow_index.specs.Links.{as_link}
 use Rattle.arrow_index.proofs.LinkLaws.{static_links, quoted_macros}
 use Rattle.arrow_index.proofs.use_links.link_macro.Goals as goal

@@ -3,9 +3,9 @@ use Rattle.std.proofs.Math.ListN.{drop_of_length-le}
 use Rattle.scheme_model.specs.Live.{CoreLeaf}
 use Rattle.scheme_model.specs.ProgramArrows.{is_live_at}
 use Rattle.scheme_model.specs.Spelling.{macro_links}
-use Rattle.arrow_index.specs.Placed.{placed_of}
-use Rattle.arrow_index.proofs.Growing.{grows_by_none, grows_twice}
-use Rattle.arrow_index.proofs.StepLaws.{next_leaf, passed_none, passed_more, passed_all, seen_item}
+use Rattle.program_leaves.specs.Placed.{placed_of}
+use Rattle.program_leaves.proofs.Growing.{grows_by_none, grows_twice}
+use Rattle.program_leaves.proofs.StepLaws.{next_leaf, passed_none, passed_more, passed_all, seen_item}
 use Rattle.arrow_index.specs.Links.{as_link}
 use Rattle.arrow_index.proofs.LinkLaws.{macros-append}
 use Rattle.arrow_index.proofs.use_links.link_macros.Goals as goal

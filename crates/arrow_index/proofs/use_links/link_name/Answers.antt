@@ -3,7 +3,7 @@ use Rattle.scheme_model.specs.declared.Occ.{Occ}
 use Rattle.scheme_model.specs.Spelling.{links_at}
 use Rattle.syntax_tree.specs.Meant.{AreOrigins}
 use Rattle.syntax_tree.specs.declared.units.Origin.{Origin}
-use Rattle.arrow_index.proofs.Growing.{grows_by_none}
+use Rattle.program_leaves.proofs.Growing.{grows_by_none}
 use Rattle.arrow_index.specs.Links.{as_link}
 use Rattle.arrow_index.proofs.use_links.link_name.Goals as goal
 

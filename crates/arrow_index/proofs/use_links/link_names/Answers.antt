@@ -1,8 +1,8 @@
 use Rattle.std.proofs.Common.{[], take, refl, sym, ap, arith}
 use Rattle.scheme_model.specs.Spelling.{links_at, name_links}
-use Rattle.arrow_index.specs.Sights.{IsNameOf}
-use Rattle.arrow_index.proofs.Growing.{grows_as, grows_by_none, grows_twice}
-use Rattle.arrow_index.proofs.VariableLaws.{match_item, match_all}
+use Rattle.program_leaves.specs.Sights.{IsNameOf}
+use Rattle.program_leaves.proofs.Growing.{grows_as, grows_by_none, grows_twice}
+use Rattle.program_leaves.proofs.VariableLaws.{match_item, match_all}
 use Rattle.arrow_index.specs.Links.{as_link}
 use Rattle.arrow_index.proofs.LinkLaws.{names_more}
 use Rattle.arrow_index.proofs.use_links.link_names.Goals as goal

@@ -2,7 +2,7 @@ use Rattle.std.proofs.Common.{◌≡◌, ◌++◌, List, map, take}
 use Rattle.scheme_model.specs.Live.{NameUse}
 use Rattle.scheme_model.specs.Spelling.{name_links}
 use Rattle.core_tree.specs.Names.{AllMatch}
-use Rattle.arrow_index.specs.Sights.{IsNameOf}
+use Rattle.program_leaves.specs.Sights.{IsNameOf}
 use Rattle.arrow_index.specs.Links.{as_link}
 use Rattle.arrow_index.proofs.use_links.link_names.Given as goal
 

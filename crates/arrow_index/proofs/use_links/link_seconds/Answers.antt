@@ -2,9 +2,9 @@ use Rattle.std.proofs.Common.{◌+◌, ◌++◌, List, [], map, take, refl, sym,
 use Rattle.scheme_model.specs.declared.Occ.{Occ}
 use Rattle.scheme_model.specs.Spelling.{links_to_themselves}
 use Rattle.core_tree.specs.declared.units.Unit.{Unit as CodeUnit}
-use Rattle.arrow_index.specs.Sights.{all_seconds}
+use Rattle.program_leaves.specs.Sights.{all_seconds}
 use Rattle.arrow_index.specs.Links.{as_link}
-use Rattle.arrow_index.proofs.Growing.{grows_as, grows_by_none, grows_twice, flat_more, flat_all}
+use Rattle.program_leaves.proofs.Growing.{grows_as, grows_by_none, grows_twice, flat_more, flat_all}
 use Rattle.arrow_index.proofs.LinkLaws.{themselves-append}
 use Rattle.arrow_index.proofs.use_links.link_seconds.Goals as goal
 

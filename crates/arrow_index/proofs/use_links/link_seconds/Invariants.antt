@@ -1,6 +1,6 @@
 use Rattle.std.proofs.Common.{◌≡◌, ◌++◌, map, take}
 use Rattle.scheme_model.specs.Spelling.{links_to_themselves}
-use Rattle.arrow_index.specs.Sights.{all_seconds}
+use Rattle.program_leaves.specs.Sights.{all_seconds}
 use Rattle.arrow_index.specs.Links.{as_link}
 use Rattle.arrow_index.proofs.use_links.link_seconds.Given as goal
 

@@ -1,6 +1,6 @@
 use Rattle.std.proofs.Common.{◌||◌, not, sym, ◌∙◌}
 use Rattle.scheme_model.specs.ProgramArrows.{is_live_at}
-use Rattle.arrow_index.proofs.Growing.{grows_as, grows_by_none}
+use Rattle.program_leaves.proofs.Growing.{grows_as, grows_by_none}
 use Rattle.arrow_index.specs.Links.{as_link}
 use Rattle.arrow_index.proofs.LinkLaws.{of_target, static_is}
 use Rattle.arrow_index.proofs.use_links.link_static.Goals as goal

@@ -3,8 +3,8 @@ use Rattle.scheme_model.specs.ProgramArrows.{is_live_at}
 use Rattle.syntax_tree.specs.declared.meaning.Meaning.TheVariants as meanings
 use Rattle.core_tree.specs.Names.{IsLeaf}
 use Rattle.core_tree.specs.declared.cores.RuleLeaf.{RuleLeaf}
-use Rattle.arrow_index.proofs.Growing.{grows_as, grows_by_none, grows_twice}
-use Rattle.arrow_index.proofs.VariableLaws.{match_at, match_all}
+use Rattle.program_leaves.proofs.Growing.{grows_as, grows_by_none, grows_twice}
+use Rattle.program_leaves.proofs.VariableLaws.{match_at, match_all}
 use Rattle.arrow_index.specs.Links.{as_link}
 use Rattle.arrow_index.proofs.LinkLaws.{static_links, statics_more}
 use Rattle.arrow_index.proofs.use_links.link_statics.Goals as goal

@@ -6,8 +6,8 @@ use Rattle.scheme_model.specs.Program.{UnitResult}
 use Rattle.scheme_model.specs.ProgramArrows.{is_live_at}
 use Rattle.scheme_model.specs.Spelling.{target_links, leaf_targets}
 use Rattle.core_tree.specs.Names.{AllMatch, IsLeaf}
-use Rattle.arrow_index.specs.Sights.{Sees}
-use Rattle.arrow_index.specs.Entries.{Gives}
+use Rattle.program_leaves.specs.Sights.{Sees}
+use Rattle.program_leaves.specs.Entries.{Gives}
 use Rattle.arrow_index.specs.Links.{as_link}
 use Rattle.arrow_index.proofs.use_links.link_statics.Given as goal
 

@@ -2,10 +2,10 @@ use Rattle.std.proofs.Common.{◌≡◌, ◌<◌, None, subst, [], map, take, le
 use Rattle.std.proofs.lemmas.List.{get_or-map, length-map}
 use Rattle.scheme_model.specs.Spelling.{target_links}
 use Rattle.syntax_tree.specs.declared.meaning.Meaning.TheVariants as meanings
-use Rattle.arrow_index.specs.declared.sight.PlacedTarget.{PlacedTarget}
-use Rattle.arrow_index.specs.Placed.{use_of, Use, IsUseOf}
-use Rattle.arrow_index.proofs.Growing.{grows_as, grows_by_none, grows_twice}
-use Rattle.arrow_index.proofs.VariableLaws.{match_at, match_all}
+use Rattle.program_leaves.specs.declared.sight.PlacedTarget.{PlacedTarget}
+use Rattle.program_leaves.specs.Placed.{use_of, Use, IsUseOf}
+use Rattle.program_leaves.proofs.Growing.{grows_as, grows_by_none, grows_twice}
+use Rattle.program_leaves.proofs.VariableLaws.{match_at, match_all}
 use Rattle.arrow_index.specs.Links.{as_link}
 use Rattle.arrow_index.proofs.LinkLaws.{of_target, targets_more}
 use Rattle.arrow_index.proofs.use_links.link_targets.Goals as goal

@@ -5,9 +5,9 @@ use Rattle.scheme_model.specs.Live.{CoreLeaf, NameUse}
 use Rattle.scheme_model.specs.Program.{UnitResult}
 use Rattle.scheme_model.specs.Spelling.{target_links}
 use Rattle.core_tree.specs.Names.{AllMatch}
-use Rattle.arrow_index.specs.Placed.{use_of, IsUseOf}
-use Rattle.arrow_index.specs.Sights.{Sees}
-use Rattle.arrow_index.specs.Entries.{Gives}
+use Rattle.program_leaves.specs.Placed.{use_of, IsUseOf}
+use Rattle.program_leaves.specs.Sights.{Sees}
+use Rattle.program_leaves.specs.Entries.{Gives}
 use Rattle.arrow_index.specs.Links.{as_link}
 use Rattle.arrow_index.proofs.use_links.link_targets.Given as goal
 

@@ -5,9 +5,9 @@ use Rattle.scheme_model.specs.Trees.{map_tree}
 use Rattle.scheme_model.specs.Live.{CoreLeaf, any_name, no_hole}
 use Rattle.scheme_model.specs.ProgramArrows.{core_targets}
 use Rattle.scheme_model.specs.Spelling.{target_links}
-use Rattle.arrow_index.specs.declared.leaves.Leaf.{Leaf}
-use Rattle.arrow_index.specs.Leaves.{seen_of, IsSeen}
-use Rattle.arrow_index.proofs.Growing.{grows_as, grows_by_none}
+use Rattle.program_leaves.specs.declared.leaves.Leaf.{Leaf}
+use Rattle.program_leaves.specs.Leaves.{seen_of, IsSeen}
+use Rattle.program_leaves.proofs.Growing.{grows_as, grows_by_none}
 use Rattle.arrow_index.specs.Links.{as_link}
 use Rattle.arrow_index.proofs.LinkLaws.{of_target, quoted_targets}
 use Rattle.arrow_index.proofs.use_links.link_use.Goals as goal

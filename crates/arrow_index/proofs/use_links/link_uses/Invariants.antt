@@ -5,10 +5,10 @@ use Rattle.scheme_model.specs.Live.{CoreLeaf, NameUse}
 use Rattle.scheme_model.specs.Program.{UnitResult}
 use Rattle.scheme_model.specs.ProgramArrows.{core_targets}
 use Rattle.scheme_model.specs.Spelling.{target_links}
-use Rattle.arrow_index.specs.Placed.{placed_of, AreAllSeen}
-use Rattle.arrow_index.specs.Sights.{Sees}
-use Rattle.arrow_index.proofs.LiveLaws.{Passed}
-use Rattle.arrow_index.specs.Entries.{Gives}
+use Rattle.program_leaves.specs.Placed.{placed_of, AreAllSeen}
+use Rattle.program_leaves.specs.Sights.{Sees}
+use Rattle.program_leaves.proofs.LiveLaws.{Passed}
+use Rattle.program_leaves.specs.Entries.{Gives}
 use Rattle.arrow_index.specs.Links.{as_link}
 use Rattle.arrow_index.proofs.use_links.link_uses.Given as goal
 

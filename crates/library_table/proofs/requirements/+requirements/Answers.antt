@@ -81,7 +81,7 @@ all_hold-loop-part-preserved t c = λ has k at.
     let whole = all_hold (λ s. s) has (trees_at at ds) in
     let more = all_more has (tree_at at d) (trees_at at (drop (i + 1) ds)) whole hold c.in_ok-here.here
     (c.loop-part.invariant has k at ∙ ap (λ (ts : Trees (List ℕ)). map_ok (λ (b : Bool). hold && b) (all_hold (λ s. s) has ts)) (trees_more at ds i d (omega arith) c.part-item.is)) (c.in_ok-here.ensures has k at) in
-    more ∙ ap (λ (x : Bool). map_ok (λ (b : Bool). x && b) (all_hold (λ s. s) has (trees_at at (drop (i + 1) ds)))) (sym c.both-next.ensures)
+    more
 
 pub all_hold-returns : goal.all_hold-returns
 all_hold-returns t c = λ has k at.
@@ -113,7 +113,7 @@ some_holds-loop-part-preserved t c = λ has k at.
     let whole = some_holds (λ s. s) has (trees_at at ds) in
     let more = some_more has (tree_at at d) (trees_at at (drop (i + 1) ds)) whole hold c.in_ok-here.here
     (c.loop-part.invariant has k at ∙ ap (λ (ts : Trees (List ℕ)). map_ok (λ (b : Bool). hold || b) (some_holds (λ s. s) has ts)) (trees_more at ds i d (omega arith) c.part-item.is)) (c.in_ok-here.ensures has k at) in
-    more ∙ ap (λ (x : Bool). map_ok (λ (b : Bool). x || b) (some_holds (λ s. s) has (trees_at at (drop (i + 1) ds)))) (sym c.either-next.ensures)
+    more
 
 pub some_holds-returns : goal.some_holds-returns
 some_holds-returns t c = λ has k at.

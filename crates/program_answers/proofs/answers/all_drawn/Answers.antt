@@ -2,8 +2,8 @@ use Rattle.std.proofs.Common.{◌<◌, List, map, filter, length, sym, ap, ◌�
 use Rattle.std.specs.FinMap.{entries}
 use Rattle.std.proofs.lemmas.List.{take_all}
 use Rattle.scheme_model.specs.Diagnostics.{Bytes}
-use Rattle.arrow_index.specs.Members.{IsIn}
-use Rattle.arrow_index.specs.declared.pairs.Pair.{Pair}
+use Rattle.program_leaves.specs.Members.{IsIn}
+use Rattle.program_leaves.specs.declared.pairs.Pair.{Pair}
 use Rattle.program_answers.specs.BytesKept.{drawn_seen, has_end, pair_bytes}
 use Rattle.program_answers.specs.ToldAnswers.{facts_in}
 use Rattle.program_answers.specs.declared.bytes.Drawn.{Drawn}

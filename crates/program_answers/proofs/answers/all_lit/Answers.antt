@@ -3,7 +3,7 @@ use Rattle.std.specs.FinMap.{entries}
 use Rattle.std.proofs.lemmas.List.{take_all}
 use Rattle.scheme_model.specs.declared.Occ.{Occ}
 use Rattle.scheme_model.specs.Diagnostics.{Bytes}
-use Rattle.arrow_index.specs.Members.{IsIn}
+use Rattle.program_leaves.specs.Members.{IsIn}
 use Rattle.scheme_model.specs.Answers.{is_in, kind_of}
 use Rattle.program_answers.specs.BytesKept.{lit_seen}
 use Rattle.program_answers.specs.ToldAnswers.{facts_in}

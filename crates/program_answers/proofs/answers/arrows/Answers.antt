@@ -1,6 +1,6 @@
 use Rattle.std.proofs.Common.{map, ap, ◌∙◌, subst}
 use Rattle.std.specs.FinMap.{entries}
-use Rattle.arrow_index.specs.Members.{IsIn}
+use Rattle.program_leaves.specs.Members.{IsIn}
 use Rattle.scheme_model.specs.Answers.{drawn_before, ordered_by}
 use Rattle.program_answers.specs.BytesKept.{drawn_seen}
 use Rattle.program_answers.specs.ToldAnswers.{arrow_told, facts_in}

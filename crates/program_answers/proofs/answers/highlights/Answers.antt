@@ -1,7 +1,7 @@
 use Rattle.std.proofs.Common.{List, map, ◌++◌, ap, ◌∙◌, subst}
 use Rattle.std.specs.FinMap.{entries}
 use Rattle.scheme_model.specs.declared.Occ.{Occ}
-use Rattle.arrow_index.specs.Members.{IsIn}
+use Rattle.program_leaves.specs.Members.{IsIn}
 use Rattle.scheme_model.specs.Answers.{binders_for, lit_before, lit_in, ordered_by, uses_for}
 use Rattle.program_answers.specs.BytesKept.{lit_seen}
 use Rattle.program_answers.specs.ToldAnswers.{facts_in, highlight_told}

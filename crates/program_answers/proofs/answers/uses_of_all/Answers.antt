@@ -4,8 +4,8 @@ use Rattle.std.specs.List.Sorted.{IsStrictlySortedBy}
 use Rattle.std.proofs.lemmas.List.{take_all}
 use Rattle.scheme_model.specs.declared.Occ.{Occ}
 use Rattle.scheme_model.specs.ProgramArrows.{uses_at}
-use Rattle.arrow_index.specs.Index.{pair_cmp, AreArrows, AreOccs}
-use Rattle.arrow_index.specs.declared.pairs.Pair.{Pair}
+use Rattle.program_leaves.specs.Pairs.{pair_cmp, AreArrows, AreOccs}
+use Rattle.program_leaves.specs.declared.pairs.Pair.{Pair}
 use Rattle.program_answers.proofs.AskedLaws.{uses_more}
 use Rattle.program_answers.proofs.ListedLaws.{HaveSame, same_listed}
 use Rattle.program_answers.proofs.answers.uses_of_all.Goals as goal

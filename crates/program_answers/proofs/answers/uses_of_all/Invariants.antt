@@ -2,8 +2,8 @@ use Rattle.std.proofs.Common.{◌↔◌, List, take}
 use Rattle.std.specs.List.{flat_map}
 use Rattle.scheme_model.specs.declared.Occ.{Occ}
 use Rattle.scheme_model.specs.ProgramArrows.{Arrow, uses_at}
-use Rattle.arrow_index.specs.Index.{AreArrows}
-use Rattle.arrow_index.specs.Members.{IsIn}
+use Rattle.program_leaves.specs.Pairs.{AreArrows}
+use Rattle.program_leaves.specs.Members.{IsIn}
 use Rattle.program_answers.proofs.answers.uses_of_all.Given as goal
 
 -- the uses of the binders gone through

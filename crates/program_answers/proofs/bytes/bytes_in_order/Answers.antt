@@ -1,5 +1,5 @@
 -- What was sorted, each once, is what the definition puts in order.
-use Rattle.arrow_index.proofs.Orders.{each_once}
+use Rattle.program_leaves.proofs.Orders.{each_once}
 use Rattle.scheme_model.specs.Answers.{bytes_before}
 use Rattle.program_answers.specs.BytesKept.{bytes_seen}
 use Rattle.program_answers.proofs.BytesLaws.{bytes_cmp, bytes_order, bytes_ties, bytes_total, one_bytes}

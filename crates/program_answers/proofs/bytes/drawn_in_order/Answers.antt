@@ -1,5 +1,5 @@
 -- What was sorted, each once, is what the definition puts in order.
-use Rattle.arrow_index.proofs.Orders.{each_once}
+use Rattle.program_leaves.proofs.Orders.{each_once}
 use Rattle.scheme_model.specs.Answers.{drawn_before}
 use Rattle.program_answers.specs.BytesKept.{drawn_seen}
 use Rattle.program_answers.proofs.BytesLaws.{bytes_cmp, drawn_order, drawn_ties, drawn_total, one_drawn, pair_cmp}

@@ -1,6 +1,6 @@
 -- What was sorted, each once, is what the definition puts in order.
 use Rattle.std.specs.Ordering.{nat_cmp}
-use Rattle.arrow_index.proofs.Orders.{each_once}
+use Rattle.program_leaves.proofs.Orders.{each_once}
 use Rattle.scheme_model.specs.Answers.{lit_before}
 use Rattle.program_answers.specs.BytesKept.{lit_seen}
 use Rattle.program_answers.proofs.BytesLaws.{bytes_cmp, lit_order, lit_ties, lit_total, one_lit, pair_cmp}

@@ -16,7 +16,7 @@ use Rattle.document_units.specs.UnitSources.{IsSourceOf}
 use Rattle.unit_imports.specs.SetsGiven.{AreLibraries}
 use Rattle.document_units.specs.Turned.{scoped_at}
 use Rattle.program_expansion.specs.UnitsFound.{AreSetsFound}
-use Rattle.arrow_index.specs.Formed.{IsFormed}
+use Rattle.program_leaves.specs.Formed.{IsFormed}
 use Rattle.unit_imports.specs.EntriesMeant.{ExportsMean, HaveMeaning}
 use Rattle.document_units.specs.Places.{SameHead, AreHeads, AreHeadsIn, AreFoundIn, ArePlaces}
 use Rattle.unit_scopes.proofs.ImportLaws.{same_trees}

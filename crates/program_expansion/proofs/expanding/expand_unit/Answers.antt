@@ -10,6 +10,7 @@ use Rattle.syntax_tree.specs.Names.{KeepsNames}
 use Rattle.syntax_tree.specs.declared.units.Entry.{Entry}
 use Rattle.core_tree.specs.Names.{AllMatch}
 use Rattle.core_tree.specs.Units.{FormsStand, AreDefinitions, definitions_from, defined_by}
+use Rattle.core_tree.specs.declared.cores.Binder.{Binder}
 use Rattle.core_tree.specs.declared.units.UnitForm as core
 use Rattle.library_table.specs.UnitsRead.{form_of, forms_of}
 use Rattle.library_table.specs.declared.units.UnitForm.{UnitForm}
@@ -19,7 +20,7 @@ use Rattle.unit_scopes.specs.declared.scope.Imported.{Imported}
 use Rattle.unit_scopes.proofs.ImportLaws.{same_trees}
 use Rattle.unit_scopes.proofs.OutcomeLaws.{trees_on}
 use Rattle.program_expansion.specs.Begun.{IsImport}
-use Rattle.arrow_index.specs.Formed.{IsFormed}
+use Rattle.program_leaves.specs.Formed.{IsFormed}
 use Rattle.program_expansion.specs.UnitResults.{expanded_after, with_unit}
 use Rattle.program_expansion.specs.Forms.{AreFormed, Unfolds}
 use Rattle.program_expansion.specs.UnitsFound.{in_the_end}
@@ -31,6 +32,7 @@ use Rattle.program_expansion.proofs.CameKept.{libraries_kept}
 use Rattle.unit_imports.proofs.MeaningLaws.{entries_kept, mean_kept, names_on}
 use Rattle.program_expansion.proofs.UnitCame.{goes_begun, none_expands, its_forms, some_expands, stands_at}
 use Rattle.program_expansion.proofs.UnitLaws.{imports_given, unit_begun}
+use Rattle.program_expansion.proofs.UnitNumbers.{own_numbers, searched_numbers, with_own}
 use Rattle.program_expansion.proofs.UnitsTurns.{all_mean, formed_on, of_some}
 use Rattle.program_expansion.proofs.expanding.expand_unit.Goals as goal
 
@@ -91,8 +93,14 @@ pub returns-in_ok-came-in-Some-clause-bench : goal.returns-in_ok-came-in-Some-cl
 returns-in_ok-came-in-Some-clause-bench g c =
     bench_in c.expand_forms.new.bench c.finished.new.work c.in_ok-came-in-Some.ensures.trees c.in_ok-came-in-Some.ensures.names c.told_apart-in-Some.ensures.idents c.told_apart-in-Some.ensures.symbols c.in_ok-expanded.ensures.bench
 
+pub refuse-requires : goal.refuse-requires
+refuse-requires g c =
+    let as_many = of_some (λ (cs : List core.UnitForm). length cs ≡ length c.as_slice-3.result.now) c.in_ok-expanded.expanded c.in_ok-expanded.ensures.count c.in-Some.forms c.in-Some.is in
+    ap (λ (fs : List UnitForm). length fs) c.as_slice-in-Some.ensures ∙ (sym (ap (λ (fs : List UnitForm). length fs) c.as_slice-3.ensures) ∙ sym as_many)
+
 pub finished-requires-clause-forms : goal.finished-requires-clause-forms
-finished-requires-clause-forms g c = of_some (AreFormed c.expand_forms.new.bench.work c.args.unit) c.in_ok-expanded.expanded c.in_ok-expanded.ensures.formed c.in-Some.forms c.in-Some.is
+finished-requires-clause-forms g c =
+    c.in_ok-forms-in-Some.ensures.formed c.expand_forms.new.bench.work (of_some (AreFormed c.expand_forms.new.bench.work c.args.unit) c.in_ok-expanded.expanded c.in_ok-expanded.ensures.formed c.in-Some.forms c.in-Some.is)
 
 pub returns-in-None-clause-trees : goal.returns-in-None-clause-trees
 returns-in-None-clause-trees g c =
@@ -118,9 +126,9 @@ returns-in_ok-came-in-Some-clause-formed g c =
     let e = c.expand_forms.new.bench.work in
     let f = c.finished.new.work in
     let unit = c.args.unit in
-    let are = of_some (AreFormed e unit) c.in_ok-expanded.expanded c.in_ok-expanded.ensures.formed c.in-Some.forms c.in-Some.is in
+    let are = c.in_ok-forms-in-Some.ensures.formed e (of_some (AreFormed e unit) c.in_ok-expanded.expanded c.in_ok-expanded.ensures.formed c.in-Some.forms c.in-Some.is) in
     subst (λ (fs : List core.UnitForm). IsFormed f unit fs) (sym c.in_ok-came-in-Some.ensures.forms)
-    (formed_on e f (same_trees e f c.in_ok-came-in-Some.ensures.trees c.in_ok-came-in-Some.ensures.names) c.in_ok-came-in-Some.ensures.names unit c.in-Some.forms (are.formed, are.stand))
+    (formed_on e f (same_trees e f c.in_ok-came-in-Some.ensures.trees c.in_ok-came-in-Some.ensures.names) c.in_ok-came-in-Some.ensures.names unit c.in_ok-forms-in-Some.forms (are.formed, are.stand))
 
 -- ---- what the definition has of the unit
 
@@ -159,13 +167,19 @@ returns-in_ok-came-in-Some-clause-expands g c = λ spelled all known gp p import
     let forms = c.in-Some.forms in
     let f = its_forms all known mid gp p imports forms (subst (λ (cs : Option (List core.UnitForm)). Unfolds mid known p start cs) c.in-Some.is unfolds) in
     let names = names_on b.work.symbols w.symbols mid.work.symbols c.in_ok-imports.ensures.names (names_on w.symbols d.symbols mid.work.symbols c.in_ok-begin_unit.ensures.names c.in_ok-expanded.ensures.stays.names) in
-    let many : length forms ≡ length p.forms =
-    of_some (λ (cs : List core.UnitForm). length cs ≡ length c.as_slice-3.result.now) c.in_ok-expanded.expanded c.in_ok-expanded.ensures.count forms c.in-Some.is
+    let all_forms = c.in_ok-forms-in-Some.forms in
+    let read : p.forms ≡ forms_of c.as_slice-in-Some.result.now = source.forms ∙ ap (λ (fs : List UnitForm). forms_of fs) (sym c.as_slice-in-Some.ensures) in
+    let many : length all_forms ≡ length p.forms =
+    c.in_ok-forms-in-Some.ensures.count ∙ of_some (λ (cs : List core.UnitForm). length cs ≡ length c.as_slice-3.result.now) c.in_ok-expanded.expanded c.in_ok-expanded.ensures.count forms c.in-Some.is
     ∙ (ap (λ (fs : List UnitForm). length fs) c.as_slice-3.ensures ∙ (sym (length-map c.args.source.now.forms form_of) ∙ ap (λ (fs : List ModelForm). length fs) (sym source.forms))) in
     let gone = expanded_after known gp p imports.0 in
     let came = c.in_ok-came-in-Some.ensures.came spelled all (with_unit gp gone.1) p imports f.formed own source (libraries_kept b.work.symbols mid.work.symbols names c.args.libraries spelled all gp.results libraries)
-    (entries_kept b.work.symbols mid.work.symbols names es imports.0 are) many (subst (λ (n : ℕ). FormsStand mid.work n 0 forms f.formed) own f.stand)
-    (subst (λ (n : ℕ). AreDefinitions mid.work.symbols (reverse (definitions_from 0 forms)) (defined_by n gone.1.table)) own f.definitions) in
+    (entries_kept b.work.symbols mid.work.symbols names es imports.0 are) many
+    (with_own mid.work c.args.unit p (forms_of c.as_slice-in-Some.result.now) all_forms f.formed own read
+    (c.in_ok-forms-in-Some.ensures.stand mid.work f.formed (subst (λ (n : ℕ). FormsStand mid.work n 0 forms f.formed) own f.stand)
+    (own_numbers c.args.unit p (forms_of c.as_slice-in-Some.result.now) f.formed own read (searched_numbers known p start f.formed f.is))))
+    (subst (λ (bs : List (ℕ × Binder)). AreDefinitions mid.work.symbols (reverse bs) (defined_by c.args.unit gone.1.table)) (sym c.in_ok-forms-in-Some.ensures.definitions)
+    (subst (λ (n : ℕ). AreDefinitions mid.work.symbols (reverse (definitions_from 0 forms)) (defined_by n gone.1.table)) own f.definitions)) in
     some_expands all known mid gp p imports (record mid { work = c.finished.new.work }) c.in_ok-came-in-Some.came forms
     (stands_at mid c.finished.new.work gone.1 c.in_ok-came-in-Some.ensures.trees c.in_ok-came-in-Some.ensures.names c.told_apart-in-Some.ensures.idents c.told_apart-in-Some.ensures.symbols unfolds.stands) f came
 
@@ -190,8 +204,13 @@ returns-in_ok-came-in-Some-clause-finds g c = λ spelled known gp p imports know
     let names = names_on b.work.symbols w.symbols mid.work.symbols c.in_ok-imports.ensures.names (names_on w.symbols d.symbols mid.work.symbols c.in_ok-begin_unit.ensures.names c.in_ok-expanded.ensures.stays.names) in
     let gone = expanded_after known gp p imports.0 in
     let came = c.in_ok-came-in-Some.came in
-    let found = c.in_ok-came-in-Some.ensures.finds spelled (with_unit gp gone.1) p imports f.formed own source (entries_kept b.work.symbols mid.work.symbols names es imports.0 are) (subst (λ (n : ℕ). FormsStand mid.work n 0 forms f.formed) own f.stand)
-    (subst (λ (n : ℕ). AreDefinitions mid.work.symbols (reverse (definitions_from 0 forms)) (defined_by n gone.1.table)) own f.definitions) reads ends r places at unit_is sets in
+    let read : p.forms ≡ forms_of c.as_slice-in-Some.result.now = source.forms ∙ ap (λ (fs : List UnitForm). forms_of fs) (sym c.as_slice-in-Some.ensures) in
+    let found = c.in_ok-came-in-Some.ensures.finds spelled (with_unit gp gone.1) p imports f.formed own source (entries_kept b.work.symbols mid.work.symbols names es imports.0 are)
+    (with_own mid.work c.args.unit p (forms_of c.as_slice-in-Some.result.now) c.in_ok-forms-in-Some.forms f.formed own read
+    (c.in_ok-forms-in-Some.ensures.stand mid.work f.formed (subst (λ (n : ℕ). FormsStand mid.work n 0 forms f.formed) own f.stand)
+    (own_numbers c.args.unit p (forms_of c.as_slice-in-Some.result.now) f.formed own read (searched_numbers known p start f.formed f.is))))
+    (subst (λ (bs : List (ℕ × Binder)). AreDefinitions mid.work.symbols (reverse bs) (defined_by c.args.unit gone.1.table)) (sym c.in_ok-forms-in-Some.ensures.definitions)
+    (subst (λ (n : ℕ). AreDefinitions mid.work.symbols (reverse (definitions_from 0 forms)) (defined_by n gone.1.table)) own f.definitions)) reads ends r places at unit_is sets in
     subst (λ (o : Option (List Formed)). IsFoundOf reads (in_the_end ends (with_unit gp gone.1)) (unit_result p imports gone.1.table o) came.findings.items) (sym f.is) found
 
 pub returns-in-None-clause-libraries : goal.returns-in-None-clause-libraries

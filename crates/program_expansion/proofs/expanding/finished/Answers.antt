@@ -7,6 +7,9 @@ use Rattle.syntax_tree.specs.declared.units.Entry.{Entry}
 use Rattle.core_tree.specs.Units.{AreDefinitions, FormsStand, definitions_from, defined_by, export_errors, form_errors}
 use Rattle.core_tree.specs.declared.cores.Binder.{Binder}
 use Rattle.core_tree.specs.declared.units.UnitForm.{UnitForm}
+use Rattle.library_table.specs.declared.units.ImportSpec.{ImportSpec}
+use Rattle.document_units.specs.UnitSources.{IsSpec}
+use Rattle.core_tree.specs.Names.{AllMatch}
 use Rattle.unit_scopes.proofs.ImportLaws.{same_trees}
 use Rattle.expansion_laws.proofs.PartsStay.{forms_on}
 use Rattle.unit_imports.specs.Defined.{AreKnown, FindsNames}
@@ -38,8 +41,8 @@ pub add_hiding-requires-clause-known : goal.add_hiding-requires-clause-known
 add_hiding-requires-clause-known c =
     let old = c.args.work.now.symbols in
     let now = c.names_used.new.work.symbols in
-    let is : c.as_slice-5.result.now ≡ definitions_from 0 c.args.forms = c.as_slice-5.ensures.value ∙ c.in_ok-defined.ensures ∙ ap (λ (fs : List UnitForm). definitions_from 0 fs) c.as_slice-slice.ensures in
-    known_kept old now c.in_ok-used.ensures.names c.as_slice-5.result.now (subst (λ (bs : List (ℕ × Binder)). AreKnown old bs) (sym is) (formed_known c.args.work.now c.args.unit c.args.forms c.requires.forms))
+    let is : c.as_slice-6.result.now ≡ definitions_from 0 c.args.forms = c.as_slice-6.ensures.value ∙ c.in_ok-defined.ensures ∙ ap (λ (fs : List UnitForm). definitions_from 0 fs) c.as_slice-slice.ensures in
+    known_kept old now c.in_ok-used.ensures.names c.as_slice-6.result.now (subst (λ (bs : List (ℕ × Binder)). AreKnown old bs) (sym is) (formed_known c.args.work.now c.args.unit c.args.forms c.requires.forms))
 
 pub add_unbound_if-requires-clause-forms : goal.add_unbound_if-requires-clause-forms
 add_unbound_if-requires-clause-forms c =
@@ -60,7 +63,7 @@ pub returns-clause-exports : goal.returns-clause-exports
 returns-clause-exports c =
     let old = c.args.work.now.symbols in
     let now = c.names_used.new.work.symbols in
-    c.in_ok-exports.ensures.entries now (subst (λ (es : List Entry). HaveMeaning now es) (sym c.as_slice-4.ensures.value) (mean_kept old now c.in_ok-used.ensures.names c.in_ok-names.names.items c.in_ok-names.ensures.means))
+    c.in_ok-exports.ensures.entries now (subst (λ (es : List Entry). HaveMeaning now es) (sym c.as_slice-5.ensures.value) (mean_kept old now c.in_ok-used.ensures.names c.in_ok-names.names.items c.in_ok-names.ensures.means))
 
 pub returns-clause-came : goal.returns-clause-came
 returns-clause-came c = λ spelled us q p imports fs own source libraries are many stand told.
@@ -74,9 +77,9 @@ returns-clause-came c = λ spelled us q p imports fs own source libraries are ma
     let finds = c.in_ok-names.ensures.finds q.table (subst (λ (bs : List (ℕ × Binder)). AreDefinitions old.symbols (reverse bs) (defined_by unit q.table)) (sym is) told) imports.0 are in
     let names = c.in_ok-names.names.items in
     let used = c.in_ok-used.ensures.exact spelled us q.units libraries p.specs (source.imports refl) find (subst (λ (es : List Entry). FindsNames old.symbols es find) (sym c.as_slice-3.ensures.value) finds) p.exports source.exports source.single in
-    let exports = c.in_ok-exports.ensures.exact new.symbols find (subst (λ (es : List Entry). FindsNames new.symbols es find) (sym c.as_slice-4.ensures.value) (finds_kept old.symbols new.symbols keeps names find finds)) p.exports source.exports in
+    let exports = c.in_ok-exports.ensures.exact new.symbols find (subst (λ (es : List Entry). FindsNames new.symbols es find) (sym c.as_slice-5.ensures.value) (finds_kept old.symbols new.symbols keeps names find finds)) p.exports source.exports in
     came_of us q p imports fs new _ unit own (entries_kept old.symbols new.symbols keeps c.args.given.joined.entries.items imports.0 are) (forms_on old new trees keeps unit c.args.forms (with_refused p.number 0 p.forms fs) 0 stand) many
-    (definitions_kept old new trees keeps (reverse (definitions_from 0 c.args.forms)) (defined_by unit q.table) told) used exports (c.in_ok-seconds.ensures spelled p.specs (source.imports refl))
+    (definitions_kept old new trees keeps (reverse (definitions_from 0 c.args.forms)) (defined_by unit q.table) told) used exports (c.in_ok-seconds.ensures spelled p.specs (subst (λ (ss : List ImportSpec). AllMatch (IsSpec spelled) ss p.specs) (sym c.as_slice-4.ensures) (source.imports refl)))
 
 pub returns-clause-finds : goal.returns-clause-finds
 returns-clause-finds c = λ spelled q p imports fs own source are stand told reads ends r places at unit_is sets.
@@ -95,10 +98,10 @@ returns-clause-finds c = λ spelled q p imports fs own source are stand told rea
     let f4 = c.add_unbound_if.new.findings.items in
     let f5 = c.add_no_import.new.findings.items in
     let is : c.as_slice-2.result.now ≡ definitions_from 0 c.args.forms = c.as_slice-2.ensures.value ∙ c.in_ok-defined.ensures ∙ ap (λ (fs : List UnitForm). definitions_from 0 fs) c.as_slice-slice.ensures in
-    let is_too : c.as_slice-5.result.now ≡ definitions_from 0 c.args.forms = c.as_slice-5.ensures.value ∙ c.in_ok-defined.ensures ∙ ap (λ (fs : List UnitForm). definitions_from 0 fs) c.as_slice-slice.ensures in
+    let is_too : c.as_slice-6.result.now ≡ definitions_from 0 c.args.forms = c.as_slice-6.ensures.value ∙ c.in_ok-defined.ensures ∙ ap (λ (fs : List UnitForm). definitions_from 0 fs) c.as_slice-slice.ensures in
     let names = c.in_ok-names.names.items in
     let finds = c.in_ok-names.ensures.finds q.table (subst (λ (bs : List (ℕ × Binder)). AreDefinitions old.symbols (reverse bs) (defined_by unit q.table)) (sym is) told) imports.0 are in
-    let named = subst (λ (es : List Entry). FindsNames old.symbols es find) (sym c.as_slice-4.ensures.value) finds in
+    let named = subst (λ (es : List Entry). FindsNames old.symbols es find) (sym c.as_slice-5.ensures.value) finds in
     let xfaults = (export_all find [] p.exports).faults in
     let exports : Adds f0 f1 (export_diagnostics bytes unit xfaults) (export_errors xfaults) =
     record { told = c.in_ok-exports.ensures.told old.symbols find named p.exports source.exports reads ends places; errors = c.in_ok-exports.ensures.errors old.symbols find named p.exports source.exports } in

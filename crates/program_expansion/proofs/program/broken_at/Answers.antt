@@ -3,7 +3,7 @@ use Rattle.std.proofs.Common.{◌≡◌, ℕ, Option, Some, length, refl, sym, a
 use Rattle.std.specs.Prelude.{unwrap_or}
 use Rattle.std.proofs.lemmas.Option.{same_Some, slice_get_read}
 use Rattle.scheme_model.specs.Program.{result_at}
-use Rattle.arrow_index.specs.Formed.{IsFormed}
+use Rattle.program_leaves.specs.Formed.{IsFormed}
 use Rattle.document_units.specs.Broken.{told as told_as}
 use Rattle.document_units.specs.declared.listing.WholeFault.{WholeFault}
 use Rattle.document_units.specs.declared.listing.WholeFault.TheVariants as fault
@@ -18,6 +18,7 @@ returns-clause-nothing c = record {
   blank = c.in_ok-broken.ensures.forms;
   as_many = c.in_ok-broken.ensures.count;
   names = c.in_ok-broken.ensures.names;
+  seconds = c.in_ok-broken.ensures.seconds;
   entries = c.in_ok-broken.ensures.entries;
   exports = c.in_ok-broken.ensures.exports;
 }

@@ -12,7 +12,7 @@ use Rattle.document_units.specs.declared.findings.Finding.{Finding}
 use Rattle.document_units.specs.declared.findings.At.{At}
 use Rattle.document_units.specs.declared.listing.Head.{Head}
 use Rattle.document_units.specs.Belongs.{AreErrorsIn}
-use Rattle.arrow_index.specs.Formed.{IsFormed, AreFormedIn}
+use Rattle.program_leaves.specs.Formed.{IsFormed, AreFormedIn}
 use Rattle.document_units.specs.Findings.{AreKept, all_told, first_error_in}
 use Rattle.document_units.specs.Places.{AreFoundIn, AreHeads, AreHeadsIn, ArePlaces, HaveTokens}
 use Rattle.document_units.specs.Readings.{AreDocuments, program_in}

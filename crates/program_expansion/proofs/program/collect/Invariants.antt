@@ -1,6 +1,6 @@
 use Rattle.std.proofs.Common.{◌≡◌, ℕ, ◌≤◌, List, length, map, slice_get, vec_len}
 use Rattle.document_units.specs.Belongs.{AreErrorsIn}
-use Rattle.arrow_index.specs.Formed.{AreFormedIn}
+use Rattle.program_leaves.specs.Formed.{AreFormedIn}
 use Rattle.scheme_model.specs.Program.{Program}
 use Rattle.document_units.specs.Places.{HeadsStay, HaveTokens}
 use Rattle.document_units.specs.Readings.{Read}

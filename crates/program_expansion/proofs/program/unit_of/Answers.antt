@@ -7,7 +7,7 @@ use Rattle.unit_imports.proofs.Collecting.{mapped_at}
 use Rattle.program_expansion.proofs.program.unit_of.Goals as goal
 
 pub returns-clause-has : goal.returns-clause-has
-returns-clause-has c = record { forms = c.forms.view_is; names = c.names.view_is; entries = c.from_vec.ensures; exports = c.exports.view_is }
+returns-clause-has c = record { forms = c.forms.view_is; names = c.names.view_is; seconds = c.seconds.view_is; entries = c.from_vec.ensures; exports = c.exports.view_is }
 
 pub returns-clause-uri : goal.returns-clause-uri
 returns-clause-uri c =

@@ -1,7 +1,7 @@
 use Rattle.std.proofs.Common.{map, List, ◌++◌, append-nil, sym, ap, ◌∙◌}
 use Rattle.core_tree.specs.declared.cores.Target.{Target}
-use Rattle.arrow_index.specs.Leaves.{seen_of, items_seen}
-use Rattle.arrow_index.specs.declared.leaves.Leaf.{Leaf}
+use Rattle.program_leaves.specs.Leaves.{seen_of, items_seen}
+use Rattle.program_leaves.specs.declared.leaves.Leaf.{Leaf}
 use Rattle.program_findings.specs.Unbound.{free_uses}
 use Rattle.program_findings.proofs.UnboundLaws.{broken_none, whole_all}
 use Rattle.program_findings.proofs.unbound.in_form.Goals as goal

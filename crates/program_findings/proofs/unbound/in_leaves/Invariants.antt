@@ -1,5 +1,5 @@
 use Rattle.std.proofs.Common.{◌≡◌, ◌++◌, map}
-use Rattle.arrow_index.specs.Leaves.{seen_of}
+use Rattle.program_leaves.specs.Leaves.{seen_of}
 use Rattle.program_findings.specs.Unbound.{free_uses}
 use Rattle.program_findings.proofs.unbound.in_leaves.Given as goal
 

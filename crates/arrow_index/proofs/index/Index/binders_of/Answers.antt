@@ -1,9 +1,9 @@
 use Rattle.std.proofs.Common.{◌↔◌, List, sym, subst}
 use Rattle.scheme_model.specs.declared.Occ.{Occ}
 use Rattle.scheme_model.specs.ProgramArrows.{arrows_of, binders_in}
-use Rattle.arrow_index.specs.Index.{AreArrows}
-use Rattle.arrow_index.specs.Members.{IsIn}
-use Rattle.arrow_index.specs.declared.pairs.Pair.{Pair}
+use Rattle.program_leaves.specs.Pairs.{AreArrows}
+use Rattle.program_leaves.specs.Members.{IsIn}
+use Rattle.program_leaves.specs.declared.pairs.Pair.{Pair}
 use Rattle.arrow_index.proofs.AccessLaws.{occs_alike}
 use Rattle.arrow_index.proofs.index.Index.binders_of.Goals as goal
 

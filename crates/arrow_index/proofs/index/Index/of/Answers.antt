@@ -1,9 +1,9 @@
 use Rattle.std.proofs.Common.{◌↔◌, List, sym, subst}
 use Rattle.scheme_model.specs.declared.Occ.{Occ}
 use Rattle.scheme_model.specs.ProgramArrows.{binders_in}
-use Rattle.arrow_index.specs.Members.{IsIn}
+use Rattle.program_leaves.specs.Members.{IsIn}
 use Rattle.arrow_index.proofs.AccessLaws.{sorted_occs}
-use Rattle.arrow_index.proofs.PlacedLaws.{units_formed}
+use Rattle.program_leaves.proofs.PlacedLaws.{units_formed}
 use Rattle.arrow_index.proofs.index.Index.of.Goals as goal
 
 pub of-requires : goal.of-requires

@@ -2,7 +2,7 @@
 use Rattle.std.proofs.Common.{sym, ◌∙◌, subst}
 use Rattle.std.specs.FinMap.{entries}
 use Rattle.std.specs.List.Sorted.{IsStrictlySortedBy}
-use Rattle.arrow_index.specs.Index.{pair_cmp}
+use Rattle.program_leaves.specs.Pairs.{pair_cmp}
 use Rattle.arrow_index.specs.declared.index.Index.{Index}
 use Rattle.workspace_state.specs.Indexed.{index_in}
 use Rattle.program_answers.specs.ToldAnswers.{answer_of, query_of}

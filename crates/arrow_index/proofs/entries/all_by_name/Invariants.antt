@@ -1,7 +1,0 @@
-use Rattle.std.proofs.Common.{take}
-use Rattle.core_tree.specs.Names.{AllMatch}
-use Rattle.arrow_index.specs.Entries.{HasEntries}
-use Rattle.arrow_index.proofs.entries.all_by_name.Given as goal
-
-abbrev pub invariant-loop-unit : goal.invariant-loop-unit
-invariant-loop-unit l = AllMatch HasEntries l.found.items (take l.unit-index l.units)

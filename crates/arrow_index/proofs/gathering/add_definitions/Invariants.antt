@@ -1,8 +1,0 @@
-use Rattle.std.proofs.Common.{◌≡◌, take}
-use Rattle.std.specs.BTreeMap.{get}
-use Rattle.arrow_index.specs.declared.sight.GlobalNo.{GlobalNo}
-use Rattle.arrow_index.specs.Placed.{global_cmp, given_by, given_after}
-use Rattle.arrow_index.proofs.gathering.add_definitions.Given as goal
-
-abbrev pub invariant-loop-binder : goal.invariant-loop-binder
-invariant-loop-binder l = (k : GlobalNo) → get global_cmp l.definitions k ≡ given_after (given_by l.unit (take l.binder-index l.binders)) k (get global_cmp l.fn.definitions k)

@@ -1,6 +1,0 @@
-use Rattle.std.proofs.Common.{◌≡◌, ◌++◌, map, take}
-use Rattle.arrow_index.specs.Placed.{use_of, uses_at}
-use Rattle.arrow_index.proofs.gathering.add_targets.Given as goal
-
-abbrev pub invariant-loop-target : goal.invariant-loop-target
-invariant-loop-target l = map use_of l.met.items ≡ map use_of l.fn.met.items ++ uses_at l.at.unit l.at.form (take l.target-index l.found)

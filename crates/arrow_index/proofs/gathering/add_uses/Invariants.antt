@@ -1,6 +1,0 @@
-use Rattle.std.proofs.Common.{◌≡◌, ◌++◌, map, take}
-use Rattle.arrow_index.specs.Placed.{use_of, uses_at, macro_targets}
-use Rattle.arrow_index.proofs.gathering.add_uses.Given as goal
-
-abbrev pub invariant-loop-macro_use : goal.invariant-loop-macro_use
-invariant-loop-macro_use l = map use_of l.met.items ≡ map use_of l.fn.met.items ++ uses_at l.at.unit l.at.form (macro_targets (take l.macro_use-index l.uses))

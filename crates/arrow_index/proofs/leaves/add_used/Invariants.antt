@@ -1,6 +1,0 @@
-use Rattle.std.proofs.Common.{◌≡◌, ◌++◌, map, take}
-use Rattle.arrow_index.specs.Leaves.{seen_of, fields_seen}
-use Rattle.arrow_index.proofs.leaves.add_used.Given as goal
-
-abbrev pub invariant-loop-field : goal.invariant-loop-field
-invariant-loop-field l = map seen_of l.leaves.items ≡ map seen_of l.fn.leaves.items ++ fields_seen l.fields (take l.field-index l.used)

@@ -1,0 +1,34 @@
+use Rattle.std.proofs.Common.{List, take, sym, ap, subst}
+use Rattle.scheme_model.specs.RulesShape.{pattern_variables}
+use Rattle.scheme_model.specs.ProgramArrows.{template_arrows, rule_arrows}
+use Rattle.syntax_tree.specs.Macros.{identifiers, AreRules}
+use Rattle.syntax_tree.specs.declared.rules.Rule.{Rule}
+use Rattle.program_leaves.specs.Pairs.{as_arrow}
+use Rattle.program_leaves.proofs.Growing.{grows_as, grows_twice}
+use Rattle.program_leaves.proofs.VariableLaws.{tells_roles, rule_at, rules_all, arrows_more}
+use Rattle.program_leaves.proofs.variables.add_rules_arrows.Goals as goal
+
+pub add_rule_arrows-requires : goal.add_rule_arrows-requires
+add_rule_arrows-requires c =
+    let w = c.args.work.now in
+    let r = c.requires.0 in
+    let are = subst (λ (xs : List Rule). AreRules w xs r.rules) (sym c.as_slice-rule-items.ensures) c.requires.1.rules in
+    let a = rule_at w c.as_slice-rule-items.result.now r.rules c.loop-rule.rule-index (record { pattern = record { number = 0 }; template = record { number = 0 } }) are c.loop-rule-test.true in
+    (a.item, a.is)
+
+pub loop-rule-preserved : goal.loop-rule-preserved
+loop-rule-preserved c = λ r of.
+    let w = c.args.work.now in
+    let k = c.loop-rule.rule-index in
+    let are = subst (λ (xs : List Rule). AreRules w xs r.rules) (sym c.as_slice-rule-items.ensures) of.rules in
+    let a = rule_at w c.as_slice-rule-items.result.now r.rules k (record { pattern = record { number = 0 }; template = record { number = 0 } }) are c.loop-rule-test.true in
+    let tells = tells_roles w.symbols c.in_ok-roles.roles c.args.rules.now r c.in_ok-roles.ensures of.ellipsis of.literals in
+    grows_twice as_arrow c.args.pairs.now.items c.loop-rule.pairs.items c.add_rule_arrows.new.pairs.items (rule_arrows r (take k r.rules)) (template_arrows (pattern_variables identifiers r a.item) a.item.template) _ (c.loop-rule.invariant r of)
+    (c.in_ok-add_rule_arrows.ensures r a.item tells a.is) (arrows_more r r.rules k a.item a.more)
+
+pub returns : goal.returns
+returns c = λ r of.
+    let w = c.args.work.now in
+    let are = subst (λ (xs : List Rule). AreRules w xs r.rules) (sym c.as_slice-rule-items.ensures) of.rules in
+    grows_as as_arrow c.args.pairs.now.items c.loop-rule.pairs.items (rule_arrows r (take c.loop-rule.rule-index r.rules)) (rule_arrows r r.rules) (c.loop-rule.invariant r of)
+    (ap (rule_arrows r) (sym (rules_all w c.as_slice-rule-items.result.now r.rules c.loop-rule.rule-index are c.loop-rule-test.false)))
