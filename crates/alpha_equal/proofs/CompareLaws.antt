@@ -14,7 +14,7 @@ use Rattle.scheme_model.specs.Identifiers.{Number, same_number}
 use Rattle.rename_model.specs.SameProgram as same
 use Rattle.core_tree.specs.Names.{AllMatch}
 use Rattle.core_tree.specs.declared.cores.Binder.{Binder}
-use Rattle.arrow_index.proofs.KeyLaws.{both_equal, numbers_equal}
+use Rattle.program_leaves.proofs.KeyLaws.{both_equal, numbers_equal}
 use Rattle.alpha_equal.specs.Points.{locals_of}
 use Rattle.alpha_equal.specs.Compared.{partners_cmp, local}
 

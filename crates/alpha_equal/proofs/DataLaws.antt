@@ -12,11 +12,11 @@ use Rattle.scheme_model.specs.Leaves.{if_escape}
 use Rattle.scheme_model.specs.Matching.{behind}
 use Rattle.scheme_model.specs.Ident.{Ident as Identifier}
 use Rattle.rename_model.specs.Walks.{TreeNode, NameAt, AtomAt, ListOf, VectorOf, Escape, has_tail, list_nodes, nodes_in, nodes_among, nodes_behind, nodes_escaped}
-use Rattle.arrow_index.specs.Adds.{Adds}
-use Rattle.arrow_index.specs.Holes.{occs_among}
-use Rattle.arrow_index.specs.Names.{list_parts, list_end}
-use Rattle.arrow_index.proofs.AddLaws.{adds_both, adds_same}
-use Rattle.arrow_index.proofs.HoleLaws.{is_hole, Row, PartAt, left_of_row}
+use Rattle.program_leaves.specs.Adds.{Adds}
+use Rattle.program_leaves.specs.Holes.{occs_among}
+use Rattle.program_leaves.specs.Names.{list_parts, list_end}
+use Rattle.program_leaves.proofs.AddLaws.{adds_both, adds_same}
+use Rattle.program_leaves.proofs.HoleLaws.{is_hole, Row, PartAt, left_of_row}
 
 abbrev Datum : Type 0
 Datum = Tree (Option (List ℕ))

@@ -17,7 +17,7 @@ use Rattle.core_tree.specs.declared.cores.CorePart.TheVariants as parts
 use Rattle.core_tree.specs.declared.cores.Core.TheOpen.{Core-F, CorePart-F}
 use Rattle.core_tree.specs.declared.cores.Core.TheFolds.{fold-roll-Core, fold-roll-CorePart, fold_out-Clause}
 use Rattle.rename_model.specs.Walks.{truth_number}
-use Rattle.arrow_index.proofs.Growing.{grows_twice}
+use Rattle.program_leaves.proofs.Growing.{grows_twice}
 use Rattle.alpha_equal.specs.declared.nodes.Node.TheVariants as nodes
 use Rattle.alpha_equal.specs.Marks.{Marked, ANode, ANumber, AUse, AnAtom, ADatum, Binding, SomeRules, joined, PartMarks, core_step, clause_step, part_step, core_marks, clause_marks, part_all, part_binding, part_marks, cores_marks, clauses_marks, parts_binding, parts_marks, bound_marks, bounds_marks, number_marks, used_marks, formal_marks, macro_bindings, macros_marks}
 

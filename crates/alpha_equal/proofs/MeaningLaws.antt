@@ -10,8 +10,8 @@ use Rattle.syntax_tree.specs.Names.{Names}
 use Rattle.syntax_tree.specs.Macros.{IsIdent}
 use Rattle.syntax_tree.specs.Meant.{IsSymbol, IsMeaning}
 use Rattle.syntax_tree.specs.declared.meaning.Meaning.TheVariants as code
-use Rattle.arrow_index.specs.Adds.{Adds}
-use Rattle.arrow_index.proofs.AddLaws.{adds_both}
+use Rattle.program_leaves.specs.Adds.{Adds}
+use Rattle.program_leaves.proofs.AddLaws.{adds_both}
 use Rattle.alpha_equal.specs.declared.points.Point as code_point
 use Rattle.alpha_equal.specs.Points.{IsPoint}
 use Rattle.alpha_equal.specs.Filled.{FilledTo}

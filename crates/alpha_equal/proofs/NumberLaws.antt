@@ -18,10 +18,10 @@ use Rattle.core_tree.specs.Units.{IsDefinition, AreDefinitions, definitions_from
 use Rattle.core_tree.specs.declared.cores.Binder.{Binder}
 use Rattle.core_tree.specs.declared.units.UnitForm.{UnitForm}
 use Rattle.core_tree.specs.declared.units.Unit.{Unit as CodeUnit}
-use Rattle.arrow_index.specs.declared.sight.GlobalNo.{GlobalNo}
-use Rattle.arrow_index.proofs.Growing.{flat_more}
-use Rattle.arrow_index.proofs.KeyLaws.{flip}
-use Rattle.arrow_index.specs.Placed.{Given, same_global, given_by, forms_given, units_given}
+use Rattle.program_leaves.specs.declared.sight.GlobalNo.{GlobalNo}
+use Rattle.program_leaves.proofs.Growing.{flat_more}
+use Rattle.program_leaves.proofs.KeyLaws.{flip}
+use Rattle.program_leaves.specs.Placed.{Given, same_global, given_by, forms_given, units_given}
 use Rattle.alpha_equal.specs.Numbered.{number_after}
 
 -- ---- one after another

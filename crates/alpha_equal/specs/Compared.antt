@@ -6,8 +6,8 @@ use Rattle.std.specs.declared.cmp.Ordering.{Ordering}
 use Rattle.scheme_model.specs.declared.Occ.{Occ}
 use Rattle.scheme_model.specs.Identifiers.{Number}
 use Rattle.rename_model.specs.SameProgram as same
-use Rattle.arrow_index.specs.declared.sight.Sight.{Sight}
-use Rattle.arrow_index.specs.Placed.{occ_cmp}
+use Rattle.program_leaves.specs.declared.sight.Sight.{Sight}
+use Rattle.program_leaves.specs.Placed.{occ_cmp}
 use Rattle.alpha_equal.specs.declared.compare.Partners.{Partners}
 
 abbrev pub partners_cmp : Partners → Partners → Ordering

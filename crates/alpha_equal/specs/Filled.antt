@@ -7,8 +7,8 @@ use Rattle.scheme_model.specs.Substitution.{Table}
 use Rattle.rename_model.specs.Walks.{Point, Slot, number_in, filled}
 use Rattle.syntax_tree.specs.Names.{Names}
 use Rattle.syntax_tree.specs.Macros.{IsIdent}
-use Rattle.arrow_index.specs.Adds.{Adds}
-use Rattle.arrow_index.specs.Placed.{global_cmp}
+use Rattle.program_leaves.specs.Adds.{Adds}
+use Rattle.program_leaves.specs.Placed.{global_cmp}
 use Rattle.alpha_equal.specs.declared.numbers.Numbers.{Numbers}
 use Rattle.alpha_equal.specs.declared.points.Point as code
 use Rattle.alpha_equal.specs.Points.{IsPoint}

@@ -1,8 +1,8 @@
 -- The numbers of definitions of the code.
 use Rattle.std.specs.Prelude.{ℕ, List, [], ◌∷◌, Option, Some, None, if◌then◌else◌}
 use Rattle.core_tree.specs.declared.units.Unit.{Unit as CodeUnit}
-use Rattle.arrow_index.specs.declared.sight.GlobalNo.{GlobalNo}
-use Rattle.arrow_index.specs.Placed.{Given, same_global, units_given}
+use Rattle.program_leaves.specs.declared.sight.GlobalNo.{GlobalNo}
+use Rattle.program_leaves.specs.Placed.{Given, same_global, units_given}
 
 -- the number of an identifier once these definitions were made, of which the last counts
 abbrev pub number_after : List Given → GlobalNo → Option ℕ → Option ℕ

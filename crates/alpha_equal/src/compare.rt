@@ -16,7 +16,7 @@ ghost use Rattle.alpha_equal.specs.Compared.{partners_cmp, local, ArePartners, l
 
 use crate::nodes::Node;
 use crate::points::{Pair, Point, SHAPE, Seen, Spot, Told};
-use arrow_index::sight::Sight;
+use program_leaves::sight::Sight;
 use core_tree::cores::Binder;
 use ls_base::Mem;
 use scheme_model::Occ;

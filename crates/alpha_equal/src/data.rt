@@ -9,8 +9,8 @@ ghost use Rattle.rename_model.specs.Walks.{nodes_in, nodes_among, nodes_behind};
 ghost use Rattle.syntax_tree.specs.Looks.{PartsStand, EndStands, StandsWithin, PartsWithin, EndWithin};
 ghost use Rattle.syntax_tree.specs.Works.{StandsFor};
 ghost use Rattle.core_tree.specs.Cores.{IsHoled};
-ghost use Rattle.arrow_index.specs.Adds.{Adds};
-ghost use Rattle.arrow_index.specs.Holes.{is_next, behind_first, AllFrom};
+ghost use Rattle.program_leaves.specs.Adds.{Adds};
+ghost use Rattle.program_leaves.specs.Holes.{is_next, behind_first, AllFrom};
 ghost use Rattle.alpha_equal.specs.Data.{left, a_list, IsDatumNode};
 
 use ls_base::Mem;

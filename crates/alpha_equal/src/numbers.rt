@@ -1,11 +1,11 @@
 //! The numbers of what units define: how many definitions the unit had before.
 ghost use Rattle.std.specs.Prelude.{◌≡◌, IfOk, OnOk};
 ghost use Rattle.std.specs.BTreeMap.{get};
-ghost use Rattle.arrow_index.specs.declared.sight.GlobalNo.{GlobalNo as AnyGlobal};
-ghost use Rattle.arrow_index.specs.Placed.{global_cmp, given_by, forms_given};
+ghost use Rattle.program_leaves.specs.declared.sight.GlobalNo.{GlobalNo as AnyGlobal};
+ghost use Rattle.program_leaves.specs.Placed.{global_cmp, given_by, forms_given};
 ghost use Rattle.alpha_equal.specs.Numbered.{number_after, number_at};
 
-use arrow_index::sight::GlobalNo;
+use program_leaves::sight::GlobalNo;
 use core_tree::cores::Binder;
 use core_tree::units::{Program, UnitForm};
 use ls_base::Mem;

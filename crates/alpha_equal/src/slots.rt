@@ -4,7 +4,7 @@ ghost use Rattle.scheme_model.specs.Cores.{RuleLeaf as ModelLeaf};
 ghost use Rattle.scheme_model.specs.Substitution.{Table};
 ghost use Rattle.rename_model.specs.Walks.{Slot as ModelSlot, leaf_spot as model_spot, leaf_points, filled};
 ghost use Rattle.core_tree.specs.Names.{AllMatch, IsLeaf};
-ghost use Rattle.arrow_index.specs.Adds.{Adds};
+ghost use Rattle.program_leaves.specs.Adds.{Adds};
 ghost use Rattle.alpha_equal.specs.Points.{node_as, spot_as, IsPoint};
 ghost use Rattle.alpha_equal.specs.Slots.{IsSlot};
 ghost use Rattle.alpha_equal.specs.Filled.{KnowsNumbers, FillsOne};

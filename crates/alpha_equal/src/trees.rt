@@ -10,7 +10,7 @@ ghost use Rattle.rename_model.specs.Walks.{nodes_in, nodes_among, nodes_behind, 
 ghost use Rattle.syntax_tree.specs.Looks.{PartsStand, EndStands, StandsWithin, PartsWithin, EndWithin, AreStanding, EndIsStanding};
 ghost use Rattle.syntax_tree.specs.Macros.{IsIdent, TellsRoles};
 ghost use Rattle.syntax_tree.specs.Works.{StandsFor, IsStanding};
-ghost use Rattle.arrow_index.specs.Adds.{Adds};
+ghost use Rattle.program_leaves.specs.Adds.{Adds};
 ghost use Rattle.alpha_equal.specs.Nodes.{dots_where, IsNode, a_list};
 
 use ls_base::Mem;

@@ -2,7 +2,7 @@ use Rattle.std.proofs.Common.{◌≡◌, Bool, true, sym, ap, ◌∙◌, subst}
 use Rattle.std.specs.Prelude.{◌&&◌, Option}
 use Rattle.scheme_model.specs.declared.Occ.{Occ}
 use Rattle.rename_model.specs.SameProgram.{at_template}
-use Rattle.arrow_index.specs.declared.sight.Sight.{Sight}
+use Rattle.program_leaves.specs.declared.sight.Sight.{Sight}
 use Rattle.alpha_equal.specs.declared.points.Spot.{Spot}
 use Rattle.alpha_equal.specs.Points.{spot_as}
 use Rattle.alpha_equal.specs.Compared.{live_at, TellsLive}

@@ -14,10 +14,10 @@ use Rattle.rename_model.specs.Walks.{has_tail, nodes_in, nodes_among, nodes_behi
 use Rattle.syntax_tree.specs.Placed.{tree_place}
 use Rattle.syntax_tree.specs.Standing.{leaf_tree}
 use Rattle.syntax_tree.proofs.Looking.{count_stands, part_there, part_within, split_one, behind_past, within_positive, list_parts_within, end_within, vector_parts_within, no_end}
-use Rattle.arrow_index.specs.Holes.{is_next, behind_first, AllFrom}
-use Rattle.arrow_index.proofs.Ends.{end_tree, end_part}
-use Rattle.arrow_index.proofs.AddLaws.{adds_none, adds_one, adds_both, adds_same, adds_last}
-use Rattle.arrow_index.proofs.HoleLaws.{hole_next, a_hole, a_name, an_atom, left_of_row, part_at, step_at, step_from, no_tail, a_tail}
+use Rattle.program_leaves.specs.Holes.{is_next, behind_first, AllFrom}
+use Rattle.program_leaves.proofs.Ends.{end_tree, end_part}
+use Rattle.program_leaves.proofs.AddLaws.{adds_none, adds_one, adds_both, adds_same, adds_last}
+use Rattle.program_leaves.proofs.HoleLaws.{hole_next, a_hole, a_name, an_atom, left_of_row, part_at, step_at, step_from, no_tail, a_tail}
 use Rattle.alpha_equal.specs.Data.{left, IsDatumNode}
 use Rattle.alpha_equal.proofs.NodeLaws.{end_told}
 use Rattle.alpha_equal.proofs.DataLaws.{hole_is, name_is, atom_is, list_row, vector_row, walked_more, walked_all}

@@ -4,7 +4,7 @@ use Rattle.scheme_model.specs.Cores.{hole_weight, weights, tail_weight}
 use Rattle.scheme_model.specs.Holes.{FillsHole, AreLike, places_among, places_behind}
 use Rattle.scheme_model.specs.Ident.{Ident as Identifier, symbol_of}
 use Rattle.syntax_tree.specs.Looks.{PartsStand}
-use Rattle.arrow_index.specs.Holes.{AllFrom}
+use Rattle.program_leaves.specs.Holes.{AllFrom}
 use Rattle.alpha_equal.specs.Data.{left, IsDatumNode}
 use Rattle.alpha_equal.proofs.DataLaws.{Walked}
 use Rattle.alpha_equal.proofs.data.+data.Given as goal

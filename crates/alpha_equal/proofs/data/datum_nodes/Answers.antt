@@ -2,7 +2,7 @@ use Rattle.std.proofs.Common.{List, [], sym, ap, ◌∙◌, arith}
 use Rattle.std.proofs.lemmas.List.{append-nil}
 use Rattle.scheme_model.specs.Holes.{hole_places}
 use Rattle.scheme_model.specs.Ident.{symbol_of}
-use Rattle.arrow_index.proofs.HoleLaws.{fewer}
+use Rattle.program_leaves.proofs.HoleLaws.{fewer}
 use Rattle.alpha_equal.proofs.data.datum_nodes.Goals as goal
 
 pub depth-depth-requires : goal.depth-depth-requires

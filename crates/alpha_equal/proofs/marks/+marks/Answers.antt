@@ -1,7 +1,7 @@
 use Rattle.std.proofs.Common.{◌≡◌, [], ◌∷◌, ◌++◌, length, sym, ap, ◌∙◌}
 use Rattle.alpha_equal.specs.declared.nodes.Node.TheVariants as nodes
 use Rattle.alpha_equal.specs.Marks.{ANode, ANumber, AUse, ADatum, mark_of, core_marks, cores_marks, clauses_marks, parts_binding, parts_marks, macro_bindings, macros_marks}
-use Rattle.arrow_index.proofs.Growing.{grows_by_one, grows_twice}
+use Rattle.program_leaves.proofs.Growing.{grows_by_one, grows_twice}
 use Rattle.alpha_equal.proofs.MarkLaws.{grows_three, marks_quasi, marks_case_lambda, marks_if, marks_set, marks_call, marks_body, marks_let_syntax}
 use Rattle.alpha_equal.proofs.marks.+marks.Goals as goal
 

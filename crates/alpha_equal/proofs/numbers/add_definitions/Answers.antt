@@ -1,8 +1,8 @@
 use Rattle.std.proofs.Common.{Bool, Some, None, cond, get_or, ap, ◌∙◌, arith}
 use Rattle.std.specs.BTreeMap.{get}
 use Rattle.core_tree.specs.declared.cores.Binder.{Binder}
-use Rattle.arrow_index.specs.Placed.{global_cmp}
-use Rattle.arrow_index.proofs.KeyLaws.{globals_equal}
+use Rattle.program_leaves.specs.Placed.{global_cmp}
+use Rattle.program_leaves.proofs.KeyLaws.{globals_equal}
 use Rattle.alpha_equal.proofs.NumberLaws.{given_more}
 use Rattle.alpha_equal.proofs.numbers.add_definitions.Goals as goal
 

@@ -1,7 +1,7 @@
 use Rattle.std.proofs.Common.{List, ap, ◌∙◌, arith}
 use Rattle.std.specs.BTreeMap.{get}
 use Rattle.core_tree.specs.declared.cores.Binder.{Binder}
-use Rattle.arrow_index.specs.Placed.{global_cmp, given_by}
+use Rattle.program_leaves.specs.Placed.{global_cmp, given_by}
 use Rattle.alpha_equal.specs.Numbered.{number_after}
 use Rattle.alpha_equal.proofs.NumberLaws.{forms_more}
 use Rattle.alpha_equal.proofs.numbers.add_unit.Goals as goal

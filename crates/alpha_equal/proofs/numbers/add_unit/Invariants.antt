@@ -1,7 +1,7 @@
 use Rattle.std.proofs.Common.{◌≡◌, take}
 use Rattle.std.specs.BTreeMap.{get}
-use Rattle.arrow_index.specs.declared.sight.GlobalNo.{GlobalNo}
-use Rattle.arrow_index.specs.Placed.{global_cmp, forms_given}
+use Rattle.program_leaves.specs.declared.sight.GlobalNo.{GlobalNo}
+use Rattle.program_leaves.specs.Placed.{global_cmp, forms_given}
 use Rattle.alpha_equal.specs.Numbered.{number_after}
 use Rattle.alpha_equal.proofs.numbers.add_unit.Given as goal
 

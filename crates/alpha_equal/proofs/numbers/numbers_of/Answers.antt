@@ -2,7 +2,7 @@ use Rattle.std.proofs.Common.{List, None, ap, ◌∙◌, sym, arith}
 use Rattle.std.specs.BTreeMap.{get}
 use Rattle.core_tree.specs.declared.units.UnitForm.{UnitForm}
 use Rattle.core_tree.specs.declared.units.Unit.{Unit as CodeUnit}
-use Rattle.arrow_index.specs.Placed.{global_cmp, forms_given, units_given}
+use Rattle.program_leaves.specs.Placed.{global_cmp, forms_given, units_given}
 use Rattle.alpha_equal.specs.Numbered.{number_after}
 use Rattle.alpha_equal.proofs.NumberLaws.{units_more}
 use Rattle.alpha_equal.proofs.numbers.numbers_of.Goals as goal

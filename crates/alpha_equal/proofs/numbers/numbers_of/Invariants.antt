@@ -1,8 +1,8 @@
 use Rattle.std.proofs.Common.{◌≡◌, drop}
 use Rattle.std.specs.BTreeMap.{get}
 use Rattle.std.specs.Prelude.{None}
-use Rattle.arrow_index.specs.declared.sight.GlobalNo.{GlobalNo}
-use Rattle.arrow_index.specs.Placed.{global_cmp, units_given}
+use Rattle.program_leaves.specs.declared.sight.GlobalNo.{GlobalNo}
+use Rattle.program_leaves.specs.Placed.{global_cmp, units_given}
 use Rattle.alpha_equal.specs.Numbered.{number_after}
 use Rattle.alpha_equal.proofs.numbers.numbers_of.Given as goal
 

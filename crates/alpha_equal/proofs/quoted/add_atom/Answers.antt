@@ -6,7 +6,7 @@ use Rattle.rename_model.specs.Walks as walk
 use Rattle.rename_model.specs.Walks.{AtShape, ShowsNothing, point, atom_points}
 use Rattle.syntax_tree.specs.Standing.{leaf_tree}
 use Rattle.syntax_tree.specs.declared.trees.nodes.Leaf.{Leaf}
-use Rattle.arrow_index.proofs.AddLaws.{adds_none, adds_both, adds_same}
+use Rattle.program_leaves.proofs.AddLaws.{adds_none, adds_both, adds_same}
 use Rattle.alpha_equal.specs.Points.{node_as, IsPoint}
 use Rattle.alpha_equal.proofs.AtomLaws.{atom_told, text_told, no_name}
 use Rattle.alpha_equal.proofs.quoted.add_atom.Goals as goal

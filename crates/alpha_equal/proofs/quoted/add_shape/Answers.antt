@@ -1,7 +1,7 @@
 use Rattle.std.proofs.Common.{refl}
 use Rattle.std.specs.Prelude.{None}
 use Rattle.rename_model.specs.Walks.{AtShape, ShowsNothing, point}
-use Rattle.arrow_index.proofs.AddLaws.{adds_one}
+use Rattle.program_leaves.proofs.AddLaws.{adds_one}
 use Rattle.alpha_equal.specs.Points.{IsPoint}
 use Rattle.alpha_equal.proofs.quoted.add_shape.Goals as goal
 

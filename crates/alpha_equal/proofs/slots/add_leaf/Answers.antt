@@ -2,7 +2,7 @@ use Rattle.std.proofs.Common.{◌≡◌, [], ◌∷◌, refl, ap, ◌∙◌, sub
 use Rattle.rename_model.specs.Walks as walk
 use Rattle.rename_model.specs.Walks.{leaf_spot}
 use Rattle.alpha_equal.specs.Points.{node_as, spot_as, IsPoint}
-use Rattle.arrow_index.proofs.AddLaws.{adds_one, adds_both}
+use Rattle.program_leaves.proofs.AddLaws.{adds_one, adds_both}
 use Rattle.alpha_equal.proofs.slots.add_leaf.Goals as goal
 
 pub meaning_at-point-requires : goal.meaning_at-point-requires

@@ -1,7 +1,7 @@
 use Rattle.std.proofs.Common.{suc, List, [], ◌++◌, refl, sym, ap, ◌∙◌, arith, drop}
 use Rattle.std.proofs.lemmas.List.{append-nil}
 use Rattle.rename_model.specs.Walks.{Slot, filled}
-use Rattle.arrow_index.proofs.AddLaws.{adds_none, adds_same}
+use Rattle.program_leaves.proofs.AddLaws.{adds_none, adds_same}
 use Rattle.alpha_equal.specs.declared.slots.Slot as code
 use Rattle.alpha_equal.specs.declared.slots.Slot.TheVariants as slot
 use Rattle.std.specs.Prelude.{None}

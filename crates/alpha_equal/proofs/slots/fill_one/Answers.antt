@@ -1,7 +1,7 @@
 use Rattle.std.proofs.Common.{ℕ, suc, [], ◌∷◌, ◌++◌, sym, ap, ◌∙◌, subst, arith, drop, add-one}
 use Rattle.rename_model.specs.Walks.{Slot, leaf_points, filled}
 use Rattle.core_tree.specs.Names.{IsLeaf}
-use Rattle.arrow_index.proofs.AddLaws.{adds_none, adds_one}
+use Rattle.program_leaves.proofs.AddLaws.{adds_none, adds_one}
 use Rattle.std.specs.Prelude.{None, false}
 use Rattle.syntax_tree.specs.declared.meaning.Meaning.TheVariants as meanings
 use Rattle.core_tree.specs.declared.cores.RuleLeaf.{RuleLeaf as Leaf}

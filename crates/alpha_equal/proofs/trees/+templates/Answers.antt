@@ -13,8 +13,8 @@ use Rattle.rename_model.specs.Walks as walk
 use Rattle.rename_model.specs.Walks.{has_tail, nodes_in, nodes_among, nodes_behind}
 use Rattle.syntax_tree.specs.Placed.{tree_place}
 use Rattle.syntax_tree.proofs.Looking.{count_stands, part_there, part_within, split_one, behind_past, within_positive, vector_parts_within, no_end}
-use Rattle.arrow_index.proofs.Ends.{end_tree, end_part}
-use Rattle.arrow_index.proofs.AddLaws.{adds_one, adds_both, adds_last, adds_same, up_none, up_more, up_all}
+use Rattle.program_leaves.proofs.Ends.{end_tree, end_part}
+use Rattle.program_leaves.proofs.AddLaws.{adds_one, adds_both, adds_last, adds_same, up_none, up_more, up_all}
 use Rattle.alpha_equal.specs.Nodes.{dots_where, IsNode}
 use Rattle.alpha_equal.proofs.NodeLaws.{escaped, plain, end_told}
 use Rattle.alpha_equal.proofs.trees.+templates.Goals as goal

@@ -5,7 +5,7 @@ use Rattle.scheme_model.specs.Ident.{Ident as Identifier}
 use Rattle.rename_model.specs.Walks.{nodes_among}
 use Rattle.syntax_tree.specs.Looks.{PartsStand}
 use Rattle.syntax_tree.specs.Macros.{TellsRoles}
-use Rattle.arrow_index.proofs.AddLaws.{UpTo}
+use Rattle.program_leaves.proofs.AddLaws.{UpTo}
 use Rattle.alpha_equal.specs.Nodes.{dots_where, IsNode}
 use Rattle.alpha_equal.proofs.trees.+templates.Given as goal
 

@@ -8,7 +8,7 @@ use Rattle.rename_model.specs.Walks as walk
 use Rattle.rename_model.specs.Walks.{has_tail, nodes_among, nodes_behind}
 use Rattle.syntax_tree.specs.Looks.{PartsStand, EndStands}
 use Rattle.syntax_tree.proofs.Looking.{count_stands}
-use Rattle.arrow_index.proofs.AddLaws.{adds_one, adds_both}
+use Rattle.program_leaves.proofs.AddLaws.{adds_one, adds_both}
 use Rattle.alpha_equal.specs.Nodes.{IsNode}
 use Rattle.alpha_equal.proofs.NodeLaws.{end_told}
 use Rattle.alpha_equal.proofs.trees.pattern_nodes.Goals as goal
