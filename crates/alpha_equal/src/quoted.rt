@@ -7,7 +7,7 @@ ghost use Rattle.rename_model.specs.Walks.{Seen as ModelSeen, AtShape, ShowsNoth
 ghost use Rattle.syntax_tree.specs.Macros.{IsIdent};
 ghost use Rattle.syntax_tree.specs.Names.{Names};
 ghost use Rattle.syntax_tree.specs.Standing.{leaf_tree};
-ghost use Rattle.arrow_index.specs.Adds.{Adds};
+ghost use Rattle.program_leaves.specs.Adds.{Adds};
 ghost use Rattle.alpha_equal.specs.Points.{node_as, IsSeen, IsPoint};
 
 use crate::nodes::Node;
