@@ -16,9 +16,9 @@ ghost use Rattle.alpha_equal.specs.Compared.{partners_cmp, local, ArePartners, l
 
 use crate::nodes::Node;
 use crate::points::{Pair, Point, SHAPE, Seen, Spot, Told};
-use program_leaves::sight::Sight;
 use core_tree::cores::Binder;
 use ls_base::Mem;
+use program_leaves::sight::Sight;
 use scheme_model::Occ;
 use std::alloc::Global;
 use std::collections::BTreeSet;

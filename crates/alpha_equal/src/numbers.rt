@@ -5,10 +5,10 @@ ghost use Rattle.program_leaves.specs.declared.sight.GlobalNo.{GlobalNo as AnyGl
 ghost use Rattle.program_leaves.specs.Placed.{global_cmp, given_by, forms_given};
 ghost use Rattle.alpha_equal.specs.Numbered.{number_after, number_at};
 
-use program_leaves::sight::GlobalNo;
 use core_tree::cores::Binder;
 use core_tree::units::{Program, UnitForm};
 use ls_base::Mem;
+use program_leaves::sight::GlobalNo;
 use std::alloc::Global;
 use std::collections::BTreeMap;
 use syntax_tree::symbols::IdNo;
