@@ -1,0 +1,3 @@
+-- The definitions on worked rows
+pub mod DifferenceRows
+pub mod RenameRows
