@@ -1,0 +1,3 @@
+pub mod Edits  -- New text for some bytes of a text
+pub mod NewNames  -- The edits of a document by which some of its identifiers get new names (R7RS 7.1.1)
+pub mod Renamed  -- Data whose identifiers have new names
