@@ -72,7 +72,7 @@ mutual
       let e3 : written_tokens (written_now now t) (gap_tokens (gap_now now i) (all_now now r1)) ≡ all_now now r3 = ap (written_tokens (written_now now t)) e2 ∙ written_told now t r2 in
       let e4 : gap_tokens (gap_now now h) (written_tokens (written_now now t) (gap_tokens (gap_now now i) (all_now now r1))) ≡ all_now now r4 = ap (gap_tokens (gap_now now h)) e3 ∙ gap_told now h r3 in
       let e6 : parts_tokens (parts_now now ps) (token (spot_now now dot) kinds.Dot ∷ gap_tokens (gap_now now h) (written_tokens (written_now now t) (gap_tokens (gap_now now i) (all_now now r1)))) ≡ all_now now r6 =
-          ap (λ (q : List Numbered). parts_tokens (parts_now now ps) (token (spot_now now dot) kinds.Dot ∷ q)) e4 ∙ parts_told now ps r5 in
+      ap (λ (q : List Numbered). parts_tokens (parts_now now ps) (token (spot_now now dot) kinds.Dot ∷ q)) e4 ∙ parts_told now ps r5 in
       ap (λ (q : List Numbered). token (spot_now now a) kinds.Paren ∷ q) (ap (λ (q : List Numbered). gap_tokens (gap_now now g) (written_tokens (written_now now w) q)) e6 ∙ ap (gap_tokens (gap_now now g)) (written_told now w r6) ∙ gap_told now g r7)
   written_told now (vectored a ps b) rest = ap (λ (q : List Numbered). token (spot_now now a) kinds.VectorParen ∷ q) (parts_told now ps (token b kinds.Close ∷ rest))
   written_told now (byted a bs b) rest = ap (λ (q : List Numbered). token (spot_now now a) kinds.BytesParen ∷ q) (bytes_told now bs (token b kinds.Close ∷ rest))

@@ -80,7 +80,7 @@ edit_told : (name : Option (List ℕ)) (t : Token) (text : List ℕ) (ns : List 
 edit_told None t text ns ts more h b e = e
 edit_told (Some name) t text ns ts more h b e = λ j. record { start = t.start; end = t.end; text = written name (b j) } ∷ e j
 
-behind_gap : (front gap glyphs rest : List ℕ) (n : ℕ) → n ≡ length front + byte_count gap → drop n (front ++ encode_utf8_all (gap ++ (glyphs ++ rest))) ≡ encode_utf8_all glyphs ++ encode_utf8_all rest
+pub behind_gap : (front gap glyphs rest : List ℕ) (n : ℕ) → n ≡ length front + byte_count gap → drop n (front ++ encode_utf8_all (gap ++ (glyphs ++ rest))) ≡ encode_utf8_all glyphs ++ encode_utf8_all rest
 behind_gap front gap glyphs rest n e =
     let g = encode_utf8_all gap in
     let place : n ≡ length (front ++ g) = omega (arith, e, length-append front g, byte_count-encodes gap) in
@@ -105,18 +105,18 @@ edits_told new number at front (t ∷ ts) text e h a =
     let bars = subst (λ (q : List ℕ). IfSome name (λ name. begins_with_bar (drop t.start q) ≡ bars_in t.kind)) whole (bars_told name front t first.gap first.glyphs first.rest a.0 first.token (omega (arith, first.starts, e))) in
     let before = front ++ encode_utf8_all (first.gap ++ first.glyphs) in
     let same : before ++ encode_utf8_all first.rest ≡ bytes =
-        append_assoc front (encode_utf8_all (first.gap ++ first.glyphs)) (encode_utf8_all first.rest)
-        ∙ ap (λ (q : List ℕ). front ++ q) (sym (encodes-append (first.gap ++ first.glyphs) first.rest) ∙ ap encode_utf8_all (append_assoc first.gap first.glyphs first.rest ∙ sym first.whole)) in
+    append_assoc front (encode_utf8_all (first.gap ++ first.glyphs)) (encode_utf8_all first.rest)
+    ∙ ap (λ (q : List ℕ). front ++ q) (sym (encodes-append (first.gap ++ first.glyphs) first.rest) ∙ ap encode_utf8_all (append_assoc first.gap first.glyphs first.rest ∙ sym first.whole)) in
     let place : t.end ≡ length before =
-        omega (arith, e, first.starts, first.ends, length-append front (encode_utf8_all (first.gap ++ first.glyphs)), ap length (encodes-append first.gap first.glyphs), length-append (encode_utf8_all first.gap) (encode_utf8_all first.glyphs), byte_count-encodes first.gap, byte_count-encodes first.glyphs) in
+    omega (arith, e, first.starts, first.ends, length-append front (encode_utf8_all (first.gap ++ first.glyphs)), ap length (encodes-append first.gap first.glyphs), length-append (encode_utf8_all first.gap) (encode_utf8_all first.glyphs), byte_count-encodes first.gap, byte_count-encodes first.glyphs) in
     let more = subst (λ (q : List ℕ). edits_from new q (suc number) (map span_of (map token_seen ts)) ≡ edits (news_from new (suc number) ts) ts) same
-        (edits_told new (suc number) t.end before ts first.rest place h.1 a.1) in
+    (edits_told new (suc number) t.end before ts first.rest place h.1 a.1) in
     edit_told name t bytes (news_from new (suc number) ts) ts (edits_from new bytes (suc number) (map span_of (map token_seen ts))) a.0 bars more
 
 -- ---- a document
 
 -- the bytes of a byte order mark
-mark_front : (text : List ℕ) → (front : List ℕ) × (mark_bytes text ≡ length front) × (front ++ encode_utf8_all (behind_mark text) ≡ encode_utf8_all text)
+pub mark_front : (text : List ℕ) → (front : List ℕ) × (mark_bytes text ≡ length front) × (front ++ encode_utf8_all (behind_mark text) ≡ encode_utf8_all text)
 mark_front [] = ([], refl, refl)
 mark_front (c ∷ cs) = go (c == 0xFEFF) refl
   where
@@ -136,7 +136,7 @@ pub edits_are : (new : ℕ → Option (List ℕ)) (text : List ℕ) (ts : List T
 edits_are new text ts h a =
     let front = mark_front text in
     subst (λ (q : List ℕ). edits_from new q 0 (map span_of (map token_seen ts)) ≡ edits (news_from new 0 ts) ts) front.2
-        (edits_told new 0 (mark_bytes text) front.0 ts (behind_mark text) front.1 h a)
+    (edits_told new 0 (mark_bytes text) front.0 ts (behind_mark text) front.1 h a)
 
 pub text_edited : (new : ℕ → Option (List ℕ)) (text : List ℕ) (ds : List Datum) → (r : IsReading text ds) → AreNames new 0 (tokens_of text ds r).0 → IsTextEdited new text ds
 text_edited new text ds r a =

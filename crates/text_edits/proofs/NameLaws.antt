@@ -77,7 +77,7 @@ names_told text ds r n h =
 
 -- ---- tokens
 
-kind_told : (k : TokenKind) (name : List ℕ) (bars : Bool) → kind_seen k ≡ kinds.Atomic (kinds.Name name bars) → k ≡ Atomic (Name name bars)
+pub kind_told : (k : TokenKind) (name : List ℕ) (bars : Bool) → kind_seen k ≡ kinds.Atomic (kinds.Name name bars) → k ≡ Atomic (Name name bars)
 kind_told Paren name bars h = cc
 kind_told VectorParen name bars h = cc
 kind_told BytesParen name bars h = cc
@@ -91,7 +91,7 @@ kind_told (Atomic (Quoted text)) name bars h = cc
 kind_told (Atomic (Character c)) name bars h = cc
 kind_told (Atomic (Truth b)) name bars h = cc
 
-some_same : (t u : kinds.Token) → Some t ≡ Some u → t ≡ u
+pub some_same : (t u : kinds.Token) → Some t ≡ Some u → t ≡ u
 some_same t u h = cc
 
 named_if : (name : Option (List ℕ)) (t : Token) → ((s : List ℕ) → name ≡ Some s → (old : List ℕ) × (bars : Bool) × (t.kind ≡ Atomic (Name old bars))) →
@@ -138,7 +138,7 @@ text_renamed new text now ts ds utf8 read r named utf8_now e =
     let w = edited_text new (chars text) ds r named in
     let same = same_tokens (chars text) ts w.tokens w.spelled read in
     let bytes : encode_utf8_all w.read.other ≡ now =
-        w.bytes ∙ (λ j. edited (edits_of new (encodes-chars text utf8 j) (map span_of (sym same j))) (encodes-chars text utf8 j)) ∙ sym e in
+    w.bytes ∙ (λ j. edited (edits_of new (encodes-chars text utf8 j) (map span_of (sym same j))) (encodes-chars text utf8 j)) ∙ sym e in
     let us = map token_seen w.read.tokens in
     record {
       start = start_at us;
