@@ -670,4 +670,29 @@ class Answers(Arrows):
         return f"answer_rows {spans} {data} {uris.index(uri)} {offset} {QUERIES[query]} ≡ {told}", "refl"
 
 
-KINDS = [Written(), Trees(), Cores(), Scoped(), Workspaces(), Arrows(), Diagnostics(), Positions(), Changes(), Classes(), Answers()]
+class Edits(Arrows):
+    """Documents, and what a rename of the identifier at a position edits in each, in bytes."""
+
+    crate = "text_edits"
+    module = "EditRows"
+    says = "Open documents, and the edits by which an identifier gets a new name, from outside."
+    unfolding = Arrows.unfolding + " chars spelled is_numeral is_identifier is_initial is_subsequent"
+    head = Arrows.head.replace("use Rattle.scheme_model.proofs.Shown.{ArrowRow, arrow_rows, diagnostic_rows}", "use Rattle.text_edits.proofs.Shown.{edit_rows}").replace("{Span, Bytes, Diagnostic}", "{Span}")
+    head = head[:head.index("abbrev b :")].replace("\n\nabbrev s :", "\nuse Rattle.std.specs.Str.{chars}\nuse Rattle.scheme_tokens.specs.Lexical.{is_initial, is_subsequent}\nuse Rattle.scheme_tokens.specs.Mirror.Spelled.{spelled}\nuse Rattle.scheme_tokens.specs.Mirror.Words.{is_identifier, is_numeral}\nuse Rattle.text_edits.specs.Edits.{Edit}\n\nabbrev s :", 1) + """abbrev e : ℕ → ℕ → List ℕ → Edit
+e start end text = record { start = start; end = end; text = text }
+"""
+
+    def fits(self, row):
+        return "edits" in row and "at" in row
+
+    def lemma(self, row):
+        data, spans = document_terms(row)
+        uris = [uri for uri, _, _ in documents(row)]
+        uri, line, character = row["at"]
+        offset = sum(len(it.encode()) for it in row["texts"][uri].splitlines(keepends=True)[:line]) + character
+        texts = terms.many(terms.utf8(row["texts"][it]) for it in uris)
+        told = terms.many(terms.many(f"e {start} {end} {terms.utf8(text)}" for start, end, text in row["edits"].get(it, [])) for it in uris)
+        return f"edit_rows {spans} {data} ({texts}) {uris.index(uri)} {offset} {terms.utf8(row['symbol'] if 'symbol' in row else row['new'])} ≡ ({told})", "refl"
+
+
+KINDS = [Written(), Trees(), Cores(), Scoped(), Workspaces(), Arrows(), Diagnostics(), Positions(), Changes(), Classes(), Answers(), Edits()]
