@@ -1,0 +1,2 @@
+pub mod Circles  -- Units that import one another
+pub mod Turns  -- What bounds an expansion, and forms whose expansion comes to its end
