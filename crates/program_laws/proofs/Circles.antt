@@ -5,27 +5,27 @@ use Rattle.std.proofs.lemmas.Bool.Decides.{nat_tests}
 use Rattle.scheme_model.specs.Program.{Prepared, imports_at, is_in, joined, imports_of_all, reached}
 use Rattle.program_laws.specs.Circles.{IsClosed}
 
-abbrev Is : Bool → Type 0
+abbrev pub Is : Bool → Type 0
 Is b = b ≡ true
 
-never : {X : Type 0} → false ≡ true → X
+pub never : {X : Type 0} → false ≡ true → X
 never h = elim (true≢false (sym h)) [ ]
 
 -- ---- members
 
-or_true : (a b : Bool) → Is (a || b) → Is a ⊎ Is b
+pub or_true : (a b : Bool) → Is (a || b) → Is a ⊎ Is b
 or_true true b h = inl refl
 or_true false b h = inr h
 
-or_left : (a b : Bool) → Is a → Is (a || b)
+pub or_left : (a b : Bool) → Is a → Is (a || b)
 or_left true b h = refl
 or_left false b h = never h
 
-or_right : (a b : Bool) → Is b → Is (a || b)
+pub or_right : (a b : Bool) → Is b → Is (a || b)
 or_right true b h = refl
 or_right false b h = h
 
-same_number : (n m : ℕ) → Is (n == m) → n ≡ m
+pub same_number : (n m : ℕ) → Is (n == m) → n ≡ m
 same_number n m h = grind (arith, nat_tests)
 
 -- one more number, unless it is there
@@ -77,7 +77,7 @@ module _ (units : List Prepared) where
       ⊎_elim (λ (e : Is (n == j)). joined_new m (imports_of_all units ns) (imports_at units j) (subst (λ (i : ℕ). Is (is_in m (imports_at units i))) (same_number n j e) k))
       (λ (e : Is (is_in n ns)). joined_old m (imports_of_all units ns) (imports_at units j) (imported_new n m ns e k)) (or_true (n == j) (is_in n ns) h)
 
-  imported_of : (m : ℕ) (ms ns : List ℕ) → IsClosed units ms → ((j : ℕ) → Is (is_in j ns) → Is (is_in j ms)) → Is (is_in m (imports_of_all units ns)) → Is (is_in m ms)
+  pub imported_of : (m : ℕ) (ms ns : List ℕ) → IsClosed units ms → ((j : ℕ) → Is (is_in j ns) → Is (is_in j ms)) → Is (is_in m (imports_of_all units ns)) → Is (is_in m ms)
   imported_of m ms [] closed inside h = never h
   imported_of m ms (j ∷ ns) closed inside h =
       ⊎_elim (λ (e : Is (is_in m (imports_of_all units ns))). imported_of m ms ns closed (λ i x. inside i (or_right (i == j) (is_in i ns) x)) e)
@@ -100,11 +100,11 @@ module _ (units : List Prepared) where
 
 -- ---- units that aren't found yet
 
-abbrev not_found : Bool → ℕ → ℕ
+abbrev pub not_found : Bool → ℕ → ℕ
 not_found true n = n
 not_found false n = suc n
 
-abbrev missing : List Prepared → List ℕ → ℕ
+abbrev pub missing : List Prepared → List ℕ → ℕ
 missing [] ns = 0
 missing (p ∷ ps) ns = not_found (is_in p.number ns) (missing ps ns)
 
@@ -154,7 +154,7 @@ either_way (suc a) (suc b) = next (either_way a b)
     next (inl h) = inl (omega arith)
     next (inr h) = inr (omega arith)
 
-missing_most : (ps : List Prepared) (ns : List ℕ) → missing ps ns ≤ length ps
+pub missing_most : (ps : List Prepared) (ns : List ℕ) → missing ps ns ≤ length ps
 missing_most [] ns = omega arith
 missing_most (p ∷ ps) ns = by (is_in p.number ns) (missing_most ps ns)
   where

@@ -105,12 +105,11 @@ module _ (spans : List (List Span)) (p : Program) where
       let hiding : List Diagnostic = hiding_diagnostics bytes r.unit.number r.forms r.entries p.table in
       let unbound : List Diagnostic = if is_empty sets then unbound_diagnostics bytes (unit_leaves r.forms) else [] in
       let empty : List Diagnostic = if imports_nothing r.unit then at_bytes (unit_start spans r.unit) 104 [] ∷ [] else [] in
-      let e = nothing_has (imports_nothing r.unit) r in
-      let d = each_both HasCode unbound empty (one_of_two AllHave (is_empty sets) (unbound_diagnostics bytes (unit_leaves r.forms)) [] (unbound_have bytes (unit_leaves r.forms)) tt) e in
-      let c = each_both HasCode hiding (unbound ++ empty) (hiding_have bytes r.unit.number r.forms r.entries p.table) d in
-      let b = each_both HasCode forms (hiding ++ (unbound ++ empty)) (forms_have bytes r.unit.number r.forms h) c in
-      let a = each_both HasCode exports (forms ++ (hiding ++ (unbound ++ empty))) (exports_have bytes r.unit.number r.export_faults) b in
-      each_both HasCode sets (exports ++ (forms ++ (hiding ++ (unbound ++ empty)))) k a
+      let a = each_both HasCode sets exports k (exports_have bytes r.unit.number r.export_faults) in
+      let b = each_both HasCode (sets ++ exports) forms a (forms_have bytes r.unit.number r.forms h) in
+      let c = each_both HasCode (sets ++ exports ++ forms) hiding b (hiding_have bytes r.unit.number r.forms r.entries p.table) in
+      let d = each_both HasCode (sets ++ exports ++ forms ++ hiding) unbound c (one_of_two AllHave (is_empty sets) (unbound_diagnostics bytes (unit_leaves r.forms)) [] (unbound_have bytes (unit_leaves r.forms)) tt) in
+      each_both HasCode (sets ++ exports ++ forms ++ hiding ++ unbound) empty d (nothing_has (imports_nothing r.unit) r)
 
   unit_has : (r : UnitResult) (o : Option WholeFault) → UnitFine r → AllHave (unit_diagnostics spans p r o)
   unit_has r (Some f) h = (whole_has spans r.unit f, tt)

@@ -37,14 +37,14 @@ each_filtered P f (x ∷ xs) h = one_of_two (Each P) (f x) (x ∷ filter f xs) (
 
 -- ---- sizes
 
-abbrev nowhere : ℕ → Occ
+abbrev pub nowhere : ℕ → Occ
 nowhere n = record { unit = 0; form = 0; token = n }
 
 -- how many nodes data in a row have
-abbrev row_size : Data → ℕ
+abbrev pub row_size : Data → ℕ
 row_size ds = trees_size (parts_of (λ s. s) nowhere ds) + tail_size (end_of (λ s. s) nowhere ds)
 
-atom_one : {A : Type 0} (w : List ℕ → A) (k : Atom) (o : Occ) → tree_size (atom_tree w k o) ≡ 1
+pub atom_one : {A : Type 0} (w : List ℕ → A) (k : Atom) (o : Occ) → tree_size (atom_tree w k o) ≡ 1
 atom_one w (spelled (Name s bars)) o = refl
 atom_one w (spelled (Numeral text)) o = refl
 atom_one w (spelled (Quoted text)) o = refl

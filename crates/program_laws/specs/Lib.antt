@@ -1,2 +1,3 @@
 pub mod Circles  -- Units that import one another
 pub mod Turns  -- What bounds an expansion, and forms whose expansion comes to its end
+pub mod Texts  -- Documents that were read from texts
