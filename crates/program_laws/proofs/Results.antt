@@ -25,7 +25,7 @@ abbrev Ordered : ℕ → List Prepared → Type 0
 Ordered k [] = Unit {0}
 Ordered k (p ∷ ps) = (p.number ≡ k) × Ordered (suc k) ps
 
-or_first : {X : Type 0} → X → Option X → X
+abbrev or_first : {X : Type 0} → X → Option X → X
 or_first x None = x
 or_first x (Some z) = z
 
