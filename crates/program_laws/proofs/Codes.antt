@@ -1,12 +1,11 @@
 -- No diagnostic has the code of a fault that comes of the turns alone.
-use Rattle.std.proofs.Common.{◌≡◌, ℕ, zero, suc, List, [], ◌∷◌, ◌++◌, Bool, true, false, not, Option, Some, None, Result, Ok, Err, refl, arith, if◌then◌else◌}
+use Rattle.std.proofs.Common.{◌≡◌, ℕ, List, [], ◌∷◌, ◌++◌, Bool, true, false, not, Option, Some, None, Result, Ok, Err, arith, if◌then◌else◌}
 use Rattle.std.specs.Prelude.{◌==◌, ◌&&◌}
 use Rattle.std.specs.List.{list_any}
 use Rattle.scheme_model.specs.declared.Occ.{Occ}
 use Rattle.scheme_model.specs.Ident.{Ident, symbol_of}
-use Rattle.scheme_model.specs.ExpansionFaults.{fault_code}
 use Rattle.scheme_model.specs.Meaning.{Meaning, Local, Global, Standard, Free}
-use Rattle.scheme_model.specs.Cores.{Target, Parts}
+use Rattle.scheme_model.specs.Cores.{Parts}
 use Rattle.scheme_model.specs.Steps.{Broken}
 use Rattle.scheme_model.specs.Order.{Counted}
 use Rattle.scheme_model.specs.UnitExpansion.{Formed}
@@ -16,7 +15,7 @@ use Rattle.scheme_model.specs.Program.{Document, Prepared, UnitResult, Program, 
 use Rattle.scheme_model.specs.Live.{CoreLeaf, Binds, Uses, Assigns, Quotes, Defines, unit_leaves}
 use Rattle.scheme_model.specs.Diagnostics.{Diagnostic, Span, Bytes, bytes_of, at_bytes, form_diagnostics, datum_bytes, clash_diagnostics, import_fault, set_diagnostics, export_diagnostics, or_start, hides, is_broken, hiding_diagnostics, unbound_at, unbound_diagnostics, is_empty, unit_start, whole_fault, inner_diagnostics, unit_diagnostics, all_diagnostics, is_before, same_diagnostic, put_in, sorted, diagnostics_of}
 use Rattle.program_laws.specs.Turns.{Each, AreBounded}
-use Rattle.program_laws.proofs.Faults.{InTurns, Any, coded}
+use Rattle.program_laws.proofs.Faults.{Any, coded}
 use Rattle.program_laws.proofs.Steps.{Ended}
 use Rattle.program_laws.proofs.Declared.{each_both, one_of_two}
 use Rattle.program_laws.proofs.Programs.{FormFine, UnitFine, program_fine}

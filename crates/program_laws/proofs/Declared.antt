@@ -1,14 +1,12 @@
 -- The forms of a unit are no larger than the data of its document.
-use Rattle.std.proofs.Common.{◌≡◌, ℕ, suc, ◌+◌, ◌≤◌, List, [], ◌∷◌, ◌++◌, map, filter, Bool, true, false, not, Option, Some, None, Result, Ok, Err, refl, sym, ◌∙◌, arith, if◌then◌else◌}
-use Rattle.std.specs.Prelude.{◌&&◌, ◌||◌, codes}
+use Rattle.std.proofs.Common.{◌≡◌, ℕ, ◌+◌, ◌≤◌, List, [], ◌∷◌, ◌++◌, map, filter, Bool, true, false, not, Option, Some, None, Result, Ok, Err, refl, sym, ◌∙◌, arith, if◌then◌else◌}
+use Rattle.std.specs.Prelude.{◌&&◌, codes}
 use Rattle.scheme_model.specs.declared.Occ.{Occ}
 use Rattle.scheme_model.specs.Kinds.{Name, Numeral, Quoted, Character, Truth}
-use Rattle.scheme_model.specs.Data.{Atom, spelled, implied, Datum, atom, list, vector, bytes, Data, none, part, tail, Place, place_of}
-use Rattle.scheme_model.specs.DataTrees.{atom_tree, tree_of, parts_of, end_of, form_of}
-use Rattle.scheme_model.specs.Trees.{Tree, placed_in}
+use Rattle.scheme_model.specs.Data.{Atom, spelled, implied, Datum, atom, list, vector, bytes, Data, none, part, tail}
+use Rattle.scheme_model.specs.DataTrees.{atom_tree, tree_of, parts_of, end_of}
 use Rattle.scheme_model.specs.Measures.{tree_size, trees_size, tail_size}
 use Rattle.scheme_model.specs.ExpansionFaults.{Fault}
-use Rattle.scheme_model.specs.Identifiers.{Written}
 use Rattle.scheme_model.specs.Requirements.{Known, LibraryName, library_name_of, clause_holds}
 use Rattle.scheme_model.specs.Declarations.{with_part, proper_parts, symbol_in, symbol_tree, is_headed, UnitForm, plain_form, Flat, ◌>>=◌, or_bad, all_export_parts, Clause, later_clauses, picked, chosen_clause, flat_of, some_clauses, both, parts_or, Declared, Exports, Imports, Begins, Chooses, Includes, Undeclared, declared_by, declared_as, declaration, declarations, clauses, clause_of, UnitSource, name_or, no_name, library_with, behind_head, library_of, is_library, libraries_in, is_proper, program_forms, program_in, units_in}
 use Rattle.program_laws.specs.Turns.{Each, datum_size}

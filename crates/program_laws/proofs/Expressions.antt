@@ -1,26 +1,25 @@
 -- Expressions are expanded within the turns: the turns bound how deep the recursion goes, and each step of it is at a smaller depth or
 -- takes a macro use.
-use Rattle.std.proofs.Common.{◌≡◌, ℕ, zero, suc, ◌+◌, ◌*◌, ◌≤◌, ◌<◌, List, [], ◌∷◌, Bool, true, false, Option, Some, None, Result, Ok, Err, refl, subst, arith}
+use Rattle.std.proofs.Common.{ℕ, zero, suc, ◌+◌, ◌*◌, ◌≤◌, ◌<◌, List, [], ◌∷◌, Option, Some, None, Result, arith}
 use Rattle.scheme_model.specs.Identifiers.{Number}
 use Rattle.scheme_model.specs.Keywords.{CoreKeyword, IsQuote, IsQuasiquote, IsLambda, IsCaseLambda, IsIf, IsSet, IsBegin, IsDefine, IsDefineValues, IsDefineRecordType, IsDefineSyntax, IsLetSyntax, IsLetrecSyntax, IsCondExpand, IsSyntaxError, IsInclude}
 use Rattle.scheme_model.specs.Trees.{Tree, name, atom, list, vector, Trees, no_trees, tree, Tail, proper, dotted, map_tree}
 use Rattle.scheme_model.specs.Measures.{tree_size, trees_size}
-use Rattle.scheme_model.specs.ExpansionFaults.{Named, named, Fault, BadForm, SyntaxError, ◌>>◌}
+use Rattle.scheme_model.specs.ExpansionFaults.{Named, named, Fault, SyntaxError, ◌>>◌}
 use Rattle.scheme_model.specs.Meaning.{Head, IsCore, IsAuxiliary, IsMacro, IsNone}
 use Rattle.scheme_model.specs.Shapes.{Clause, lambda_of, case_lambda_of, if_of, named_tree_of, syntax_of, some_of, one_of, error_text_of, definition_of, values_of, LocalMacros, local_macros_of}
 use Rattle.scheme_model.specs.Requirements.{chosen_of}
 use Rattle.scheme_model.specs.Quasiquote.{quasi_of, Pieces}
-use Rattle.scheme_model.specs.RulesShape.{Rules}
 use Rattle.scheme_model.specs.Building.{max_nodes}
-use Rattle.scheme_model.specs.Cores.{Target, LocalNumber, Binder, Binders, Core, Ref, Const, Quote, Quasi, Lambda, CaseLambda, If, Set, Call, Body, LetSyntax, Cores, core, Clauses, clause, Parts, part, Part, Expression as expression_part, Define as define_part, Values as values_part, outside}
+use Rattle.scheme_model.specs.Cores.{Target, LocalNumber, Binder, Binders, Core, Ref, Const, Quote, Quasi, Lambda, CaseLambda, If, Set, Call, Body, LetSyntax, core, clause, part, Expression as expression_part, Define as define_part, Values as values_part, outside}
 use Rattle.scheme_model.specs.Steps.{Broken, Step, ◌>>=◌, done, fails}
-use Rattle.scheme_model.specs.Order.{Here, Item, Expression, Value, Function, Assigned, AssignedFunction, ValuesOf, Record, Macro, Left, Pass, Pending, Region, Transformer, Ops, Instance, max_uses, target_of, head_of, here_at, forms_at, counting, given, use_of, meet_waiting, meet_all, RulesParts, rules_parts_of, rules_parts, rules_at, run}
+use Rattle.scheme_model.specs.Order.{Here, Item, Expression, Value, Function, Assigned, AssignedFunction, ValuesOf, Record, Macro, Left, Pending, Region, Transformer, Ops, Instance, max_uses, target_of, head_of, here_at, forms_at, counting, given, use_of, meet_waiting, meet_all, RulesParts, rules_parts_of, rules_parts, rules_at, run}
 use Rattle.scheme_model.specs.Expression.{Task, whole, body, Expander, node, each, each_of, bound, procedure, lambda, clauses, assignment, item_part, parts, left_of, body_in, body_core, expressions, sequence, heads, keep_all, numbers, local_defs, local_macros, recursive, let_syntax, letrec_syntax, mark_of, symbol_or_hole, quasi, quote, unless_keyword, set, reference, call, misplaced, chosen_sequence, core_form, macro_use, by_head, expression, expand}
-use Rattle.program_laws.proofs.Faults.{InTurns, Gives, Any, then_gives, any_given}
+use Rattle.program_laws.proofs.Faults.{Gives, Any, then_gives}
 use Rattle.program_laws.proofs.Shapes.{TreeWithin, TreesWithin, ClauseWithin, ClausesWithin, NamedWithin, DefinitionWithin, ValuesWithin, MacrosWithin, ChosenWithin, some_within, one_within, lambda_within, case_lambda_within, if_within, named_tree_within, syntax_within, error_text_any, definition_within, values_within, local_macros_within, chosen_within}
 use Rattle.program_laws.proofs.Quasi.{AllWithin, HolesWithin, quasi_within}
-use Rattle.program_laws.proofs.Steps.{one_node, uses_in, ItemWithin, ItemsWithin, Keeps, Ended, Has, Ends, has_same, then_ends, given_ends, counting_ends, Began, Used, used_then, use_ends, met_has, all_met_has}
-use Rattle.program_laws.proofs.Runs.{forms_total, forms_within, parts_end, rules_end, PassEnds, run_ends}
+use Rattle.program_laws.proofs.Steps.{ItemWithin, ItemsWithin, Keeps, Has, Ends, has_same, then_ends, given_ends, counting_ends, Began, used_then, use_ends, met_has, all_met_has}
+use Rattle.program_laws.proofs.Runs.{forms_total, forms_within, parts_end, rules_end, run_ends}
 
 -- trees have at most n nodes, and `need` turns suffice for the forms of a body
 module _ {E A L S : Type 0} (ops : Ops E A L S) (keeps : Keeps ops) (n need : ℕ) (large : max_nodes ≤ n) (enough : n + max_uses * max_nodes < need) where

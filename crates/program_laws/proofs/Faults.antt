@@ -1,5 +1,5 @@
 -- Faults other than the end of the turns, and what tells such faults alone.
-use Rattle.std.proofs.Common.{◌≡◌, ℕ, Bool, true, false, Result, Ok, Err, subst, arith, if◌then◌else◌}
+use Rattle.std.proofs.Common.{◌≡◌, Bool, true, false, Result, Ok, Err, subst, arith, if◌then◌else◌}
 use Rattle.scheme_model.specs.ExpansionFaults.{Fault, fault_map, fault_code, BadRules, TwoEllipses, DuplicateVariable, EllipsisDepth, IdleEllipsis, NoRule, EllipsisLength, BadForm, DuplicateBinder, BadPlace, BadRecord, BadQuasi, KeywordRedefined, Duplicate, KeywordAsValue, UseBudget, NodeBudget, DepthBudget, SyntaxError, IncludeRefused, OutOfTurns, ◌>>◌}
 
 -- a fault that comes within the turns

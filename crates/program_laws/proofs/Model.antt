@@ -1,18 +1,15 @@
 -- The operations that substitute count macro uses alone, and keep trees as large as they are.
-use Rattle.std.proofs.Common.{◌≡◌, ℕ, suc, ◌+◌, ◌≤◌, List, [], ◌∷◌, map, Bool, true, false, Option, Some, None, Result, Ok, Err, refl, ap, arith, if◌then◌else◌, eq-eqb}
-use Rattle.std.specs.Prelude.{◌==◌}
-use Rattle.scheme_model.specs.Identifiers.{Name, Number, Inner}
+use Rattle.std.proofs.Common.{◌≡◌, ℕ, suc, List, [], ◌∷◌, map, Bool, true, false, Option, Result, Ok, Err, refl, ap, arith, if◌then◌else◌, eq-eqb}
+use Rattle.scheme_model.specs.Identifiers.{Name, Inner}
 use Rattle.scheme_model.specs.Ident.{Ident, erase}
-use Rattle.scheme_model.specs.Trees.{Tree, Trees}
-use Rattle.scheme_model.specs.Measures.{tree_size, trees_size}
 use Rattle.scheme_model.specs.ExpansionFaults.{Named, named, Fault, KeywordRedefined, Duplicate}
 use Rattle.scheme_model.specs.RulesShape.{Rules}
 use Rattle.scheme_model.specs.Requirements.{Known}
 use Rattle.scheme_model.specs.Meaning.{Global}
 use Rattle.scheme_model.specs.Order.{Form, Item, Expression, Value, Function, Assigned, AssignedFunction, ValuesOf, Record, Macro, Pending, Renamed, is_some}
-use Rattle.scheme_model.specs.Substitution.{Clock, at_form, State, number_at, form_map, item_map, pending_map, renamed, unchanged, deep, shallow, any, refused_in_body, is_mine, defined_local, define_in_body, defined_global, refused_in_unit, define_in_unit, defined_in, define, model}
-use Rattle.program_laws.proofs.Faults.{InTurns, Gives}
-use Rattle.program_laws.proofs.Steps.{size_same, sizes_same, total, FormsWithin, ItemWithin, ItemsWithin, PendingWithin, AsLarge, Keeps, uses_in}
+use Rattle.scheme_model.specs.Substitution.{Clock, at_form, State, number_at, form_map, item_map, renamed, unchanged, deep, shallow, any, refused_in_body, is_mine, defined_local, define_in_body, defined_global, refused_in_unit, define_in_unit, defined_in, define, model}
+use Rattle.program_laws.proofs.Faults.{Gives}
+use Rattle.program_laws.proofs.Steps.{size_same, sizes_same, total, FormsWithin, ItemWithin, ItemsWithin, AsLarge, Keeps}
 
 at_itself : (f : ℕ) (g : ℕ → ℕ) (clock : Clock) → at_form f g clock f ≡ g (clock f)
 at_itself f g clock = ap (λ (b : Bool). if b then g (clock f) else clock f) (eq-eqb f f refl)

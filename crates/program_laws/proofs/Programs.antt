@@ -1,5 +1,5 @@
 -- The forms of a program's units come to their ends within the turns.
-use Rattle.std.proofs.Common.{◌≡◌, ℕ, zero, suc, ◌+◌, ◌*◌, ◌^◌, ◌≤◌, ◌<◌, List, [], ◌∷◌, ◌++◌, map, length, Bool, true, false, Option, Some, None, Result, Ok, Err, refl, arith, if◌then◌else◌}
+use Rattle.std.proofs.Common.{◌≡◌, ℕ, zero, suc, ◌^◌, ◌<◌, List, [], ◌∷◌, map, length, Bool, true, false, Option, Some, None, Result, Ok, Err, refl, arith, if◌then◌else◌}
 use Rattle.std.specs.Prelude.{◌==◌}
 use Rattle.scheme_model.specs.Identifiers.{Name, Written}
 use Rattle.scheme_model.specs.Trees.{Tree, placed_in}
@@ -9,10 +9,10 @@ use Rattle.scheme_model.specs.Cores.{Parts}
 use Rattle.scheme_model.specs.Steps.{Broken}
 use Rattle.scheme_model.specs.Requirements.{Known}
 use Rattle.scheme_model.specs.UnitExpansion.{Formed}
-use Rattle.scheme_model.specs.Substitution.{State, Table, model}
+use Rattle.scheme_model.specs.Substitution.{State, model}
 use Rattle.scheme_model.specs.Entries.{Entry}
-use Rattle.scheme_model.specs.Declarations.{UnitForm, Flat, UnitSource, units_in}
-use Rattle.scheme_model.specs.Program.{Document, data_of, known_in, Placed, units_from, units_of, is_include, forms_or_none, Prepared, prepared, prepare, WholeFault, fault_before, SetResult, UnitResult, Progress, result_at, unit_entries, form_trees, start_of, enough_turns, by_fault, refused_form, with_refused, unit_result, unit_over, with_entries, is_ready, first_ready, worked, work, progress_before, in_order, Program, program_of}
+use Rattle.scheme_model.specs.Declarations.{UnitForm, Flat, units_in}
+use Rattle.scheme_model.specs.Program.{Document, data_of, known_in, Placed, units_from, units_of, is_include, forms_or_none, Prepared, prepare, WholeFault, fault_before, SetResult, UnitResult, Progress, result_at, unit_entries, form_trees, start_of, enough_turns, by_fault, refused_form, with_refused, unit_result, unit_over, with_entries, is_ready, first_ready, worked, work, progress_before, in_order, program_of}
 use Rattle.program_laws.specs.Turns.{Each, datum_size, AreBounded, IsDone}
 use Rattle.program_laws.proofs.Faults.{Any, not_out}
 use Rattle.program_laws.proofs.Steps.{Ended}

@@ -1,5 +1,5 @@
 -- The rules of a macro are read and an instance is built within the turns, and an instance has so many nodes at most.
-use Rattle.std.proofs.Common.{◌≡◌, ℕ, suc, ◌+◌, ◌≤◌, List, [], ◌∷◌, Bool, true, false, Option, Some, None, Result, Ok, Err, refl, arith, if◌then◌else◌}
+use Rattle.std.proofs.Common.{◌≡◌, ℕ, ◌+◌, ◌≤◌, List, [], ◌∷◌, Bool, true, false, Option, Some, None, Result, Ok, Err, refl, arith, if◌then◌else◌}
 use Rattle.std.specs.Prelude.{nat_le, ◌&&◌, ◌||◌}
 use Rattle.std.proofs.lemmas.Bool.Decides.{nat_tests}
 use Rattle.scheme_model.specs.declared.Occ.{Occ}
@@ -7,7 +7,7 @@ use Rattle.scheme_model.specs.Trees.{Tree, name, atom, list, vector, Trees, no_t
 use Rattle.scheme_model.specs.Measures.{tree_size, tree_depth}
 use Rattle.scheme_model.specs.ExpansionFaults.{named, Named, Fault, BadRules, TwoEllipses, DuplicateVariable, EllipsisDepth, IdleEllipsis, NodeBudget, DepthBudget, ◌>>◌}
 use Rattle.scheme_model.specs.Shapes.{is_among, names_of}
-use Rattle.scheme_model.specs.RulesShape.{Rule, Rules, Names, role_of, dots_of, is_dots, leading, bad_pattern, two_dots, Variable, first_twice, depth_of, escape_of, bad_template, too_shallow, nowhere, deep_in, deep_enough, all_deep, deep_tail, is_idle, pattern_variables, refuse, check_rule, check_rules, bad, rule_in, rule_of, rules_in, rules_behind, rules_parts, rules_of}
+use Rattle.scheme_model.specs.RulesShape.{Rule, Rules, Names, dots_of, is_dots, leading, bad_pattern, two_dots, Variable, first_twice, depth_of, escape_of, bad_template, too_shallow, nowhere, deep_in, deep_enough, all_deep, deep_tail, is_idle, pattern_variables, refuse, check_rule, check_rules, bad, rule_in, rule_of, rules_in, rules_behind, rules_parts, rules_of}
 use Rattle.scheme_model.specs.Matching.{Binding}
 use Rattle.scheme_model.specs.Building.{Built, build_tree, max_nodes, max_depth, within, or_lengths, build}
 use Rattle.program_laws.proofs.Faults.{InTurns, Gives, Any, then_gives, either_gives}

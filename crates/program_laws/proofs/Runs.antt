@@ -1,9 +1,8 @@
 -- The forms of a body or a unit are gone through within the turns: each takes one, and each macro use gives so many nodes at most.
-use Rattle.std.proofs.Common.{◌≡◌, ℕ, zero, suc, ◌+◌, ◌*◌, ◌≤◌, ◌<◌, List, [], ◌∷◌, ◌++◌, map, Bool, true, false, Option, Some, None, Result, Ok, Err, refl, sym, ◌∙◌, subst, arith, if◌then◌else◌}
-use Rattle.scheme_model.specs.Ident.{Ident}
+use Rattle.std.proofs.Common.{◌≡◌, ℕ, zero, suc, ◌+◌, ◌*◌, ◌≤◌, ◌<◌, List, [], ◌∷◌, ◌++◌, map, Bool, true, false, Option, Some, None, Result, Ok, Err, refl, ◌∙◌, subst, arith, if◌then◌else◌}
 use Rattle.scheme_model.specs.Keywords.{CoreKeyword, IsQuote, IsQuasiquote, IsLambda, IsCaseLambda, IsIf, IsSet, IsBegin, IsDefine, IsDefineValues, IsDefineRecordType, IsDefineSyntax, IsLetSyntax, IsLetrecSyntax, IsCondExpand, IsSyntaxError, IsInclude}
 use Rattle.scheme_model.specs.Trees.{Tree, name, atom, list, vector, Trees, no_trees, tree, Tail, map_tree}
-use Rattle.scheme_model.specs.Measures.{tree_size, trees_size, tail_size}
+use Rattle.scheme_model.specs.Measures.{tree_size, trees_size}
 use Rattle.scheme_model.specs.ExpansionFaults.{Named, named_map, Fault, BadForm}
 use Rattle.scheme_model.specs.Meaning.{Head, IsCore, IsAuxiliary, IsMacro, IsNone, is_keyword}
 use Rattle.scheme_model.specs.Shapes.{Clause, Formals, DefinitionShape, Variable, Procedure, RecordShape, definition_of, values_of, record_of, syntax_of, proper_of}
@@ -13,10 +12,10 @@ use Rattle.scheme_model.specs.Building.{max_nodes}
 use Rattle.scheme_model.specs.Cores.{Target, LocalNumber, Binder}
 use Rattle.scheme_model.specs.Steps.{Broken, Step, ◌>>=◌, done, fails}
 use Rattle.scheme_model.specs.Order.{Here, Item, Expression, Value, Function, Assigned, AssignedFunction, ValuesOf, Record, Macro, Note, LookedUp, Form, Pending, Pass, Transformer, Ops, RulesParts, Going, told, given, counting, binder_at, put, noted, first, define_all, define_names, fields_bound, record_names, record_part, caught, run_variable, run_function, run_define, run_values, run_record, is_rules, rules_parts_of, rules_parts, rules_at, rules_note, run_syntax, splice, or_none, read_then, run_core, use_of, comparisons, run_use, run_head, run_form, run_next, run, head_of, target_of, here_at, forms_at, Renamed, Left, Instance, waiting}
-use Rattle.program_laws.proofs.Faults.{InTurns, Gives, Any, either_gives}
+use Rattle.program_laws.proofs.Faults.{Gives, Any}
 use Rattle.program_laws.proofs.Shapes.{proper_within, DefinitionWithin, definition_within, ValuesWithin, values_within, record_any, NamedWithin, syntax_within, ChosenWithin, chosen_within, TreesWithin}
 use Rattle.program_laws.proofs.Rules.{rules_any}
-use Rattle.program_laws.proofs.Steps.{size_same, one_node, total, FormsWithin, ItemWithin, ItemsWithin, PendingWithin, items_after, AsLarge, Keeps, Ended, Has, Ends, has_same, then_ends, given_ends, told_ends, counting_ends, Began, Used, use_ends}
+use Rattle.program_laws.proofs.Steps.{size_same, total, FormsWithin, ItemWithin, ItemsWithin, PendingWithin, items_after, AsLarge, Keeps, Ended, Has, Ends, has_same, then_ends, given_ends, told_ends, counting_ends, Used, use_ends}
 
 -- ---- what is pending
 

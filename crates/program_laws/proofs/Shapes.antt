@@ -1,5 +1,5 @@
 -- What is read from the shape of a core form is no larger than the form, and no reading ends the turns.
-use Rattle.std.proofs.Common.{◌≡◌, ℕ, suc, ◌+◌, ◌≤◌, List, [], ◌∷◌, ◌++◌, map, Bool, true, false, Option, Some, None, Result, Ok, Err, refl, arith, if◌then◌else◌}
+use Rattle.std.proofs.Common.{ℕ, suc, ◌+◌, ◌≤◌, List, [], ◌∷◌, ◌++◌, Bool, true, false, Option, Some, None, Result, Ok, Err, arith, if◌then◌else◌}
 use Rattle.std.specs.Str.{bytes_eq}
 use Rattle.std.specs.Prelude.{codes, ◌&&◌, ◌||◌, not}
 use Rattle.std.specs.List.{list_all}
@@ -7,9 +7,9 @@ use Rattle.std.specs.Char.{is_ascii_digit}
 use Rattle.scheme_model.specs.Trees.{Atom, Numeral, Quoted, Character, Boolean, Bytes, Tree, name, atom, list, vector, Trees, no_trees, tree, Tail, proper, dotted}
 use Rattle.scheme_model.specs.Measures.{tree_size, trees_size, tail_size}
 use Rattle.scheme_model.specs.ExpansionFaults.{Named, Fault, BadForm, DuplicateBinder, ◌>>◌}
-use Rattle.scheme_model.specs.Shapes.{Formals, Clause, name_of, names_of, is_among, distinct_from, distinct, formals_in, formals_of, proper_of, some_of, one_of, first_of, list_of, clause_in, lambda_of, clauses_in, distinct_all, case_lambda_of, if_of, named_tree_of, syntax_of, error_text_of, DefinitionShape, Variable, Procedure, procedure_of, definition_with, definition_of, values_of, FieldShape, RecordShape, record_in, or_bad_record, record_of, LocalMacros, bindings_of, local_macros_of}
-use Rattle.scheme_model.specs.Requirements.{Known, LibraryName, LibraryPart, part_in, part_of, parts_of, library_name_of, holds, all_hold, some_holds, none_holds, is_else, clause_holds, or_chosen, choices, chosen_of}
-use Rattle.program_laws.proofs.Faults.{InTurns, Gives, Any, then_gives, either_gives, any_given, weaker}
+use Rattle.scheme_model.specs.Shapes.{Formals, Clause, name_of, names_of, is_among, distinct_from, distinct, formals_in, formals_of, proper_of, some_of, one_of, first_of, list_of, clause_in, lambda_of, clauses_in, distinct_all, case_lambda_of, if_of, named_tree_of, syntax_of, error_text_of, DefinitionShape, Variable, Procedure, procedure_of, definition_with, definition_of, values_of, RecordShape, record_in, or_bad_record, record_of, LocalMacros, bindings_of, local_macros_of}
+use Rattle.scheme_model.specs.Requirements.{Known, part_in, part_of, parts_of, library_name_of, holds, all_hold, some_holds, none_holds, is_else, clause_holds, or_chosen, choices, chosen_of}
+use Rattle.program_laws.proofs.Faults.{Gives, Any, then_gives, either_gives, any_given, weaker}
 
 module _ {A : Type 0} where
   -- ---- sizes

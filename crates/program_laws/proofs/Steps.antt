@@ -1,20 +1,19 @@
 -- Steps of an expansion, within macro uses that are left.
-use Rattle.std.proofs.Common.{◌≡◌, ℕ, zero, suc, ◌+◌, ◌-◌, ◌*◌, ◌≤◌, ◌<◌, List, [], ◌∷◌, ◌++◌, map, Bool, true, false, Option, Some, None, Result, Ok, Err, refl, sym, subst, arith, if◌then◌else◌}
-use Rattle.std.specs.Prelude.{nat_le, nat_lt}
+use Rattle.std.proofs.Common.{◌≡◌, ℕ, zero, suc, ◌+◌, ◌-◌, ◌≤◌, ◌<◌, List, [], ◌∷◌, ◌++◌, Bool, true, false, Option, Some, None, Result, Ok, Err, refl, arith, if◌then◌else◌}
+use Rattle.std.specs.Prelude.{nat_le}
 use Rattle.std.proofs.lemmas.Bool.Decides.{nat_tests}
 use Rattle.scheme_model.specs.Ident.{Ident}
 use Rattle.scheme_model.specs.Identifiers.{Number}
 use Rattle.scheme_model.specs.Trees.{Tree, name, atom, list, vector, Trees, no_trees, tree, Tail, map_tree, map_trees, map_tail, proper, dotted}
 use Rattle.scheme_model.specs.Measures.{tree_size, trees_size, tail_size}
-use Rattle.scheme_model.specs.ExpansionFaults.{Named, named, Fault, fault_map, NoRule, UseBudget, NodeBudget}
+use Rattle.scheme_model.specs.ExpansionFaults.{Named, Fault, UseBudget, NodeBudget}
 use Rattle.scheme_model.specs.Meaning.{same_meaning}
-use Rattle.scheme_model.specs.Shapes.{Clause}
 use Rattle.scheme_model.specs.RulesShape.{Rules}
 use Rattle.scheme_model.specs.Matching.{Chosen, matcher, first_match}
 use Rattle.scheme_model.specs.Building.{build, Built}
 use Rattle.scheme_model.specs.Cores.{Target, MacroUse}
 use Rattle.scheme_model.specs.Steps.{Broken, Step, ◌>>=◌, done, fails}
-use Rattle.scheme_model.specs.Order.{Here, Form, Item, Expression, Value, Function, Assigned, AssignedFunction, ValuesOf, Record, Macro, Pending, Renamed, Left, Pass, Note, Transformer, Ops, Instance, WaitingUse, counting, given, told, has_use, used, use_of, meet_waiting, meet_all, max_uses, max_nodes as most_nodes}
+use Rattle.scheme_model.specs.Order.{Here, Form, Item, Expression, Value, Function, Assigned, AssignedFunction, ValuesOf, Record, Macro, Pending, Renamed, Transformer, Ops, Instance, WaitingUse, counting, given, told, has_use, used, use_of, meet_waiting, meet_all, max_uses, max_nodes as most_nodes}
 use Rattle.scheme_model.specs.Building.{max_nodes}
 use Rattle.program_laws.proofs.Faults.{InTurns, in_turns_map, Gives, Any}
 use Rattle.program_laws.proofs.Rules.{InstanceWithin, build_within}

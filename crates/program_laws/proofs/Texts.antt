@@ -1,16 +1,16 @@
 -- A text has at most as many tokens as characters, so its data are no larger than twice the text.
-use Rattle.std.proofs.Common.{◌≡◌, ◌⊎◌, inl, inr, ⊎_elim, ℕ, zero, suc, ◌+◌, ◌*◌, ◌^◌, ◌≤◌, ◌<◌, List, [], ◌∷◌, ◌++◌, map, length, codes, Bool, true, false, Option, Some, None, refl, sym, ap, ◌∙◌, subst, length-append, arith, if◌then◌else◌}
+use Rattle.std.proofs.Common.{◌≡◌, inl, inr, ℕ, suc, ◌*◌, ◌^◌, ◌≤◌, ◌<◌, List, [], ◌∷◌, ◌++◌, map, length, codes, Bool, true, false, Option, Some, None, refl, ap, ◌∙◌, length-append, arith, if◌then◌else◌}
 use Rattle.std.specs.Prelude.{◌==◌}
 use Rattle.std.specs.Char.{to_ascii_lowercase}
 use Rattle.scheme_model.specs.Data.{Datum}
 use Rattle.scheme_model.specs.Kinds.{Token as ModelToken}
 use Rattle.scheme_model.specs.Program.{Document, data_of}
-use Rattle.scheme_tokens.specs.Lexical.{Leaf, Name, Numeral, Quoted, Character, Truth, Mark, Quote, Quasi, Unquote, Splice, TokenKind, Paren, VectorParen, BytesParen, Close, Dot, Skip, Marked, Atomic, IsBare, IsNumeral, Spells, IsTruth, IsLeaf, IsToken, Token, First, IsSpelledFrom, mark_bytes, behind_mark, IsSpelled}
+use Rattle.scheme_tokens.specs.Lexical.{Leaf, Name, Numeral, Quoted, Character, Truth, Quote, Quasi, Unquote, Splice, TokenKind, Paren, VectorParen, BytesParen, Close, Dot, Skip, Marked, Atomic, IsBare, IsNumeral, IsTruth, IsLeaf, IsToken, Token, First, IsSpelledFrom, mark_bytes, behind_mark}
 use Rattle.std.specs.Option.{option_map}
 use Rattle.scheme_model.specs.Order.{is_some}
 use Rattle.scheme_tokens.specs.Stopping.{IsRead}
 use Rattle.scheme_tokens.specs.Faults.{FaultAt}
-use Rattle.datum_reader.specs.Texts.{token_seen, stop_seen, TextReads, IsReading}
+use Rattle.datum_reader.specs.Texts.{token_seen, stop_seen, IsReading}
 use Rattle.program_laws.specs.Turns.{Each, datum_size, AreBounded}
 use Rattle.program_laws.specs.Texts.{IsOfText}
 use Rattle.program_laws.proofs.Circles.{never}

@@ -1,19 +1,19 @@
 -- The forms of a unit are gone through and expanded within the turns.
-use Rattle.std.proofs.Common.{◌≡◌, ℕ, zero, suc, ◌+◌, ◌*◌, ◌≤◌, ◌<◌, List, [], ◌∷◌, map, Bool, true, false, Option, Some, None, Result, Ok, Err, refl, arith, if◌then◌else◌}
+use Rattle.std.proofs.Common.{ℕ, ◌+◌, ◌*◌, ◌≤◌, ◌<◌, List, [], ◌∷◌, map, Bool, true, false, Option, Some, None, Result, Ok, Err, arith, if◌then◌else◌}
 use Rattle.std.specs.Prelude.{nat_lt}
 use Rattle.scheme_model.specs.Trees.{Tree}
 use Rattle.scheme_model.specs.Measures.{tree_size}
 use Rattle.scheme_model.specs.Building.{max_nodes}
-use Rattle.scheme_model.specs.Cores.{Parts, no_parts, Part, part}
+use Rattle.scheme_model.specs.Cores.{Parts, Part}
 use Rattle.scheme_model.specs.Steps.{Broken, Step}
 use Rattle.scheme_model.specs.Order.{Item, Left, Note, Pending, Pass, Ops, max_uses, run, meet_all}
 use Rattle.scheme_model.specs.Expression.{Expander, expand, item_part}
 use Rattle.scheme_model.specs.UnitExpansion.{Formed, max_depth, Work, ◌then◌, going, max_total, nodes_in, unless_over, LeftOf, one_form, passes, with_part, before_parts, items_parts, form_parts, finished, unit}
 use Rattle.program_laws.specs.Turns.{Each}
-use Rattle.program_laws.proofs.Faults.{InTurns, Any}
-use Rattle.program_laws.proofs.Steps.{ItemWithin, ItemsWithin, PendingWithin, Keeps, Ended, Has, Ends}
-use Rattle.program_laws.proofs.Runs.{PassEnds, run_ends}
-use Rattle.program_laws.proofs.Expressions.{Below, Expands, item_ends, expand_ends}
+use Rattle.program_laws.proofs.Faults.{Any}
+use Rattle.program_laws.proofs.Steps.{ItemWithin, ItemsWithin, Keeps, Ended}
+use Rattle.program_laws.proofs.Runs.{run_ends}
+use Rattle.program_laws.proofs.Expressions.{item_ends, expand_ends}
 
 -- where work doesn't end, this holds of what it comes to
 abbrev pub Comes : {S X : Type 0} → (X → Type 0) → Option X × S → Type 0

@@ -1,13 +1,12 @@
 -- A datum that was read from a text has at most two nodes for each token of the text.
-use Rattle.std.proofs.Common.{◌≡◌, ◌⊎◌, inl, inr, ℕ, zero, suc, ◌+◌, ◌*◌, ◌^◌, ◌≤◌, ◌<◌, List, [], ◌∷◌, ◌++◌, map, length, Bool, true, false, Option, Some, None, refl, sym, ap, ◌∙◌, subst, length-append, arith, if◌then◌else◌}
-use Rattle.std.specs.Prelude.{◌==◌}
+use Rattle.std.proofs.Common.{◌≡◌, ℕ, suc, ◌+◌, ◌*◌, ◌≤◌, List, [], ◌∷◌, length, refl, sym, ap, ◌∙◌, subst, arith}
 use Rattle.scheme_model.specs.Kinds as kinds
 use Rattle.scheme_model.specs.Kinds.{Mark}
-use Rattle.scheme_model.specs.Data.{Datum, atom, list, vector, bytes, Data, none, part, tail, row, tail_of, place_of, spelled, implied}
-use Rattle.scheme_model.specs.Numbered.{Numbered, at, between, number_from}
+use Rattle.scheme_model.specs.Data.{Datum, atom, list, vector, bytes, Data, none, row, tail_of, spelled, implied}
+use Rattle.scheme_model.specs.Numbered.{Numbered, number_from}
 use Rattle.scheme_model.specs.Written.{Written, alone, listed, tailed, vectored, byted, abbreviated, Gap, nothing, skipped, Parts, last, next, Bytes, last_byte, byte, token, written_tokens, gap_tokens, parts_tokens, bytes_tokens, meant, parts_meant}
 use Rattle.program_laws.specs.Turns.{Each, datum_size}
-use Rattle.program_laws.proofs.Declared.{row_size, nowhere, atom_one, each_of}
+use Rattle.program_laws.proofs.Declared.{row_size, nowhere, atom_one}
 
 -- ---- rows
 
