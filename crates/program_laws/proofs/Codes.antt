@@ -17,7 +17,7 @@ use Rattle.scheme_model.specs.Diagnostics.{Diagnostic, Span, Bytes, bytes_of, at
 use Rattle.program_laws.specs.Turns.{Each, AreBounded}
 use Rattle.program_laws.proofs.Faults.{Any, coded}
 use Rattle.program_laws.proofs.Steps.{Ended}
-use Rattle.program_laws.proofs.Declared.{each_both, one_of_two}
+use Rattle.program_laws.proofs.Lists.{each_both, one_of_two, three_ways}
 use Rattle.program_laws.proofs.Programs.{FormFine, UnitFine, program_fine}
 
 abbrev pub HasCode : Diagnostic → Type 0
@@ -117,11 +117,6 @@ module _ (spans : List (List Span)) (p : Program) where
   units_have : (rs : List UnitResult) → Each UnitFine rs → AllHave (all_diagnostics spans p rs)
   units_have [] h = tt
   units_have (r ∷ rs) h = each_both HasCode (unit_diagnostics spans p r r.fault) (all_diagnostics spans p rs) (unit_has r r.fault h.0) (units_have rs h.1)
-
-three_ways : {Q : Type 0} (P : Q → Type 0) (a b : Bool) (x y z : Q) → P x → P y → P z → P (if a then x else if b then y else z)
-three_ways P true b x y z h k l = h
-three_ways P false true x y z h k l = k
-three_ways P false false x y z h k l = l
 
 put_has : (d : Diagnostic) (ds : List Diagnostic) → HasCode d → AllHave ds → AllHave (put_in d ds)
 put_has d [] h k = (h, tt)

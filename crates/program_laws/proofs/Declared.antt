@@ -10,28 +10,7 @@ use Rattle.scheme_model.specs.ExpansionFaults.{Fault}
 use Rattle.scheme_model.specs.Requirements.{Known, LibraryName, library_name_of, clause_holds}
 use Rattle.scheme_model.specs.Declarations.{with_part, proper_parts, symbol_in, symbol_tree, is_headed, UnitForm, plain_form, Flat, ◌>>=◌, or_bad, all_export_parts, Clause, later_clauses, picked, chosen_clause, flat_of, some_clauses, both, parts_or, Declared, Exports, Imports, Begins, Chooses, Includes, Undeclared, declared_by, declared_as, declaration, declarations, clauses, clause_of, UnitSource, name_or, no_name, library_with, behind_head, library_of, is_library, libraries_in, is_proper, program_forms, program_in, units_in}
 use Rattle.program_laws.specs.Turns.{Each, datum_size}
-
--- ---- lists
-
-pub each_of : {X : Type 0} (P Q : X → Type 0) (xs : List X) → Each P xs → ((x : X) → P x → Q x) → Each Q xs
-each_of P Q [] h g = tt
-each_of P Q (x ∷ xs) h g = (g x h.0, each_of P Q xs h.1 g)
-
-pub each_map : {X Y : Type 0} (P : X → Type 0) (Q : Y → Type 0) (f : X → Y) (xs : List X) → Each P xs → ((x : X) → P x → Q (f x)) → Each Q (map f xs)
-each_map P Q f [] h g = tt
-each_map P Q f (x ∷ xs) h g = (g x h.0, each_map P Q f xs h.1 g)
-
-pub each_both : {X : Type 0} (P : X → Type 0) (xs ys : List X) → Each P xs → Each P ys → Each P (xs ++ ys)
-each_both P [] ys h k = k
-each_both P (x ∷ xs) ys h k = (h.0, each_both P xs ys h.1 k)
-
-pub one_of_two : {X : Type 0} (P : X → Type 0) (b : Bool) (x y : X) → P x → P y → P (if b then x else y)
-one_of_two P true x y h k = h
-one_of_two P false x y h k = k
-
-each_filtered : {X : Type 0} (P : X → Type 0) (f : X → Bool) (xs : List X) → Each P xs → Each P (filter f xs)
-each_filtered P f [] h = tt
-each_filtered P f (x ∷ xs) h = one_of_two (Each P) (f x) (x ∷ filter f xs) (filter f xs) (h.0, each_filtered P f xs h.1) (each_filtered P f xs h.1)
+use Rattle.program_laws.proofs.Lists.{each_map, each_both, one_of_two, each_filtered}
 
 -- ---- sizes
 

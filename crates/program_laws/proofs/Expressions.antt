@@ -232,12 +232,12 @@ module _ {E A L S : Type 0} (ops : Ops E A L S) (keeps : Keeps ops) (n need : �
     some_clauses k [] le w = tt
     some_clauses k (c ∷ cs) le w = let a = w.0 in (omega (arith, a, le), some_clauses k cs le w.1)
 
-    quasi_read : (k : ℕ) (e : E) (s : S) (ts : Trees A) (tail : Tail A) → trees_size ts ≤ n → Gives (HolesWithin n) (one_of ts tail >> quasi_of (λ i. mark_of (head_of ops e s i)))
-    quasi_read k e s ts tail le = then_gives (TreeWithin (trees_size ts)) (HolesWithin n) (one_of ts tail) (quasi_of (λ i. mark_of (head_of ops e s i))) (one_within ts tail) (λ t x. quasi_within n (λ i. mark_of (head_of ops e s i)) t (omega (arith, x, le)))
+    quasi_read : (e : E) (s : S) (ts : Trees A) (tail : Tail A) → trees_size ts ≤ n → Gives (HolesWithin n) (one_of ts tail >> quasi_of (λ i. mark_of (head_of ops e s i)))
+    quasi_read e s ts tail le = then_gives (TreeWithin (trees_size ts)) (HolesWithin n) (one_of ts tail) (quasi_of (λ i. mark_of (head_of ops e s i))) (one_within ts tail) (λ t x. quasi_within n (λ i. mark_of (head_of ops e s i)) t (omega (arith, x, le)))
 
     core_ends : (m depth : ℕ) (here : Here) (e : E) (c : CoreKeyword) (ts : Trees A) (tail : Tail A) → At turns depth m → trees_size ts ≤ n → Works m (core_form F ops depth here e c ts tail)
     core_ends m depth here e IsQuote ts tail at le s h = read_ends m (TreeWithin (trees_size ts)) here (one_of ts tail) (quote ops depth here) s h (one_within ts tail) (λ t x. quote_ends m depth here t at)
-    core_ends m depth here e IsQuasiquote ts tail at le s h = read_ends m (HolesWithin n) here (one_of ts tail >> quasi_of (λ i. mark_of (head_of ops e s i))) (quasi F ops depth here e) s h (quasi_read 0 e s ts tail le) (λ p x. quasi_ends m depth here e p at x)
+    core_ends m depth here e IsQuasiquote ts tail at le s h = read_ends m (HolesWithin n) here (one_of ts tail >> quasi_of (λ i. mark_of (head_of ops e s i))) (quasi F ops depth here e) s h (quasi_read e s ts tail le) (λ p x. quasi_ends m depth here e p at x)
     core_ends m depth here e IsLambda ts tail at le s h = read_ends m (ClauseWithin (trees_size ts)) here (lambda_of ops.names.same ts tail) (lambda F ops depth here e) s h (lambda_within ops.names.same ts tail) (λ c x. lambda_ends m depth here e c at (omega (arith, x, le)))
     core_ends m depth here e IsCaseLambda ts tail at le s h =
         read_ends m (ClausesWithin (trees_size ts)) here (case_lambda_of ops.names.same ts tail) (λ cs. node ops here 1 depth (λ below t. clauses F ops below here e cs t >>= λ more. done (CaseLambda more))) s h (case_lambda_within ops.names.same ts tail)

@@ -3,6 +3,7 @@ pub mod Shapes  -- What is read from the shape of a core form is no larger than 
 pub mod Quasi  -- What a quasiquotation leaves to be evaluated is no larger than the datum, and no reading of one ends the turns
 pub mod Rules  -- The rules of a macro are read and an instance is built within the turns, and an instance has so many nodes at most
 pub mod Steps  -- Steps of an expansion, within macro uses that are left
+pub mod Lists  -- What holds of each of a list, and of either branch of a test
 pub mod Circles  -- What units import, directly or not, is closed
 pub mod Runs  -- The forms of a body or a unit are gone through within the turns
 pub mod Expressions  -- Expressions are expanded within the turns

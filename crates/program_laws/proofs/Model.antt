@@ -9,6 +9,7 @@ use Rattle.scheme_model.specs.Meaning.{Global}
 use Rattle.scheme_model.specs.Order.{Form, Item, Expression, Value, Function, Assigned, AssignedFunction, ValuesOf, Record, Macro, Pending, Renamed, is_some}
 use Rattle.scheme_model.specs.Substitution.{Clock, at_form, State, number_at, form_map, item_map, renamed, unchanged, deep, shallow, any, refused_in_body, is_mine, defined_local, define_in_body, defined_global, refused_in_unit, define_in_unit, defined_in, define, model}
 use Rattle.program_laws.proofs.Faults.{Gives}
+use Rattle.program_laws.proofs.Lists.{three_ways}
 use Rattle.program_laws.proofs.Steps.{size_same, sizes_same, total, FormsWithin, ItemWithin, ItemsWithin, AsLarge, Keeps}
 
 at_itself : (f : ℕ) (g : ℕ → ℕ) (clock : Clock) → at_form f g clock f ≡ g (clock f)
@@ -50,20 +51,15 @@ unchanged_large p = record { todo = refl; within = λ n h. h }
 abbrev Made : Pending Name Name → State → Result (Renamed Name Name) (Fault Ident) × State → Type 0
 Made p s q = (q.1.uses q.1.form ≡ s.uses s.form) × Gives (AsLarge p) q.0
 
-by_tests : {Q : Type 0} (P : Q → Type 0) (a b : Bool) (x y z : Q) → P x → P y → P z → P (if a then x else if b then y else z)
-by_tests P true b x y z h k l = h
-by_tests P false true x y z h k l = k
-by_tests P false false x y z h k l = l
-
 body_made : (n : Named Name) (r : Option (Rules Name)) (p : Pending Name Name) (s : State) → Made p s (define_in_body n r p s)
 body_made n r p s =
-    by_tests (Made p s) (any (refused_in_body s n.name (number_at s s.locals) (is_some r)) p.notes) (is_mine s.mine n.name)
+    three_ways (Made p s) (any (refused_in_body s n.name (number_at s s.locals) (is_some r)) p.notes) (is_mine s.mine n.name)
     (Err (KeywordRedefined (named (erase n.name) n.occ)), s) (Err (Duplicate (named (erase n.name) n.occ)), s) (Ok (renamed (deep n.name (number_at s s.locals)) p), defined_local n.name r s)
     (refl, tt) (refl, tt) (refl, renamed_large (deep n.name (number_at s s.locals)) p)
 
 unit_made : (n : Named Name) (r : Option (Rules Name)) (p : Pending Name Name) (s : State) → Made p s (define_in_unit n r p s)
 unit_made n r p s =
-    by_tests (Made p s) (any (refused_in_unit (defined_global n r s) (Global s.unit (erase n.name)) (is_some r)) p.notes) (is_some (defined_in s.table s.unit (erase n.name)))
+    three_ways (Made p s) (any (refused_in_unit (defined_global n r s) (Global s.unit (erase n.name)) (is_some r)) p.notes) (is_some (defined_in s.table s.unit (erase n.name)))
     (Err (KeywordRedefined (named (erase n.name) n.occ)), s) (Err (Duplicate (named (erase n.name) n.occ)), s) (Ok (unchanged p), defined_global n r s)
     (refl, tt) (refl, tt) (refl, unchanged_large p)
 

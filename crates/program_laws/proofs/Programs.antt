@@ -1,5 +1,5 @@
 -- The forms of a program's units come to their ends within the turns.
-use Rattle.std.proofs.Common.{◌≡◌, ℕ, zero, suc, ◌^◌, ◌<◌, List, [], ◌∷◌, map, length, Bool, true, false, Option, Some, None, Result, Ok, Err, refl, arith, if◌then◌else◌}
+use Rattle.std.proofs.Common.{◌≡◌, ℕ, zero, suc, ◌^◌, ◌<◌, List, [], ◌∷◌, map, length, Bool, Option, Some, None, Result, Ok, Err, refl, arith}
 use Rattle.std.specs.Prelude.{◌==◌}
 use Rattle.scheme_model.specs.Identifiers.{Name, Written}
 use Rattle.scheme_model.specs.Trees.{Tree, placed_in}
@@ -18,7 +18,8 @@ use Rattle.program_laws.proofs.Faults.{Any, not_out}
 use Rattle.program_laws.proofs.Steps.{Ended}
 use Rattle.program_laws.proofs.Units.{Comes, NumberedWithin, unit_comes}
 use Rattle.program_laws.proofs.Model.{model_keeps}
-use Rattle.program_laws.proofs.Declared.{each_of, each_map, each_both, one_of_two, as_large, DatumWithin, FormWithin, FlatWithin, SourceWithin, units_within}
+use Rattle.program_laws.proofs.Lists.{each_of, each_map, each_both, one_of_two, three_ways}
+use Rattle.program_laws.proofs.Declared.{as_large, DatumWithin, FormWithin, FlatWithin, SourceWithin, units_within}
 
 -- the most nodes of a datum
 abbrev most : ℕ
@@ -63,11 +64,6 @@ trees_within unit form (f ∷ fs) h =
     one_of_two (Each (NumberedWithin most)) f.declared (form_trees unit (suc form) fs) ((form, form_of unit form f.datum) ∷ form_trees unit (suc form) fs) (trees_within unit (suc form) fs h.1) (omega (arith, e, small), trees_within unit (suc form) fs h.1)
 
 -- ---- a unit
-
-three_ways : {Q : Type 0} (P : Q → Type 0) (a b : Bool) (x y z : Q) → P x → P y → P z → P (if a then x else if b then y else z)
-three_ways P true b x y z h k l = h
-three_ways P false true x y z h k l = k
-three_ways P false false x y z h k l = l
 
 refused_fine : (unit form : ℕ) (fs : List UnitForm) (es : List Formed) → Each FormFine es → Each FormFine (with_refused unit form fs es)
 refused_fine unit form [] es h = h

@@ -14,29 +14,29 @@ use Rattle.datum_reader.specs.Texts.{token_seen, stop_seen, IsReading}
 use Rattle.program_laws.specs.Turns.{Each, datum_size, AreBounded}
 use Rattle.program_laws.specs.Texts.{IsOfText}
 use Rattle.program_laws.proofs.Circles.{never}
-use Rattle.program_laws.proofs.Declared.{each_of}
+use Rattle.program_laws.proofs.Lists.{each_of}
 use Rattle.program_laws.proofs.Written.{data_within}
 
 -- ---- a token has a character
 
-abbrev Some1 : List ℕ → Type 0
-Some1 cs = 1 ≤ length cs
+abbrev HasCharacter : List ℕ → Type 0
+HasCharacter cs = 1 ≤ length cs
 
-spelled_some : (cs glyphs : List ℕ) (c : ℕ) → map to_ascii_lowercase glyphs ≡ c ∷ cs → Some1 glyphs
+spelled_some : (cs glyphs : List ℕ) (c : ℕ) → map to_ascii_lowercase glyphs ≡ c ∷ cs → HasCharacter glyphs
 spelled_some cs [] c e = let l = ap length e in omega (arith, l)
 spelled_some cs (g ∷ gs) c e = omega arith
 
-as_some : (glyphs cs : List ℕ) (c : ℕ) → glyphs ≡ c ∷ cs → Some1 glyphs
+as_some : (glyphs cs : List ℕ) (c : ℕ) → glyphs ≡ c ∷ cs → HasCharacter glyphs
 as_some glyphs cs c e = let l = ap length e in omega (arith, l)
 
-bare_some : (cs : List ℕ) → IsBare cs → Some1 cs
+bare_some : (cs : List ℕ) → IsBare cs → HasCharacter cs
 bare_some cs (IsBare.ordinary c ds h k) = omega arith
 bare_some cs (IsBare.sign s h) = omega arith
 bare_some cs (IsBare.signed s c ds h k l) = omega arith
 bare_some cs (IsBare.signed_dot s c ds h k l) = omega arith
 bare_some cs (IsBare.dot c ds h k) = omega arith
 
-numeral_some : (cs : List ℕ) → IsNumeral cs → Some1 cs
+numeral_some : (cs : List ℕ) → IsNumeral cs → HasCharacter cs
 numeral_some cs (IsNumeral.digit c ds h) = omega arith
 numeral_some cs (IsNumeral.point c ds h) = omega arith
 numeral_some cs (IsNumeral.signed s c ds h k) = omega arith
@@ -46,13 +46,13 @@ numeral_some cs (IsNumeral.infinite s ds more h k) = omega arith
 numeral_some cs (IsNumeral.no_number s ds more h k) = omega arith
 numeral_some cs (IsNumeral.imaginary s ds h k) = omega arith
 
-truth_some : (b : Bool) (cs : List ℕ) → IsTruth b cs → Some1 cs
+truth_some : (b : Bool) (cs : List ℕ) → IsTruth b cs → HasCharacter cs
 truth_some true cs (inl h) = spelled_some (codes "t") cs 35 h
 truth_some true cs (inr h) = spelled_some (codes "true") cs 35 h
 truth_some false cs (inl h) = spelled_some (codes "f") cs 35 h
 truth_some false cs (inr h) = spelled_some (codes "false") cs 35 h
 
-leaf_some : (leaf : Leaf) (cs rest : List ℕ) → IsLeaf leaf cs rest → Some1 cs
+leaf_some : (leaf : Leaf) (cs rest : List ℕ) → IsLeaf leaf cs rest → HasCharacter cs
 leaf_some (Name name true) cs rest h = as_some cs h.0 124 h.1
 leaf_some (Name name false) cs rest h = let l = ap length h.0 in let b = bare_some name h.1 in omega (arith, l, b)
 leaf_some (Numeral text) cs rest h = let l = ap length h.0 in let b = numeral_some text h.1 in omega (arith, l, b)
@@ -60,7 +60,7 @@ leaf_some (Quoted text) cs rest h = as_some cs h.0 34 h.1
 leaf_some (Character c) cs rest h = as_some cs (92 ∷ h.0 ∷ h.1) 35 h.2
 leaf_some (Truth b) cs rest h = truth_some b cs h.0
 
-token_some : (k : TokenKind) (cs rest : List ℕ) → IsToken k cs rest → Some1 cs
+token_some : (k : TokenKind) (cs rest : List ℕ) → IsToken k cs rest → HasCharacter cs
 token_some Paren cs rest h = as_some cs [] 40 h
 token_some VectorParen cs rest h = as_some cs (codes "(") 35 h
 token_some BytesParen cs rest (inl h) = as_some cs (codes "u8(") 35 h
