@@ -1,11 +1,12 @@
 -- A text has at most as many tokens as characters, so its data are no larger than twice the text.
-use Rattle.std.proofs.Common.{◌≡◌, inl, inr, ℕ, suc, ◌*◌, ◌^◌, ◌≤◌, ◌<◌, List, [], ◌∷◌, ◌++◌, map, length, codes, Bool, true, false, Option, Some, None, refl, ap, ◌∙◌, length-append, arith, if◌then◌else◌}
+use Rattle.std.proofs.Common.{◌≡◌, inl, inr, ℕ, zero, suc, ◌+◌, ◌-◌, ◌*◌, ◌^◌, ◌≤◌, ◌<◌, List, [], ◌∷◌, ◌++◌, map, length, codes, Bool, true, false, Option, Some, None, refl, ap, ◌∙◌, length-append, arith, if◌then◌else◌}
 use Rattle.std.specs.Prelude.{◌==◌}
 use Rattle.std.specs.Char.{to_ascii_lowercase}
 use Rattle.scheme_model.specs.Data.{Datum}
 use Rattle.scheme_model.specs.Kinds.{Token as ModelToken}
 use Rattle.scheme_model.specs.Program.{Document, data_of}
 use Rattle.scheme_tokens.specs.Lexical.{Leaf, Name, Numeral, Quoted, Character, Truth, Quote, Quasi, Unquote, Splice, TokenKind, Paren, VectorParen, BytesParen, Close, Dot, Skip, Marked, Atomic, IsBare, IsNumeral, IsTruth, IsLeaf, IsToken, Token, First, IsSpelledFrom, mark_bytes, behind_mark}
+use Rattle.std.specs.Str.{chars, chars_after, continuation_len, lead_bits}
 use Rattle.std.specs.Option.{option_map}
 use Rattle.scheme_model.specs.Order.{is_some}
 use Rattle.scheme_tokens.specs.Stopping.{IsRead}
@@ -116,11 +117,26 @@ text_within text ds r =
     let few : length r.tokens ≤ length text = read_by text r.tokens s.0 s.1 s.2 s.3 s.4 in
     each_of (λ (d : Datum). datum_size d ≤ 2 * length r.tokens) (λ (d : Datum). datum_size d ≤ 2 * length text) ds (data_within r.written r.tokens ds r.formed r.means) (λ d le. omega (arith, le, few))
 
+-- ---- bytes
+
+after_fewer : (n c : ℕ) (bs : List ℕ) → length (chars_after n c bs) ≤ suc (length bs)
+after_fewer zero c [] = omega arith
+after_fewer zero c (b ∷ bs) = let h = after_fewer (continuation_len b) (lead_bits b) bs in omega (arith, h)
+after_fewer (suc n) c [] = omega arith
+after_fewer (suc n) c (b ∷ bs) = let h = after_fewer n (c * 64 + (b - 128)) bs in omega (arith, h)
+
+-- a text has no more characters than bytes
+chars_fewer : (bs : List ℕ) → length (chars bs) ≤ length bs
+unfolding chars
+chars_fewer [] = omega arith
+chars_fewer (b ∷ bs) = after_fewer (continuation_len b) (lead_bits b) bs
+
 document_bounded : (d : Document) → IsOfText d → Each (λ (x : Datum). datum_size x < 2 ^ 60) (data_of d)
 document_bounded None h = tt
 document_bounded (Some ds) h =
     let small = h.1 in
-    each_of (λ (x : Datum). datum_size x ≤ 2 * length h.0) (λ (x : Datum). datum_size x < 2 ^ 60) ds (text_within h.0 ds h.2) (λ x le. omega (arith, le, small))
+    let few = chars_fewer h.0 in
+    each_of (λ (x : Datum). datum_size x ≤ 2 * length (chars h.0)) (λ (x : Datum). datum_size x < 2 ^ 60) ds (text_within (chars h.0) ds h.2) (λ x le. omega (arith, le, small, few))
 
 pub texts_bounded : (ds : List Document) → Each IsOfText ds → AreBounded ds
 texts_bounded ds h = each_of IsOfText (λ (d : Document). Each (λ (x : Datum). datum_size x < 2 ^ 60) (data_of d)) ds h (λ d x. document_bounded d x)

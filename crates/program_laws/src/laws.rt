@@ -20,8 +20,8 @@ pub fn each_unit_has_a_result()
     ensures { (ds : List Document) → map (λ (r : UnitResult). r.unit) (program_of ds).units ≡ prepare (units_of ds) 0 (units_of ds) }
 {}
 
-/// What is read from a text of fewer than 2^59 characters is bounded (R7RS 7.1.1, 7.1.2): each token has a character, and a datum has at
-/// most two nodes for each token.
+/// What is read from a text of fewer than 2^59 bytes is bounded (R7RS 7.1.1, 7.1.2): each token has a character, and a datum has at most
+/// two nodes for each token.
 pub fn texts_are_bounded()
     ensures read { (text : List ℕ) (ds : List Datum) → IsReading text ds → Each (λ (d : Datum). datum_size d ≤ 2 * length text) ds }
     ensures bounded { (ds : List Document) → Each IsOfText ds → AreBounded ds }
