@@ -1,0 +1,3 @@
+pub mod Circles  -- Units that import one another (R7RS 5.6)
+pub mod Turns  -- What bounds an expansion, and forms whose expansion comes to its end
+pub mod Texts  -- Documents that were read from texts
