@@ -1,6 +1,9 @@
 -- The class of the identifier at a position of a document, and its standard name.
-use Rattle.std.specs.Prelude.{◌≡◌, ℕ, ◌≤◌, List, [], ◌∷◌, map, length, true, false, Option, Some, None}
+use Rattle.std.specs.Prelude.{◌≡◌, ℕ, List, [], ◌∷◌, map, length, true, false, Option, Some, None}
+use Rattle.std.specs.Cmp.Lexicographic.{slice_cmp}
 use Rattle.std.specs.List.{All, Contains}
+use Rattle.std.specs.Ordering.{nat_cmp, ordering_then, is_lt}
+use Rattle.std.specs.declared.cmp.Ordering.{Ordering}
 use Rattle.scheme_model.specs.declared.Occ.{Occ}
 use Rattle.scheme_model.specs.Answers.{Facts, ordered_by}
 use Rattle.scheme_model.specs.Entries.{is_below}
@@ -12,10 +15,14 @@ use Rattle.program_answers.specs.ToldAnswers.{has_bars}
 use Rattle.program_answers.specs.declared.classes.Class.{Class}
 use Rattle.program_answers.specs.declared.classes.ClassPart.{ClassPart}
 
--- the longest of some texts, and none of none
+-- by length, and those of one length in byte order
+abbrev pub prefix_cmp : List ℕ → List ℕ → Ordering
+prefix_cmp s t = ordering_then (nat_cmp (length s) (length t)) (slice_cmp nat_cmp s t)
+
+-- the longest of some texts, of those of one length the last in byte order; and none of none
 abbrev pub IsLongest : List (List ℕ) → List ℕ → Type 0
 IsLongest [] s = s ≡ []
-IsLongest (t ∷ ts) s = Contains (t ∷ ts) s × ((u : List ℕ) → Contains (t ∷ ts) u → length u ≤ length s)
+IsLongest (t ∷ ts) s = Contains (t ∷ ts) s × ((u : List ℕ) → Contains (t ∷ ts) u → is_lt (prefix_cmp s u) ≡ false)
 
 abbrev pub bare_part : ClassPart → bare.ClassPart
 bare_part p = record { occ = p.occ; prefix = p.prefix }

@@ -1,12 +1,13 @@
 //! Classes of occurrences, which are spelled together, at places of documents.
-ghost use Rattle.std.specs.Prelude.{◌≡◌, ◌<◌, ◌&&◌, nat_lt, List, length, map, true, IfOk};
+ghost use Rattle.std.specs.Prelude.{◌≡◌, ◌<◌, ◌&&◌, List, length, map, true, IfOk};
+ghost use Rattle.std.specs.Ordering.{is_lt};
 ghost use Rattle.std.specs.FinMap.{entries};
 ghost use Rattle.std.specs.List.{All};
 ghost use Rattle.scheme_model.specs.Entries.{same_occ};
 ghost use Rattle.scheme_model.specs.Spelling.{is_joined};
 ghost use Rattle.program_answers.specs.AskedOf.{IsSource, own_prefixes};
 ghost use Rattle.document_units.specs.Readings.{Read};
-ghost use Rattle.program_answers.specs.Classed.{IsClassAt, IsClassOf, IsLongest, bare_part, head_of, standard_for};
+ghost use Rattle.program_answers.specs.Classed.{IsClassAt, IsClassOf, IsLongest, bare_part, head_of, prefix_cmp, standard_for};
 ghost use Rattle.program_answers.specs.ToldAnswers.{facts_in, has_bars, name_there};
 
 use crate::asked::Asked;
@@ -22,7 +23,8 @@ pub struct ClassPart {
     pub bars: bool,
 }
 
-/// The class of an occurrence: the longest of its own prefixes, and each prefix of each member.
+/// The class of an occurrence: the longest of its own prefixes, of those of one length the last in byte order, and each prefix of each
+/// member.
 #[derive(Debug, Drop)]
 pub struct Class {
     pub at: Occ,
@@ -61,7 +63,7 @@ fn class_of(asked: &Asked<'_>, occ: Occ) -> Mem<Class>
     })
 }
 
-/// The longest prefix of an occurrence.
+/// The longest prefix of an occurrence, and of those of one length the last in byte order.
 fn longest(parts: &[BarePart], occ: Occ) -> &str
     ensures { IsLongest (own_prefixes parts.now occ) result.now }
 {
@@ -74,11 +76,22 @@ fn longest(parts: &[BarePart], occ: Occ) -> &str
     longest
 }
 
-/// Whether a part is of an occurrence, with a prefix that is longer than another.
-fn is_longer(part: &BarePart, occ: Occ, prefix: &str) -> bool
-    ensures { result ≡ (same_occ part.now.occ occ && nat_lt (length prefix.now) (length part.now.prefix)) }
+/// Whether a prefix is shorter than another, or as long and before it in byte order.
+fn is_shorter(prefix: &str, other: &str) -> bool
+    ensures { result ≡ is_lt (prefix_cmp prefix.now other.now) }
 {
-    part.occ == occ && prefix.len() < part.prefix.as_str().len()
+    prefix
+        .len()
+        .cmp(&other.len())
+        .then(prefix.cmp(other))
+        .is_lt()
+}
+
+/// Whether a part is of an occurrence, with a prefix that is longer than another, or as long and behind it in byte order.
+fn is_longer(part: &BarePart, occ: Occ, prefix: &str) -> bool
+    ensures { result ≡ (same_occ part.now.occ occ && is_lt (prefix_cmp prefix.now part.now.prefix)) }
+{
+    part.occ == occ && is_shorter(prefix, part.prefix.as_str())
 }
 
 /// Parts with whether their members stand between bars.
