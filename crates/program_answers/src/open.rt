@@ -113,7 +113,7 @@ impl Open {
     }
 
     /// The documents and units, by which an occurrence has a place.
-    fn places(&self) -> Places<'_>
+    pub fn places(&self) -> Places<'_>
         ensures documents { length result.documents.now ≡ length (entries self.now) }
         ensures places { CanPlace result }
         ensures exact { (rs : List Read) → AreReadAs (entries self.now) rs → ArePlaces result rs (program_in rs).units }
@@ -180,7 +180,7 @@ impl Open {
     }
 
     /// A document by its place.
-    fn document(&self, number: usize) -> &Document
+    pub fn document(&self, number: usize) -> &Document
         requires { number < length (entries self.now) }
         ensures { IsDocument (told.document_at (entries self.now) number) result.now }
     {
@@ -188,7 +188,7 @@ impl Open {
     }
 
     /// The text of a document.
-    fn text(&self, number: usize) -> &str
+    pub fn text(&self, number: usize) -> &str
         requires { number < length (entries self.now) }
         ensures { result.now ≡ told.text_of (entries self.now) number }
     {
