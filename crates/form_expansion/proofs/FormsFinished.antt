@@ -362,9 +362,9 @@ module _ (known : Known) (unit : ℕ) (rs : List (LeftOf Identifier)) (s : Scope
       by [] h = refl
       by (q ∷ qs) h = absurd h
 
-  pub all_so : (b : Bench) (total place now : ℕ) (cs : List code_form.UnitForm) → AllSo b total place now cs → (nat_lt max_total total ≡ false → place ≡ length ds) → Finishes b unit known rs s total first now cs
+  pub all_so : (b : Bench) (total place to : ℕ) (cs : List code_form.UnitForm) → AllSo b total place to cs → (nat_lt max_total total ≡ false → place ≡ length ds) → Finishes b unit known rs s total first to cs
   unfolding all_finished_formed
-  all_so b total place now cs a all = record {
+  all_so b total place to cs a all = record {
     layout = a.base.held.layout;
     last = a.base.held.state;
     notes = a.base.held.notes;

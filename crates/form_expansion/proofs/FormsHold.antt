@@ -263,9 +263,9 @@ module _ (known : Known) (unit : ℕ) (ts : List (ℕ × Tree Identifier)) (s : 
       used_so =
           let here : IsAmong place (numbers_of ts) = subst (λ (xs : List (ℕ × Tree Identifier)). IsAmong place (numbers_of xs)) (sym (append_assoc a.front (tree ∷ []) others) ∙ parted_so) (among a.front others tree) in
           let stay = declared_stays place known (seeded unit place (datum_of f.datum)) a.base.held.notes was in
-          let moved = step_total place was.uses now.1.uses (λ m apart. (stay.counts m apart).uses) 0 (numbers_of ts) rise here in
-          let none = (a.base.fresh place (omega (arith, at))).uses in let counts = n.form_is.counts.uses in let before = a.used in let one = used_more ds d in
-          omega (arith, moved, none, counts, before, one)
+          counted_on (total_of now.1.uses (numbers_of ts)) (total_of was.uses (numbers_of ts)) (used_by ds) d.budget.uses (was.uses place) (now.1.uses place)
+          (step_total place was.uses now.1.uses (λ m apart. (stay.counts m apart).uses) 0 (numbers_of ts) rise here) a.used (a.base.fresh place (omega (arith, at))).uses n.form_is.counts.uses
+          ∙ sym (used_more ds d)
 
       before_it : whole ≡ behind a.gone (to_come (tree ∷ others) a.base.held.notes was)
       before_it = a.on few ∙ ap by_declared off
