@@ -1,7 +1,6 @@
 pub mod Items  -- The items of a list from a place on
 pub mod Sessions  -- Sessions over bodies that come one after another
 pub mod OneOutput  -- A stream of bytes has one output, and messages that begin it are its front
-pub mod CallLaws  -- Calls that are made one after another
 pub mod ReadLaws  -- Reads one after another
 pub mod Writes  -- Bytes written one after another
 pub mod AnswerLaws  -- Bodies that are answered one after another

@@ -10,8 +10,10 @@ use Rattle.lsp_framing.specs.Feeds.{Feeds}
 use Rattle.lsp_framing.proofs.EveryReading.{every_reading}
 use Rattle.lsp_framing.proofs.OneReading.{bodies_grow}
 use Rattle.lsp_messages.specs.declared.reply.Reply.{Reply}
+use Rattle.ls_outside.specs.Calls.{AllTake, CallsTake, LastTakes}
 use Rattle.ls_outside.specs.Sources.{GotTakes}
 use Rattle.ls_outside.specs.declared.source.Got.TheVariants as got
+use Rattle.ls_outside.proofs.CallLaws.{calls_then, last_none_all}
 use Rattle.scheme_model.specs.Session.{begin}
 use Rattle.scheme_ls.specs.BodiesOutcome.{AnswersBodies}
 use Rattle.scheme_ls.specs.PieceOutcome.{AnswersInPiece, EndsInPiece, HasFault, Serving, TakesPiece}
@@ -27,10 +29,10 @@ use Rattle.scheme_ls.specs.declared.answering.Exit.{Exit}
 use Rattle.scheme_ls.specs.declared.server.FaultAt.{FaultAt}
 use Rattle.scheme_ls.specs.declared.serve.SessionEnd.TheVariants.{Exited, FrameFault, NoMemory, WriteFailed}
 use Rattle.scheme_ls.proofs.AnswerLaws.{answers_then, are_first, ends_after, part_follows}
-use Rattle.scheme_ls.proofs.SessionSoFar.{Going, before_last, frames_so_far, going_frames, is_output_so_far, output_so_far, takes_none, without_farewell}
-use Rattle.scheme_ls.proofs.ReadLaws.{reads_none, reads_then}
+use Rattle.scheme_ls.proofs.SessionSoFar.{Going, before_last, frames_so_far, going_frames, is_output_so_far, output_so_far, without_farewell}
+use Rattle.scheme_ls.proofs.ReadLaws.{read_last, reads_none, reads_then}
 use Rattle.scheme_ls.proofs.Sessions.{frames_more}
-use Rattle.scheme_ls.proofs.Taken.{TakesBytes-more}
+use Rattle.scheme_ls.proofs.Taken.{TakesBytes-more, takes_none}
 use Rattle.scheme_ls.proofs.Writes.{front_after, part_after, prints_nothing, prints_then}
 
 -- a read behind what was taken so far, before what it completes is answered
@@ -38,20 +40,24 @@ pub record Read (old mid new : Streams) (server : Serving) (taken most n : ℕ) 
   pub takes : TakesBytes old.source.left new.source.left (w.bytes ++ take n buffer)
   pub pieces : AreBeforeLast old.source.left w.bytes (take n buffer)
   pub few : taken + n ≤ 1099511627776
-  pub on : ReadsOn old.source new.source
+  pub on : ReadsOn old.source new.source (w.bytes ++ take n buffer)
+  pub last : LastTakes old.source.reads new.source.reads w.bytes (take n buffer)
 
 pub read_piece : (old mid new : Streams) (server : Serving) (taken n room : ℕ) (buffer : List ℕ) (w : Going old mid server taken 1099511627776) → taken < 1099511627776 → 1 ≤ n → n ≤ length buffer → length buffer ≡ room →
-    room ≡ min 65536 (1099511627776 - taken) → GotTakes mid.source.left new.source.left (got.Some n) buffer → ReadsOn mid.source new.source → Read old mid new server taken 1099511627776 n buffer w
-read_piece old mid new server taken n room buffer w below some within size space takes on = record {
+    room ≡ min 65536 (1099511627776 - taken) → GotTakes mid.source.left new.source.left (got.Some n) buffer → ReadsOn mid.source new.source (take n buffer) → new.source.reads ≡ mid.source.reads ++ take n buffer ∷ [] → Read old mid new server taken 1099511627776 n buffer w
+read_piece old mid new server taken n room buffer w below some within size space takes on notes = record {
   takes = TakesBytes-more old.source.left mid.source.left new.source.left w.bytes buffer n w.takes takes;
   pieces = before_last old.source.left mid.source.left new.source.left w.bytes buffer n some within (w.pieces below) takes;
   few = omega arith;
-  on = reads_then old.source mid.source new.source w.on on;
+  on = reads_then old.source mid.source new.source w.bytes (take n buffer) w.on on;
+  last = read_last old.source mid.source new.source w.bytes (take n buffer) w.on notes;
 }
 
 -- all of a print is a part of it
 whole_part : (a b : SinkSeen) (x : List ℕ) → Prints a b x → PrintsPart a b x
-whole_part a b x p = record { count = length x; part = omega arith; printed = subst (Appends a.taken b.taken) (sym (take_all (length x) x (omega arith))) p.printed; no_fault = p.no_fault; calls = p.calls }
+whole_part a b x p =
+    let all = sym (take_all (length x) x (omega arith)) in
+    record { count = length x; part = omega arith; printed = subst (Appends a.taken b.taken) all p.printed; no_fault = p.no_fault; calls = subst (AllTake a.writes b.writes) all p.calls }
 
 -- how the bytes end, where that is told
 pub some_end : (e : Option End) (bytes : List ℕ) (bodies : List (List ℕ)) → IsSomeAnd e (IsFrames bytes bodies) → (end : End) × IsFrames bytes bodies end
@@ -72,12 +78,13 @@ few_bytes old mid new server taken most n buffer w r =
 
 -- what was printed before the piece, and after it
 before_written : (old mid new : Streams) (server : Serving) (taken most n : ℕ) (buffer : List ℕ) (w : Going old mid server taken most) (r : Read old mid new server taken most n buffer w) (more : List ℕ) (sink : SinkSeen) →
-    Appends mid.sink.taken sink.taken more →
+    Appends mid.sink.taken sink.taken more → CallsTake mid.sink.writes sink.writes more →
     AnswersPiecesBefore old (record { source = new.source; sink = sink }) (w.bytes ++ take n buffer)
-before_written old mid new server taken most n buffer w r more sink printed = record {
+before_written old mid new server taken most n buffer w r more sink printed writes = record {
   before = w.bytes;
   last = take n buffer;
   split = refl;
+  reads = r.last;
   pieces = r.pieces;
   output = output_so_far old mid server taken most w;
   is = is_output_so_far old mid server taken most w;
@@ -85,6 +92,7 @@ before_written old mid new server taken most n buffer w r more sink printed = re
   unfinished = tt;
   more = more;
   printed = Appends-trans old.sink.taken mid.sink.taken sink.taken _ more w.answers.prints.printed printed;
+  writes = calls_then old.sink.writes mid.sink.writes sink.writes _ more w.answers.prints.calls.take writes;
 }
 
 -- `exit` stands in the piece
@@ -97,7 +105,7 @@ piece_exits old mid new server next taken most n exit buffer w r e unworked =
       ends = record {
         bytes = w.bytes ++ take n buffer;
         taken = r.takes;
-        source = (r.on, before_written old mid new server taken most n buffer w r _ new.sink e.ends.prints.printed);
+        source = (r.on, before_written old mid new server taken most n buffer w r _ new.sink e.ends.prints.printed e.ends.prints.calls.take);
         session = (
           few_bytes old mid new server taken most n buffer w r,
           record {
@@ -157,7 +165,8 @@ farewell_written old mid seen sink server next taken most n buffer at w r e p un
         taken = r.takes;
         source = (
           r.on,
-          before_written old mid seen server taken most n buffer w r _ sink (Appends-trans mid.sink.taken seen.sink.taken sink.taken _ _ e.answers.prints.printed p.printed),
+          before_written old mid seen server taken most n buffer w r _ sink (Appends-trans mid.sink.taken seen.sink.taken sink.taken _ _ e.answers.prints.printed p.printed)
+          (calls_then mid.sink.writes seen.sink.writes sink.writes _ _ e.answers.prints.calls.take p.calls.take),
         );
         session = (
           few_bytes old mid seen server taken most n buffer w r,
@@ -190,7 +199,8 @@ farewell_cut old mid seen sink server next taken most n buffer at w r e p unwork
         taken = r.takes;
         source = (
           r.on,
-          before_written old mid seen server taken most n buffer w r _ sink (Appends-trans mid.sink.taken seen.sink.taken sink.taken _ _ e.answers.prints.printed p.printed),
+          before_written old mid seen server taken most n buffer w r _ sink (Appends-trans mid.sink.taken seen.sink.taken sink.taken _ _ e.answers.prints.printed p.printed)
+          (calls_then mid.sink.writes seen.sink.writes sink.writes _ _ e.answers.prints.calls.take (last_none_all seen.sink.writes sink.writes _ p.calls)),
         );
         session = (
           few_bytes old mid seen server taken most n buffer w r,
@@ -307,7 +317,7 @@ piece_cut old mid new server next taken most n buffer w r e unworked =
       ends = record {
         bytes = w.bytes ++ take n buffer;
         taken = r.takes;
-        source = (r.on, before_written old mid new server taken most n buffer w r _ new.sink some.prints.printed);
+        source = (r.on, before_written old mid new server taken most n buffer w r _ new.sink some.prints.printed (last_none_all mid.sink.writes new.sink.writes _ some.prints.calls));
         session = (
           few_bytes old mid new server taken most n buffer w r,
           record {

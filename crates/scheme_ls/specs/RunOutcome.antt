@@ -16,13 +16,13 @@ use Rattle.scheme_ls.specs.declared.status.Status.TheVariants.{BadWords, SinkFau
 use Rattle.scheme_ls.specs.declared.arguments.Command.{Command}
 use Rattle.scheme_ls.specs.declared.arguments.Command.TheVariants.{Arrows, Serve, Unknown}
 
--- what files show at a moment: what names hold, where they tell it, the names asked, and how often a fetch has failed
+-- what files show at a moment: what names hold, where they tell it, the names asked so far, and how often a fetch has failed
 pub record FilesSeen : Type 0 where
   pub held : Option (List ℕ → Option (List ℕ))
-  pub asked : Option (List (List ℕ))
+  pub asked : List (List ℕ)
   pub faults : ℕ
 
-abbrev pub files_seen : Option (List ℕ → Option (List ℕ)) → Option (List (List ℕ)) → ℕ → FilesSeen
+abbrev pub files_seen : Option (List ℕ → Option (List ℕ)) → List (List ℕ) → ℕ → FilesSeen
 files_seen held asked faults = record { held = held; asked = asked; faults = faults }
 
 -- what the outside and the counter of steps show at a moment

@@ -51,7 +51,7 @@ returns-in-Exited g c =
     let size : length buffer ≡ room = filled c.loop-taken.buf buffer room (1099511627776 - c.loop-taken.taken) c.loop-taken.invariant.wide c.min-room.ensures c.read.auto.buf in
     let whole = take_first buffer (drop room c.loop-taken.buf) n c.in-Some.ensures.within.1 in
     let on = read_some mid.source new.source buffer n c.in-Some.ensures.counts c.in-Some.ensures.notes c.in-Some.ensures.within.0 c.in-Some.ensures.within.1 in
-    let read = read_piece old mid new server c.loop-taken.taken n room buffer c.loop-taken.invariant.going.so_far c.loop-taken-test.true c.in-Some.ensures.within.0 c.in-Some.ensures.within.1 size c.min-room.ensures c.in-Some.ensures.takes on in
+    let read = read_piece old mid new server c.loop-taken.taken n room buffer c.loop-taken.invariant.going.so_far c.loop-taken-test.true c.in-Some.ensures.within.0 c.in-Some.ensures.within.1 size c.min-room.ensures c.in-Some.ensures.takes on c.in-Some.ensures.notes in
     piece_exits old mid new server next c.loop-taken.taken 1099511627776 n c.in-Exited.exit buffer c.loop-taken.invariant.going.so_far read
     (subst (λ (piece : List ℕ). EndsInPiece server next piece (said_exit c.in-Exited.exit) mid.sink new.sink) whole c.in-Exited.ensures.takes)
     (unworked_then {old = old} {mid = mid} {server = server} c.loop-taken.invariant.going.so_far c.loop-taken.invariant.going.unworked whole c.in-Exited.ensures.steps)
@@ -72,7 +72,7 @@ returns-in-WriteFailed g c =
     let size : length buffer ≡ room = filled c.loop-taken.buf buffer room (1099511627776 - c.loop-taken.taken) c.loop-taken.invariant.wide c.min-room.ensures c.read.auto.buf in
     let whole = take_first buffer (drop room c.loop-taken.buf) n c.in-Some.ensures.within.1 in
     let on = read_some mid.source new.source buffer n c.in-Some.ensures.counts c.in-Some.ensures.notes c.in-Some.ensures.within.0 c.in-Some.ensures.within.1 in
-    let read = read_piece old mid new server c.loop-taken.taken n room buffer c.loop-taken.invariant.going.so_far c.loop-taken-test.true c.in-Some.ensures.within.0 c.in-Some.ensures.within.1 size c.min-room.ensures c.in-Some.ensures.takes on in
+    let read = read_piece old mid new server c.loop-taken.taken n room buffer c.loop-taken.invariant.going.so_far c.loop-taken-test.true c.in-Some.ensures.within.0 c.in-Some.ensures.within.1 size c.min-room.ensures c.in-Some.ensures.takes on c.in-Some.ensures.notes in
     piece_cut old mid new server next c.loop-taken.taken 1099511627776 n buffer c.loop-taken.invariant.going.so_far read
     (subst (λ (piece : List ℕ). AnswersInPiece server next piece (PrintsFront mid.sink new.sink)) whole c.in-WriteFailed.ensures.takes)
     (unworked_then {old = old} {mid = mid} {server = server} c.loop-taken.invariant.going.so_far c.loop-taken.invariant.going.unworked whole c.in-WriteFailed.ensures.steps)
@@ -93,7 +93,7 @@ returns-in-NoMemory g c =
     let size : length buffer ≡ room = filled c.loop-taken.buf buffer room (1099511627776 - c.loop-taken.taken) c.loop-taken.invariant.wide c.min-room.ensures c.read.auto.buf in
     let whole = take_first buffer (drop room c.loop-taken.buf) n c.in-Some.ensures.within.1 in
     let on = read_some mid.source new.source buffer n c.in-Some.ensures.counts c.in-Some.ensures.notes c.in-Some.ensures.within.0 c.in-Some.ensures.within.1 in
-    let read = read_piece old mid new server c.loop-taken.taken n room buffer c.loop-taken.invariant.going.so_far c.loop-taken-test.true c.in-Some.ensures.within.0 c.in-Some.ensures.within.1 size c.min-room.ensures c.in-Some.ensures.takes on in
+    let read = read_piece old mid new server c.loop-taken.taken n room buffer c.loop-taken.invariant.going.so_far c.loop-taken-test.true c.in-Some.ensures.within.0 c.in-Some.ensures.within.1 size c.min-room.ensures c.in-Some.ensures.takes on c.in-Some.ensures.notes in
     piece_lost old mid new server next c.loop-taken.taken 1099511627776 n buffer c.loop-taken.invariant.going.so_far read
     (subst (λ (piece : List ℕ). AnswersInPiece server next piece (PrintsPart mid.sink new.sink) ⊎ (new.sink ≡ mid.sink)) whole c.in-NoMemory.ensures.takes)
     (unworked_then {old = old} {mid = mid} {server = server} c.loop-taken.invariant.going.so_far c.loop-taken.invariant.going.unworked whole c.in-NoMemory.ensures.steps)
@@ -114,7 +114,7 @@ returns-in-Ok g c =
     let size : length buffer ≡ room = filled c.loop-taken.buf buffer room (1099511627776 - c.loop-taken.taken) c.loop-taken.invariant.wide c.min-room.ensures c.read.auto.buf in
     let whole = take_first buffer (drop room c.loop-taken.buf) n c.in-Some.ensures.within.1 in
     let on = read_some mid.source new.source buffer n c.in-Some.ensures.counts c.in-Some.ensures.notes c.in-Some.ensures.within.0 c.in-Some.ensures.within.1 in
-    let read = read_piece old mid new server c.loop-taken.taken n room buffer c.loop-taken.invariant.going.so_far c.loop-taken-test.true c.in-Some.ensures.within.0 c.in-Some.ensures.within.1 size c.min-room.ensures c.in-Some.ensures.takes on in
+    let read = read_piece old mid new server c.loop-taken.taken n room buffer c.loop-taken.invariant.going.so_far c.loop-taken-test.true c.in-Some.ensures.within.0 c.in-Some.ensures.within.1 size c.min-room.ensures c.in-Some.ensures.takes on c.in-Some.ensures.notes in
     let sink = sink_seen (g.O.Sink.taken c.say_farewell.new.output) (g.O.Sink.faults c.say_farewell.new.output) (g.O.Sink.writes c.say_farewell.new.output) in
     farewell_written old mid new sink server next c.loop-taken.taken 1099511627776 n buffer c.in-Faulty.fault c.loop-taken.invariant.going.so_far read
     (subst (λ (piece : List ℕ). TakesPiece server next piece (HasFault c.in-Faulty.fault) mid.sink new.sink) whole c.in-Faulty.ensures.takes) c.in-Ok.ensures
@@ -136,7 +136,7 @@ returns-in-Err-Failed g c =
     let size : length buffer ≡ room = filled c.loop-taken.buf buffer room (1099511627776 - c.loop-taken.taken) c.loop-taken.invariant.wide c.min-room.ensures c.read.auto.buf in
     let whole = take_first buffer (drop room c.loop-taken.buf) n c.in-Some.ensures.within.1 in
     let on = read_some mid.source new.source buffer n c.in-Some.ensures.counts c.in-Some.ensures.notes c.in-Some.ensures.within.0 c.in-Some.ensures.within.1 in
-    let read = read_piece old mid new server c.loop-taken.taken n room buffer c.loop-taken.invariant.going.so_far c.loop-taken-test.true c.in-Some.ensures.within.0 c.in-Some.ensures.within.1 size c.min-room.ensures c.in-Some.ensures.takes on in
+    let read = read_piece old mid new server c.loop-taken.taken n room buffer c.loop-taken.invariant.going.so_far c.loop-taken-test.true c.in-Some.ensures.within.0 c.in-Some.ensures.within.1 size c.min-room.ensures c.in-Some.ensures.takes on c.in-Some.ensures.notes in
     let sink = sink_seen (g.O.Sink.taken c.say_farewell.new.output) (g.O.Sink.faults c.say_farewell.new.output) (g.O.Sink.writes c.say_farewell.new.output) in
     farewell_cut old mid new sink server next c.loop-taken.taken 1099511627776 n buffer c.in-Faulty.fault c.loop-taken.invariant.going.so_far read
     (subst (λ (piece : List ℕ). TakesPiece server next piece (HasFault c.in-Faulty.fault) mid.sink new.sink) whole c.in-Faulty.ensures.takes)
@@ -159,7 +159,7 @@ returns-in-Err-Memory g c =
     let size : length buffer ≡ room = filled c.loop-taken.buf buffer room (1099511627776 - c.loop-taken.taken) c.loop-taken.invariant.wide c.min-room.ensures c.read.auto.buf in
     let whole = take_first buffer (drop room c.loop-taken.buf) n c.in-Some.ensures.within.1 in
     let on = read_some mid.source new.source buffer n c.in-Some.ensures.counts c.in-Some.ensures.notes c.in-Some.ensures.within.0 c.in-Some.ensures.within.1 in
-    let read = read_piece old mid new server c.loop-taken.taken n room buffer c.loop-taken.invariant.going.so_far c.loop-taken-test.true c.in-Some.ensures.within.0 c.in-Some.ensures.within.1 size c.min-room.ensures c.in-Some.ensures.takes on in
+    let read = read_piece old mid new server c.loop-taken.taken n room buffer c.loop-taken.invariant.going.so_far c.loop-taken-test.true c.in-Some.ensures.within.0 c.in-Some.ensures.within.1 size c.min-room.ensures c.in-Some.ensures.takes on c.in-Some.ensures.notes in
     let sink = sink_seen (g.O.Sink.taken c.say_farewell.new.output) (g.O.Sink.faults c.say_farewell.new.output) (g.O.Sink.writes c.say_farewell.new.output) in
     farewell_lost old mid new sink server next c.loop-taken.taken 1099511627776 n buffer c.in-Faulty.fault c.loop-taken.invariant.going.so_far read
     (subst (λ (piece : List ℕ). TakesPiece server next piece (HasFault c.in-Faulty.fault) mid.sink new.sink) whole c.in-Faulty.ensures.takes)
