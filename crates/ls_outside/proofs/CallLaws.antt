@@ -1,5 +1,5 @@
 -- Calls that are made one after another.
-use Rattle.std.proofs.Common.{◌≡◌, ℕ, ◌<◌, ◌≤◌, List, [], ◌∷◌, ◌++◌, length, take, refl, sym, ap, ◌∙◌, append_assoc, append-nil, arith}
+use Rattle.std.proofs.Common.{◌≡◌, ◌≢◌, ℕ, ◌<◌, ◌≤◌, List, [], ◌∷◌, ◌++◌, length, length-append, take, refl, sym, ap, ◌∙◌, append_assoc, append-nil, arith}
 use Rattle.std.proofs.lemmas.List.{length-take}
 use Rattle.std.specs.List.{AllByRecursion}
 use Rattle.ls_outside.specs.Calls.{AllTake, CallsTake, LastTakes, LastTakesNone}
@@ -58,3 +58,10 @@ last_all a b x last l = calls_then a l.mid b x last l.earlier.take (call_one l.m
 
 pub last_none_all : (a b : List (List ℕ)) (x : List ℕ) → LastTakesNone a b x → CallsTake a b x
 last_none_all a b x l = let all = last_all a b x [] l in record { calls = all.calls; more = all.more; whole = sym (append-nil x) ∙ all.whole }
+
+-- where there was a last call, calls were made
+pub last_is_made : (a b : List (List ℕ)) (x last : List ℕ) → LastTakes a b x last → b ≢ a
+last_is_made a b x last l same =
+    let more = ap length l.earlier.take.more ∙ length-append a l.earlier.take.calls in
+    let one = ap length l.call ∙ length-append l.mid (last ∷ []) in
+    absurd (omega (arith, more, one, ap length same))

@@ -8,7 +8,7 @@ pub mod Fronts  -- Fronts of bytes that are printed piece by piece
 pub mod Taken  -- Bytes taken from the front of what is left, read by read
 pub mod SessionSoFar  -- A session that goes on, read by read
 pub mod PieceEndsSession  -- How a session ends in a piece
-pub mod QuietLaws  -- No step is worked over quiet bytes
+pub mod QuietLaws  -- No step is counted over quiet bytes
 pub mod WordLists  -- Lists of one or two words, and whether they are a command
 pub mod SomeOutput  -- No stream of bytes is without an output
 pub mod OneCommand  -- Words ask for one command

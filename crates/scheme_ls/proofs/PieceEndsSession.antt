@@ -98,7 +98,7 @@ before_written old mid new server taken most n buffer w r more sink printed writ
 -- `exit` stands in the piece
 pub piece_exits : {before now : ℕ} (old mid new : Streams) (server next : Serving) (taken most n : ℕ) (exit : Exit) (buffer : List ℕ) (w : Going old mid server taken most) → Read old mid new server taken most n buffer w →
     EndsInPiece server next (take n buffer) (said_exit exit) mid.sink new.sink → (AreQuiet (w.bytes ++ take n buffer) → now ≡ before) → Serves old new before now (Exited exit)
-piece_exits old mid new server next taken most n exit buffer w r e unworked =
+piece_exits old mid new server next taken most n exit buffer w r e uncounted =
     let all = frames_then old mid new server next taken most n buffer e.given w r e.feeds in
     let ended = ends_after (begin empty) server.state w.bodies e.given (said_exit exit) old.sink mid.sink new.sink w.answers e.ends in
     record {
@@ -118,7 +118,7 @@ piece_exits old mid new server next taken most n exit buffer w r e unworked =
           },
         );
       };
-      unworked = unworked;
+      uncounted = uncounted;
     }
 
 -- ---- a fault stands in the piece
@@ -157,7 +157,7 @@ pub farewell_written : {before now : ℕ} (old mid seen : Streams) (sink : SinkS
     Read old mid seen server taken most n buffer w →
     TakesPiece server next (take n buffer) (HasFault at) mid.sink seen.sink → Prints seen.sink sink (frame_of_reply (fault_log at.number at.offset)) → (AreQuiet (w.bytes ++ take n buffer) → now ≡ before) →
     Serves old (record { source = seen.source; sink = sink }) before now FrameFault
-farewell_written old mid seen sink server next taken most n buffer at w r e p unworked =
+farewell_written old mid seen sink server next taken most n buffer at w r e p uncounted =
     let answers = all_answers old mid seen server next taken most n buffer at w r e in
     record {
       ends = record {
@@ -166,7 +166,7 @@ farewell_written old mid seen sink server next taken most n buffer at w r e p un
         source = (
           r.on,
           before_written old mid seen server taken most n buffer w r _ sink (Appends-trans mid.sink.taken seen.sink.taken sink.taken _ _ e.answers.prints.printed p.printed)
-          (calls_then mid.sink.writes seen.sink.writes sink.writes _ _ e.answers.prints.calls.take p.calls.take),
+              (calls_then mid.sink.writes seen.sink.writes sink.writes _ _ e.answers.prints.calls.take p.calls.take),
         );
         session = (
           few_bytes old mid seen server taken most n buffer w r,
@@ -182,7 +182,7 @@ farewell_written old mid seen sink server next taken most n buffer at w r e p un
           },
         );
       };
-      unworked = unworked;
+      uncounted = uncounted;
     }
 
 -- a write of the farewell fails
@@ -190,7 +190,7 @@ pub farewell_cut : {before now : ℕ} (old mid seen : Streams) (sink : SinkSeen)
     Read old mid seen server taken most n buffer w →
     TakesPiece server next (take n buffer) (HasFault at) mid.sink seen.sink → PrintsFront seen.sink sink (frame_of_reply (fault_log at.number at.offset)) → (AreQuiet (w.bytes ++ take n buffer) → now ≡ before) →
     Serves old (record { source = seen.source; sink = sink }) before now WriteFailed
-farewell_cut old mid seen sink server next taken most n buffer at w r e p unworked =
+farewell_cut old mid seen sink server next taken most n buffer at w r e p uncounted =
     let answers = all_answers old mid seen server next taken most n buffer at w r e in
     let output = faulty_output old mid seen server next taken most n buffer at w r e in
     record {
@@ -200,7 +200,7 @@ farewell_cut old mid seen sink server next taken most n buffer at w r e p unwork
         source = (
           r.on,
           before_written old mid seen server taken most n buffer w r _ sink (Appends-trans mid.sink.taken seen.sink.taken sink.taken _ _ e.answers.prints.printed p.printed)
-          (calls_then mid.sink.writes seen.sink.writes sink.writes _ _ e.answers.prints.calls.take (last_none_all seen.sink.writes sink.writes _ p.calls)),
+              (calls_then mid.sink.writes seen.sink.writes sink.writes _ _ e.answers.prints.calls.take (last_none_all seen.sink.writes sink.writes _ p.calls)),
         );
         session = (
           few_bytes old mid seen server taken most n buffer w r,
@@ -212,7 +212,7 @@ farewell_cut old mid seen sink server next taken most n buffer at w r e p unwork
           },
         );
       };
-      unworked = unworked;
+      uncounted = uncounted;
     }
 
 -- memory runs out in the farewell
@@ -220,7 +220,7 @@ pub farewell_lost : {before now : ℕ} (old mid seen : Streams) (sink : SinkSeen
     Read old mid seen server taken most n buffer w →
     TakesPiece server next (take n buffer) (HasFault at) mid.sink seen.sink → PrintsPart seen.sink sink (frame_of_reply (fault_log at.number at.offset)) → (AreQuiet (w.bytes ++ take n buffer) → now ≡ before) →
     Serves old (record { source = seen.source; sink = sink }) before now NoMemory
-farewell_lost old mid seen sink server next taken most n buffer at w r e p unworked =
+farewell_lost old mid seen sink server next taken most n buffer at w r e p uncounted =
     let answers = all_answers old mid seen server next taken most n buffer at w r e in
     let output = faulty_output old mid seen server next taken most n buffer at w r e in
     record {
@@ -238,7 +238,7 @@ farewell_lost old mid seen sink server next taken most n buffer at w r e p unwor
           },
         );
       };
-      unworked = unworked;
+      uncounted = uncounted;
     }
 
 -- ---- a part of the piece is answered
@@ -246,7 +246,7 @@ farewell_lost old mid seen sink server next taken most n buffer at w r e p unwor
 -- memory runs out while a body of the piece is answered
 piece_memory : {before now : ℕ} (old mid new : Streams) (server next : Serving) (taken most n : ℕ) (buffer : List ℕ) (w : Going old mid server taken most) → Read old mid new server taken most n buffer w →
     AnswersInPiece server next (take n buffer) (PrintsPart mid.sink new.sink) → (AreQuiet (w.bytes ++ take n buffer) → now ≡ before) → Serves old new before now NoMemory
-piece_memory old mid new server next taken most n buffer w r e unworked =
+piece_memory old mid new server next taken most n buffer w r e uncounted =
     let all = frames_then old mid new server next taken most n buffer e.given w r e.feeds in
     let some = part_follows (begin empty) server.state w.bodies e.given old.sink mid.sink new.sink w.answers e.answers in
     record {
@@ -269,13 +269,13 @@ piece_memory old mid new server next taken most n buffer w r e unworked =
           },
         );
       };
-      unworked = unworked;
+      uncounted = uncounted;
     }
 
 -- memory runs out before a body of the piece is answered
 no_memory : {before now : ℕ} (old mid new : Streams) (server : Serving) (taken most n : ℕ) (buffer : List ℕ) (w : Going old mid server taken most) → Read old mid new server taken most n buffer w → new.sink ≡ mid.sink →
     (AreQuiet (w.bytes ++ take n buffer) → now ≡ before) → Serves old new before now NoMemory
-no_memory old mid new server taken most n buffer w r same unworked =
+no_memory old mid new server taken most n buffer w r same uncounted =
     let all = every_reading (w.bytes ++ take n buffer) in
     let more = bodies_grow w.bytes (take n buffer) w.bodies all.0 (rest w.kept) all.1 (going_frames old mid server taken most w) all.2 in
     record {
@@ -298,18 +298,18 @@ no_memory old mid new server taken most n buffer w r same unworked =
           },
         );
       };
-      unworked = unworked;
+      uncounted = uncounted;
     }
 
 pub piece_lost : {before now : ℕ} (old mid new : Streams) (server next : Serving) (taken most n : ℕ) (buffer : List ℕ) (w : Going old mid server taken most) → Read old mid new server taken most n buffer w →
     AnswersInPiece server next (take n buffer) (PrintsPart mid.sink new.sink) ⊎ (new.sink ≡ mid.sink) → (AreQuiet (w.bytes ++ take n buffer) → now ≡ before) → Serves old new before now NoMemory
-piece_lost old mid new server next taken most n buffer w r (inl some) unworked = piece_memory old mid new server next taken most n buffer w r some unworked
-piece_lost old mid new server next taken most n buffer w r (inr same) unworked = no_memory old mid new server taken most n buffer w r same unworked
+piece_lost old mid new server next taken most n buffer w r (inl some) uncounted = piece_memory old mid new server next taken most n buffer w r some uncounted
+piece_lost old mid new server next taken most n buffer w r (inr same) uncounted = no_memory old mid new server taken most n buffer w r same uncounted
 
 -- a write fails while a body of the piece is answered
 pub piece_cut : {before now : ℕ} (old mid new : Streams) (server next : Serving) (taken most n : ℕ) (buffer : List ℕ) (w : Going old mid server taken most) → Read old mid new server taken most n buffer w →
     AnswersInPiece server next (take n buffer) (PrintsFront mid.sink new.sink) → (AreQuiet (w.bytes ++ take n buffer) → now ≡ before) → Serves old new before now WriteFailed
-piece_cut old mid new server next taken most n buffer w r e unworked =
+piece_cut old mid new server next taken most n buffer w r e uncounted =
     let all = frames_then old mid new server next taken most n buffer e.given w r e.feeds in
     let first = w.answers.session.messages in
     let some = e.answers in
@@ -333,7 +333,7 @@ piece_cut old mid new server next taken most n buffer w r e unworked =
           },
         );
       };
-      unworked = unworked;
+      uncounted = uncounted;
     }
 
 -- memory runs out before anything is read
@@ -354,5 +354,5 @@ nothing_served a now =
           },
         );
       };
-      unworked = λ q. refl;
+      uncounted = λ q. refl;
     }

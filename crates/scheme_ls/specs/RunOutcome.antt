@@ -38,17 +38,17 @@ seen source sink files steps = record { streams = record { source = source; sink
 abbrev pub AsksNoFile : Seen → Seen → Type 0
 AsksNoFile old new = new.files ≡ old.files
 
--- and no macro use was worked
+-- and no macro use was counted
 pub record AsksNothing (old new : Seen) : Type 0 where
   pub files : AsksNoFile old new
   pub steps : new.steps ≡ old.steps
 
--- `arrows` ended with a status, and works macro uses only where it opens a text
+-- `arrows` ended with a status, and counts macro uses only where it opens a text
 pub record ArrowsDone (old new : Seen) (status : Status) : Type 0 where
   pub end : ArrowsEnd
   pub ends : ArrowsEndsAs old.streams new.streams end
   pub files : AsksNoFile old new
-  pub unworked : OpensNone end → new.steps ≡ old.steps
+  pub uncounted : OpensNone end → new.steps ≡ old.steps
   pub status_is : status ≡ arrows_status end
 
 -- `serve` ended with a status

@@ -126,7 +126,7 @@ pub record ServeEndsAs (old new : Streams) (end : SessionEnd) : Type 0 where
   pub source : SourceEndsAs old new bytes end
   pub session : SessionEndsAs (length bytes) (IsOutputOf bytes) (BeginOutput bytes) old.sink new.sink end
 
--- `serve` ended so, and works macro uses only where a body tells a document event
+-- `serve` ended so, and counts macro uses only where a body tells a document event
 pub record Serves (old new : Streams) (before now : ℕ) (end : SessionEnd) : Type 0 where
   pub ends : ServeEndsAs old new end
-  pub unworked : AreQuiet ends.bytes → now ≡ before
+  pub uncounted : AreQuiet ends.bytes → now ≡ before
