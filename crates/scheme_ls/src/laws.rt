@@ -10,10 +10,9 @@ ghost use Rattle.scheme_ls.specs.declared.answering.Exit.{Exit};
 ghost use Rattle.scheme_ls.specs.declared.arguments.Command.{Command};
 ghost use Rattle.scheme_ls.specs.declared.serve.SessionEnd.{SessionEnd};
 
-/// A stream of bytes has one output: no stream is without one, and none has two. Messages that begin it are a front of
-/// what is written.
+/// A stream of bytes has one output: each has one, and none has two. Messages that begin it are a front of what is written.
 pub fn one_output()
-    ensures some { (bytes : List ℕ) → ¬ ¬ ((output : Output) × IsOutputOf bytes output) }
+    ensures some { (bytes : List ℕ) → (output : Output) × IsOutputOf bytes output }
     ensures only { (bytes : List ℕ) (one other : Output) → IsOutputOf bytes one → IsOutputOf bytes other → one ≡ other }
     ensures front { (bytes : List ℕ) (messages : List Reply) (output : Output) → BeginOutput bytes messages
         → IsOutputOf bytes output → (rest : List Reply) × (written output ≡ messages ++ rest) }
@@ -29,7 +28,7 @@ pub fn one_command()
     ensures { (words : List (List ℕ)) (one other : Command) → CommandOf words one → CommandOf words other → one ≡ other }
 {}
 
-/// A text has one answer of `arrows`: no text is without one, and none has two.
+/// A text has one answer of `arrows`: each has one, and none has two.
 pub fn one_text()
     ensures some { (text : List ℕ) → (output : List ℕ) × IsAnswer text output }
     ensures only { (text one other : List ℕ) → IsAnswer text one → IsAnswer text other → one ≡ other }
