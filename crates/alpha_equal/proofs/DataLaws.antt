@@ -17,6 +17,7 @@ use Rattle.program_leaves.specs.Holes.{occs_among}
 use Rattle.program_leaves.specs.Names.{list_parts, list_end}
 use Rattle.program_leaves.proofs.AddLaws.{adds_both, adds_same}
 use Rattle.program_leaves.proofs.HoleLaws.{is_hole, Row, PartAt, left_of_row}
+use Rattle.alpha_equal.proofs.NodeLaws.{no_choice}
 
 abbrev Datum : Type 0
 Datum = Tree (Option (List ℕ))
@@ -67,7 +68,7 @@ no_dots (vector ts o) = refl
 no_escape : (ts : Trees (Option (List ℕ))) (tail : Tail (Option (List ℕ))) → is_escape nowhere ts tail ≡ false
 no_escape no_trees tail = refl
 no_escape (tree t no_trees) tail = refl
-no_escape (tree t (tree u no_trees)) proper = no_dots t
+no_escape (tree t (tree u no_trees)) proper = no_choice u (is_dots nowhere t) (no_dots t)
 no_escape (tree t (tree u no_trees)) (dotted v) = refl
 no_escape (tree t (tree u (tree v vs))) tail = refl
 

@@ -1,6 +1,6 @@
 -- The nodes of lists, with and without an escape.
 use Rattle.std.proofs.Common.{◌≡◌, List, [], ◌∷◌, ◌++◌, Bool, true, false, Option, Some, None, refl, sym, ap, ◌∙◌}
-use Rattle.std.specs.Prelude.{is_some}
+use Rattle.std.specs.Prelude.{is_some, if◌then◌else◌}
 use Rattle.std.proofs.lemmas.List.{append-nil}
 use Rattle.scheme_model.specs.declared.Occ.{Occ}
 use Rattle.scheme_model.specs.Trees.{Tree, name, atom, list, vector, Trees, no_trees, tree, Tail, proper, dotted}
@@ -20,10 +20,15 @@ no_dots (atom a o) = refl
 no_dots (list ts tail o) = refl
 no_dots (vector ts o) = refl
 
+-- nothing is chosen where the test fails
+pub no_choice : {A : Type 0} (a : A) (b : Bool) → b ≡ false → is_some (if b then Some a else None) ≡ false
+no_choice a true e = absurd cc
+no_choice a false e = refl
+
 pub no_escape : (ts : Trees Identifier) (tail : Tail Identifier) → is_escape nowhere ts tail ≡ false
 no_escape no_trees tail = refl
 no_escape (tree t no_trees) tail = refl
-no_escape (tree t (tree u no_trees)) proper = no_dots t
+no_escape (tree t (tree u no_trees)) proper = no_choice u (is_dots nowhere t) (no_dots t)
 no_escape (tree t (tree u no_trees)) (dotted v) = refl
 no_escape (tree t (tree u (tree v vs))) tail = refl
 

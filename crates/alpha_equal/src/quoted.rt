@@ -1,10 +1,8 @@
 //! The points of constants and of quoted data.
-ghost use Rattle.std.specs.Prelude.{◌≡◌, ℕ, ◌∷◌, [], List, Option, Some, None, if◌then◌else◌, OnOk};
+ghost use Rattle.std.specs.Prelude.{◌≡◌, ℕ, ◌∷◌, [], Option, Some, None, if◌then◌else◌, OnOk};
 ghost use Rattle.scheme_model.specs.declared.Occ.{Occ as AnyOcc};
-ghost use Rattle.scheme_model.specs.Trees.{Atom, atom, Tree as ModelTree};
-ghost use Rattle.scheme_model.specs.Ident.{Ident as Identifier, symbol_of};
-ghost use Rattle.rename_model.specs.Walks.{Seen as ModelSeen, AtShape, ShowsNothing, IsTrue, IsFalse, TreeNode as ModelNode, point, number, atom_points, symbol_points, data_point, data_points};
-ghost use Rattle.syntax_tree.specs.Macros.{IsIdent};
+ghost use Rattle.scheme_model.specs.Trees.{Atom, atom};
+ghost use Rattle.rename_model.specs.Walks.{Seen as ModelSeen, AtShape, ShowsNothing, IsTrue, IsFalse, point, number, truth_number as model_number, atom_points};
 ghost use Rattle.syntax_tree.specs.Names.{Names};
 ghost use Rattle.syntax_tree.specs.Standing.{leaf_tree};
 ghost use Rattle.program_leaves.specs.Adds.{Adds};
@@ -30,8 +28,15 @@ pub fn add_number(count: usize, points: &mut Vec<Point<'_>>) -> Mem<()>
     Ok(add_shape(Seen::Number(count as u64), points)?)
 }
 
+/// A truth value as a number.
+pub fn truth_number(holds: bool) -> usize
+    ensures { result ≡ model_number holds }
+{
+    if holds { 1 } else { 0 }
+}
+
 /// The node of a truth value.
-fn truth_node(holds: bool) -> Node
+pub fn truth_node(holds: bool) -> Node
     ensures { node_as result ≡ (if holds then IsTrue else IsFalse) }
 {
     if holds { Node::True } else { Node::False }

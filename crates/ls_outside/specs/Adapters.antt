@@ -4,6 +4,7 @@ use Rattle.std.specs.declared.option.Option.{Option}
 use Rattle.std.specs.Io.KnownBytes.{Appends, Consumes, IsAtEnd, Keeps}
 use Rattle.ls_outside.specs.declared.adapters.StdSource.{StdSource}
 use Rattle.ls_outside.specs.declared.adapters.StdSink.{StdSink}
+use Rattle.ls_outside.specs.declared.adapters.StdFiles.{StdFiles}
 use Rattle.ls_outside.specs.declared.source.Got.{Got}
 use Rattle.ls_outside.specs.declared.source.Got.TheVariants as got
 use Rattle.ls_outside.specs.declared.sink.Put.{Put}
@@ -26,6 +27,12 @@ std_sink_faults sink = sink.failed
 
 abbrev pub std_sink_writes : {W : Type 0} → StdSink W → List (List ℕ)
 std_sink_writes sink = sink.writes.pieces
+
+abbrev pub std_files_asked : {R A B : Type 0} → StdFiles R A B → List (List ℕ)
+std_files_asked files = files.asked.pieces
+
+abbrev pub std_files_faults : {R A B : Type 0} → StdFiles R A B → ℕ
+std_files_faults files = files.failed
 
 -- a read passes on the next bytes of the reader, and its end
 abbrev pub GotPasses : Option (List ℕ) → Option (List ℕ) → Got → List ℕ → Type 0

@@ -1,6 +1,7 @@
--- What a fetch answers, which names were asked, and when it may say that it failed.
-use Rattle.std.specs.Prelude.{◌≡◌, ℕ, ◌<◌, ◌≤◌, List, [], ◌∷◌, ◌++◌, length, Some, None, vec_len}
+-- What a fetch answers, and when it may say that it failed.
+use Rattle.std.specs.Prelude.{◌≡◌, ℕ, ◌<◌, ◌≤◌, List, length, Some, None, vec_len}
 use Rattle.std.specs.declared.option.Option.{Option}
+use Rattle.ls_outside.specs.Calls.{AllTake, LastTakesNone}
 use Rattle.ls_outside.specs.Counts.{Fails}
 use Rattle.ls_outside.specs.declared.files.Fetch.{Fetch}
 use Rattle.ls_outside.specs.declared.files.Fetch.TheVariants as fetch
@@ -26,16 +27,17 @@ abbrev pub GivesRest : Option (List ℕ) → ℕ → Fetch → Type 0
 GivesRest None max answer = Unit {0}
 GivesRest (Some rest) max answer = Gives (Some rest) max answer
 
+-- what is given is what the reads of this call took: all up to the end, or more than `max` bytes
+abbrev pub GivesRead : List (List ℕ) → List (List ℕ) → ℕ → Fetch → Type 0
+GivesRead old new max (fetch.Bytes content) = LastTakesNone old new content.items
+GivesRead old new max fetch.Long = (bytes : List ℕ) × AllTake old new bytes × (max < length bytes)
+GivesRead old new max fetch.Failed = (bytes : List ℕ) × LastTakesNone old new bytes
+GivesRead old new max fetch.Memory = (bytes : List ℕ) × AllTake old new bytes
+
 -- the same where it is told what names hold
 abbrev pub FetchTells : Option (List ℕ → Option (List ℕ)) → List ℕ → ℕ → Fetch → Type 0
 FetchTells None name max answer = Unit {0}
 FetchTells (Some held) name max answer = Gives (held name) max answer
-
--- the names asked, where they are told, grow by this one, whatever the answer is
-abbrev pub FetchAsks : Option (List (List ℕ)) → Option (List (List ℕ)) → List ℕ → Type 0
-FetchAsks None new name = Unit {0}
-FetchAsks (Some old) None name = ⊥
-FetchAsks (Some old) (Some new) name = new ≡ old ++ name ∷ []
 
 -- the count of faults rises with a fetch that fails, and with no other
 abbrev pub FetchCounts : ℕ → ℕ → Fetch → Type 0

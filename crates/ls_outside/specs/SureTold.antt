@@ -23,5 +23,5 @@ sure_writes sink = sink.taken.pieces
 abbrev pub sure_held : SureFiles → Option (List ℕ → Option (List ℕ))
 sure_held files = Some (content_or_empty files.contents)
 
-abbrev pub sure_asked : SureFiles → Option (List (List ℕ))
-sure_asked files = Some files.asked.pieces
+abbrev pub sure_asked : SureFiles → List (List ℕ)
+sure_asked files = files.asked.pieces

@@ -62,8 +62,8 @@ room_after sink put.Failed = sink_room sink
 abbrev pub files_held : MemFiles → Option (List ℕ → Option (List ℕ))
 files_held files = Some (content_of files.contents)
 
-abbrev pub files_asked : MemFiles → Option (List (List ℕ))
-files_asked files = Some files.asked.pieces
+abbrev pub files_asked : MemFiles → List (List ℕ)
+files_asked files = files.asked.pieces
 
 abbrev pub files_plan : MemFiles → Plan
 files_plan files = files.plan

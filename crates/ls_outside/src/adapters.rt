@@ -3,7 +3,8 @@
 ghost use Rattle.std.specs.Prelude.{◌≡◌, ◌<◌, None, length};
 ghost use Rattle.ls_outside.specs.Sources.{GotCounts, GotNotes, GotWithin};
 ghost use Rattle.ls_outside.specs.Sinks.{PutCounts, PutNotes, PutWithin};
-ghost use Rattle.ls_outside.specs.Files.{FetchWithin, GivesRest};
+ghost use Rattle.ls_outside.specs.Adapters.{reader_of, std_source_reads};
+ghost use Rattle.ls_outside.specs.Files.{FetchWithin, GivesRead, GivesRest};
 
 use crate::faults::count_fault;
 use crate::record::{note_read, note_write};
@@ -21,11 +22,13 @@ pub struct StdSource<R: Read> {
 }
 
 impl<R: Read> StdSource<R> {
+    ghost use Rattle.std.specs.Prelude.{[]};
     ghost use Rattle.ls_outside.specs.Adapters.{GotPasses, reader_of, std_source_faults, std_source_reads};
 
     pub fn new(reader: R) -> StdSource<R>
         ensures reader { reader_of result ≡ reader }
         ensures calm { std_source_faults result ≡ 0 }
+        ensures unread { std_source_reads result ≡ [] }
     {
         StdSource {
             reader,
@@ -86,11 +89,13 @@ pub struct StdSink<W: Write> {
 }
 
 impl<W: Write> StdSink<W> {
-    ghost use Rattle.ls_outside.specs.Adapters.{std_sink_faults, writer_of};
+    ghost use Rattle.std.specs.Prelude.{[]};
+    ghost use Rattle.ls_outside.specs.Adapters.{std_sink_faults, std_sink_writes, writer_of};
 
     pub fn new(writer: W) -> StdSink<W>
         ensures writer { writer_of result ≡ writer }
         ensures calm { std_sink_faults result ≡ 0 }
+        ensures unwritten { std_sink_writes result ≡ [] }
     {
         StdSink {
             writer,
@@ -134,30 +139,38 @@ impl<W: Write> Sink for StdSink<W> {
 pub struct StdFiles<R: std::rt::Files> {
     runtime: R,
     failed: u64,
+    asked: Record,
 }
 
 impl<R: std::rt::Files> StdFiles<R> {
+    ghost use Rattle.std.specs.Prelude.{[]};
+    ghost use Rattle.ls_outside.specs.Adapters.{std_files_asked, std_files_faults};
+
     pub fn new(runtime: R) -> StdFiles<R>
-        ensures { ⟦<StdFiles<R> as Files>⟧.faults result ≡ 0 }
+        ensures calm { std_files_faults result ≡ 0 }
+        ensures unasked { std_files_asked result ≡ [] }
     {
-        StdFiles { runtime, failed: 0 }
+        StdFiles {
+            runtime,
+            failed: 0,
+            asked: Record::new(),
+        }
     }
 }
 
 impl<R: std::rt::Files> Files for StdFiles<R> {
-    ghost use Rattle.std.specs.Prelude.{None};
+    ghost use Rattle.ls_outside.specs.Adapters.{std_files_asked, std_files_faults};
 
     ghost held = { λ _. None };
 
-    ghost asked = { λ _. None };
+    ghost asked = { std_files_asked };
 
-    ghost faults = { λ s. s.failed };
-
-    ghost tells_asked = { λ s told. told };
+    ghost faults = { std_files_faults };
 
     fn fetch(&mut self, alloc: Global, name: &str, max: u32) -> Fetch {
-        if let Ok(mut file) = fs::open(&self.runtime, name) {
-            let answer = read_whole(alloc, &mut file, max);
+        self.asked.note(name.as_bytes());
+        if let Ok(file) = fs::open(&self.runtime, name) {
+            let answer = read_whole(alloc, &mut StdSource::new(file), max);
             if !matches!(&answer, Fetch::Failed) {
                 return answer;
             }
@@ -168,21 +181,22 @@ impl<R: std::rt::Files> Files for StdFiles<R> {
 }
 
 /// Reads to the end, or past `max` bytes.
-fn read_whole<R: Read>(alloc: Global, reader: &mut R, max: u32) -> Fetch
+fn read_whole<R: Read>(alloc: Global, source: &mut StdSource<R>, max: u32) -> Fetch
     ensures within { FetchWithin result max }
-    ensures whole { GivesRest (R.remaining reader.old) max result }
+    ensures whole { GivesRest (R.remaining (reader_of source.old)) max result }
+    ensures read { GivesRead (std_source_reads source.old) (std_source_reads source.new) max result }
 {
     let mut content = Vec::new(alloc);
     let mut buf = [0u8; 4096];
     while content.len() <= max as usize {
-        match reader.read(&mut buf) {
-            Ok(0) => return Fetch::Bytes(content),
-            Ok(count) => {
-                if content.extend_from_slice(&buf[..count]).is_err() {
+        match source.read(&mut buf) {
+            Got::End => return Fetch::Bytes(content),
+            Got::Some(count) => {
+                let Ok(()) = content.extend_from_slice(&buf[..count]) else {
                     return Fetch::Memory;
-                }
+                };
             }
-            Err(_) => return Fetch::Failed,
+            Got::Failed => return Fetch::Failed,
         }
     }
     Fetch::Long

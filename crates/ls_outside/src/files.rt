@@ -1,6 +1,6 @@
 //! The files that words name.
-ghost use Rattle.std.specs.Prelude.{◌≡◌, Option, List, ℕ, IsSome};
-ghost use Rattle.ls_outside.specs.Files.{FetchAsks, FetchCounts, FetchTells, FetchWithin};
+ghost use Rattle.std.specs.Prelude.{◌≡◌, ◌++◌, ◌∷◌, [], Option, List, ℕ};
+ghost use Rattle.ls_outside.specs.Files.{FetchCounts, FetchTells, FetchWithin};
 
 use std::alloc::Global;
 
@@ -22,8 +22,8 @@ pub trait Files {
     /// What each name holds, where the files tell it: a content, or none, and then its fetch fails.
     ghost held: { Self → Option (List ℕ → Option (List ℕ)) };
 
-    /// The names asked so far in their order, where the files tell what they hold.
-    ghost asked: { Self → Option (List (List ℕ)) };
+    /// The names asked so far, in their order.
+    ghost asked: { Self → List (List ℕ) };
 
     /// How often a fetch has failed.
     ghost faults: { Self → ℕ };
@@ -33,9 +33,6 @@ pub trait Files {
         ensures within { FetchWithin result max }
         ensures tells { FetchTells (held self.old) name.now max result }
         ensures stays { held self.new ≡ held self.old }
-        ensures asks { FetchAsks (asked self.old) (asked self.new) name.now }
+        ensures asks { asked self.new ≡ asked self.old ++ name.now ∷ [] }
         ensures counts { FetchCounts (faults self.old) (faults self.new) result };
-
-    /// Files that tell what they hold tell the names asked.
-    ghost tells_asked: { (files : Self) → IsSome (held files) → IsSome (asked files) };
 }

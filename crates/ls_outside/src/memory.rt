@@ -2,7 +2,7 @@
 ghost use Rattle.std.specs.Prelude.{◌≡◌, ◌+◌, ◌<◌, ◌≤◌, ◌↔◌, Some, length, vec_capacity, vec_len};
 ghost use Rattle.ls_outside.specs.Sources.{GotCounts, GotNotes, GotTakes, GotWithin};
 ghost use Rattle.ls_outside.specs.Sinks.{PutCounts, PutNotes, PutTakes, PutWithin};
-ghost use Rattle.ls_outside.specs.Files.{FetchAsks, FetchCounts, FetchTells, FetchWithin};
+ghost use Rattle.ls_outside.specs.Files.{FetchCounts, FetchTells, FetchWithin};
 
 use crate::faults::count_fault;
 use crate::held::copy_of;
@@ -166,7 +166,7 @@ impl MemFiles {
 
     pub fn new(contents: Contents, plan: Plan) -> MemFiles
         ensures held { files_held result ≡ Some (content_of contents) }
-        ensures asked { files_asked result ≡ Some [] }
+        ensures asked { files_asked result ≡ [] }
         ensures plan { files_plan result ≡ plan }
         ensures calm { files_faults result ≡ 0 }
     {
@@ -180,7 +180,7 @@ impl MemFiles {
 }
 
 impl Files for MemFiles {
-    ghost use Rattle.std.specs.Prelude.{refl};
+    ghost use Rattle.std.specs.Prelude.{◌++◌, ◌∷◌, []};
     ghost use Rattle.ls_outside.specs.Plans.{CountsCall};
     ghost use Rattle.ls_outside.specs.Told.{FilesAnswer, files_asked, files_faults, files_held, files_plan};
 
@@ -190,13 +190,11 @@ impl Files for MemFiles {
 
     ghost faults = { files_faults };
 
-    ghost tells_asked = { λ s told. refl };
-
     fn fetch(&mut self, alloc: Global, name: &str, max: u32) -> Fetch
         ensures within { FetchWithin result max }
         ensures tells { FetchTells (files_held self.old) name.now max result }
         ensures stays { files_held self.new ≡ files_held self.old }
-        ensures asks { FetchAsks (files_asked self.old) (files_asked self.new) name.now }
+        ensures asks { files_asked self.new ≡ files_asked self.old ++ name.now ∷ [] }
         ensures counts { FetchCounts (files_faults self.old) (files_faults self.new) result }
         ensures planned { FilesAnswer self.old name.now result }
         ensures plan { CountsCall (files_plan self.old) (files_plan self.new) }

@@ -15,10 +15,12 @@ pub struct SureSource {
 
 impl SureSource {
     ghost use Rattle.ls_outside.specs.Left.{pieces_left};
-    ghost use Rattle.ls_outside.specs.SureTold.{sure_left};
+    ghost use Rattle.ls_outside.specs.SureTold.{sure_left, sure_reads};
+    ghost use Rattle.std.specs.Prelude.{[]};
 
     pub fn new(pieces: Pieces) -> SureSource
-        ensures { sure_left result ≡ Some (pieces_left pieces) }
+        ensures left { sure_left result ≡ Some (pieces_left pieces) }
+        ensures unread { sure_reads result ≡ [] }
     {
         SureSource {
             pieces,
@@ -54,10 +56,11 @@ pub struct SureSink {
 
 impl SureSink {
     ghost use Rattle.std.specs.Prelude.{[]};
-    ghost use Rattle.ls_outside.specs.SureTold.{sure_taken};
+    ghost use Rattle.ls_outside.specs.SureTold.{sure_taken, sure_writes};
 
     pub fn new() -> SureSink
-        ensures { sure_taken result ≡ Some [] }
+        ensures taken { sure_taken result ≡ Some [] }
+        ensures unwritten { sure_writes result ≡ [] }
     {
         SureSink {
             taken: Record::new(),
@@ -94,7 +97,7 @@ impl SureFiles {
 
     pub fn new(contents: Contents) -> SureFiles
         ensures held { sure_held result ≡ Some (content_or_empty contents) }
-        ensures asked { sure_asked result ≡ Some [] }
+        ensures asked { sure_asked result ≡ [] }
     {
         SureFiles {
             contents,
@@ -104,7 +107,6 @@ impl SureFiles {
 }
 
 impl Files for SureFiles {
-    ghost use Rattle.std.specs.Prelude.{refl};
     ghost use Rattle.ls_outside.specs.SureTold.{sure_asked, sure_held};
 
     ghost held = { sure_held };
@@ -112,8 +114,6 @@ impl Files for SureFiles {
     ghost asked = { sure_asked };
 
     ghost faults = { λ _. 0 };
-
-    ghost tells_asked = { λ s told. refl };
 
     fn fetch(&mut self, alloc: Global, name: &str, max: u32) -> Fetch {
         self.asked.note(name.as_bytes());

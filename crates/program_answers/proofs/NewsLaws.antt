@@ -1,4 +1,4 @@
--- What is news of texts is told in one way, and isn't without lists.
+-- What is news of texts is told in one way.
 use Rattle.std.proofs.Common.{◌≡◌, ◌≢◌, ◌⊎◌, ◌↔◌, inl, inr, ℕ, ℤ, List, [], ◌∷◌, ◌++◌, map, Bool, true, false, cond, Option, Some, None, is_some, refl, sym, ap, ◌∙◌, subst, nat_cmp}
 use Rattle.std.specs.Cmp.Lexicographic.{slice_cmp, nat_list_cmp_total}
 use Rattle.std.specs.Ordering.{eq_by_cmp}
@@ -9,6 +9,7 @@ use Rattle.document_store.specs.Texts.{Texts, version_at}
 use Rattle.program_answers.specs.declared.publications.Published.{Published}
 use Rattle.program_answers.specs.Listings.{or_none}
 use Rattle.program_answers.specs.Updates.{Lists, listed_in, IsNews, ArePublished, IsNewsOf}
+use Rattle.program_answers.proofs.SameDiagnostics.{same_bytes, same_diagnostics}
 use Rattle.program_answers.proofs.TextLists.{one_lists, some_lists}
 use Rattle.program_answers.proofs.PublishedMaps.{All, Telling, published, unpublished, ArePublishedIn, as_map, from_map, ties_are, is_tied}
 
@@ -53,7 +54,7 @@ one_news e before after changed ps qs h k =
     subst (λ (l : Lists). ArePublished changed after (listed_in h.old) (listed_in l) qs) new (subst (λ (l : Lists). ArePublished changed after (listed_in l) (listed_in k.new) qs) old k.published) in
     one_published changed after (listed_in h.old) (listed_in h.new) ps qs h.published other
 
--- ---- not without
+-- ---- some lists
 
 -- a uri among some
 abbrev IsAmong : List (List ℕ) → List ℕ → Type 0
@@ -116,10 +117,12 @@ module _ (News : List ℕ → Type 0) (telling : List ℕ → Telling) where
       from uri (inl same) is = absurd (old (subst News same is))
       from uri (inr among) is = (rest.exactly uri).1 (among, is)
 
-  some_gather : (ks : List (List ℕ)) → ¬ ¬ (Gathers ks)
-  some_gather [] none = none gathers_none
-  some_gather (k ∷ ks) none =
-      some_gather ks (λ rest. let old : News k → ⊥ = λ news. none (with_one ks k news rest) in none (without_it ks k old rest))
+  some_gather : ((uri : List ℕ) → News uri ⊎ (News uri → ⊥)) → (ks : List (List ℕ)) → Gathers ks
+  some_gather decide [] = gathers_none
+  some_gather decide (k ∷ ks) = elim (decide k) as (λ _. Gathers (k ∷ ks)) [
+    | inl news ↦ with_one ks k news (some_gather decide ks)
+    | inr old ↦ without_it ks k old (some_gather decide ks)
+  ]
 
 -- the lists of a document among the uris of texts
 among_found : (ls : List (List ℕ × List told.Diagnostic)) (uri : List ℕ) (l : List told.Diagnostic) → find (slice_cmp nat_cmp) uri ls ≡ Some l → IsAmong (map (λ x. x.0) ls) uri
@@ -151,11 +154,25 @@ back : (ts : List (List ℕ × Telling)) → map published (map unpublished ts) 
 back [] = refl
 back (t ∷ ts) = ap (λ (us : List (List ℕ × Telling)). t ∷ us) (back ts)
 
-some_published : (changed : List ℕ) (texts : Texts) (before now : Lists) → ¬ ¬ ((ps : List Published) × ArePublished changed texts (listed_in before) (listed_in now) ps)
-some_published changed texts before now none =
+-- whether a list is news is decided
+decide_news : (changed : List ℕ) (before now : List ℕ → List told.Diagnostic) (uri : List ℕ) → IsNews changed before now uri ⊎ (IsNews changed before now uri → ⊥)
+decide_news changed before now uri = elim (same_bytes uri changed) as (λ _. IsNews changed before now uri ⊎ (IsNews changed before now uri → ⊥)) [
+  | inl same ↦ inl (inl same)
+  | inr another ↦ elim (same_diagnostics (now uri) (before uri)) as (λ _. IsNews changed before now uri ⊎ (IsNews changed before now uri → ⊥)) [
+    | inl same ↦ inr (neither another same)
+    | inr differ ↦ inl (inr differ)
+  ]
+]
+  where
+    neither : uri ≢ changed → now uri ≡ before uri → IsNews changed before now uri → ⊥
+    neither another same (inl is) = another is
+    neither another same (inr differ) = differ same
+
+some_published : (changed : List ℕ) (texts : Texts) (before now : Lists) → (ps : List Published) × ArePublished changed texts (listed_in before) (listed_in now) ps
+some_published changed texts before now =
     let telling : List ℕ → Telling = λ uri. (version_at texts uri, listed_in now uri) in
     let ks = changed ∷ (keys now ++ keys before) in
-    some_gather (IsNews changed (listed_in before) (listed_in now)) telling ks (λ g. none (
+    let g = some_gather (IsNews changed (listed_in before) (listed_in now)) telling (decide_news changed (listed_in before) (listed_in now)) ks in (
       map unpublished (entries g.all),
       from_map changed texts (listed_in before) (listed_in now) (map unpublished (entries g.all)) (record {
         all = g.all;
@@ -163,15 +180,15 @@ some_published changed texts before now none =
         exactly = λ uri. (λ there. ((g.exactly uri).0 there).1, λ news. (g.exactly uri).1 (among uri news, news));
         each = g.each;
       }),
-    ))
+    )
   where
     among : (uri : List ℕ) → IsNews changed (listed_in before) (listed_in now) uri → IsAmong (changed ∷ (keys now ++ keys before)) uri
     among uri (inl same) = inl same
     among uri (inr differ) = inr (listed before now uri differ)
 
-pub some_news : (e : Encoding) (before after : Texts) (changed : List ℕ) → ¬ ¬ ((ps : List Published) × IsNewsOf e before after changed ps)
-some_news e before after changed none =
+pub some_news : (e : Encoding) (before after : Texts) (changed : List ℕ) → (ps : List Published) × IsNewsOf e before after changed ps
+some_news e before after changed =
     let old = some_lists e before in
     let new = some_lists e after in
-    some_published changed after old.0 new.0
-    (λ found. none (found.0, record { old = old.0; new = new.0; were = old.1; are = new.1; published = found.1 }))
+    let found = some_published changed after old.0 new.0 in
+    (found.0, record { old = old.0; new = new.0; were = old.1; are = new.1; published = found.1 })

@@ -10,8 +10,10 @@ use Rattle.lsp_framing.specs.Feeds.{Feeds}
 use Rattle.lsp_framing.proofs.EveryReading.{every_reading}
 use Rattle.lsp_framing.proofs.OneReading.{bodies_grow}
 use Rattle.lsp_messages.specs.declared.reply.Reply.{Reply}
+use Rattle.ls_outside.specs.Calls.{AllTake, CallsTake, LastTakes}
 use Rattle.ls_outside.specs.Sources.{GotTakes}
 use Rattle.ls_outside.specs.declared.source.Got.TheVariants as got
+use Rattle.ls_outside.proofs.CallLaws.{calls_then, last_none_all}
 use Rattle.scheme_model.specs.Session.{begin}
 use Rattle.scheme_ls.specs.BodiesOutcome.{AnswersBodies}
 use Rattle.scheme_ls.specs.PieceOutcome.{AnswersInPiece, EndsInPiece, HasFault, Serving, TakesPiece}
@@ -27,10 +29,10 @@ use Rattle.scheme_ls.specs.declared.answering.Exit.{Exit}
 use Rattle.scheme_ls.specs.declared.server.FaultAt.{FaultAt}
 use Rattle.scheme_ls.specs.declared.serve.SessionEnd.TheVariants.{Exited, FrameFault, NoMemory, WriteFailed}
 use Rattle.scheme_ls.proofs.AnswerLaws.{answers_then, are_first, ends_after, part_follows}
-use Rattle.scheme_ls.proofs.SessionSoFar.{Going, before_last, frames_so_far, going_frames, is_output_so_far, output_so_far, takes_none, without_farewell}
-use Rattle.scheme_ls.proofs.ReadLaws.{reads_none, reads_then}
+use Rattle.scheme_ls.proofs.SessionSoFar.{Going, before_last, frames_so_far, going_frames, is_output_so_far, output_so_far, without_farewell}
+use Rattle.scheme_ls.proofs.ReadLaws.{read_last, reads_none, reads_then}
 use Rattle.scheme_ls.proofs.Sessions.{frames_more}
-use Rattle.scheme_ls.proofs.Taken.{TakesBytes-more}
+use Rattle.scheme_ls.proofs.Taken.{TakesBytes-more, takes_none}
 use Rattle.scheme_ls.proofs.Writes.{front_after, part_after, prints_nothing, prints_then}
 
 -- a read behind what was taken so far, before what it completes is answered
@@ -38,20 +40,24 @@ pub record Read (old mid new : Streams) (server : Serving) (taken most n : ℕ) 
   pub takes : TakesBytes old.source.left new.source.left (w.bytes ++ take n buffer)
   pub pieces : AreBeforeLast old.source.left w.bytes (take n buffer)
   pub few : taken + n ≤ 1099511627776
-  pub on : ReadsOn old.source new.source
+  pub on : ReadsOn old.source new.source (w.bytes ++ take n buffer)
+  pub last : LastTakes old.source.reads new.source.reads w.bytes (take n buffer)
 
 pub read_piece : (old mid new : Streams) (server : Serving) (taken n room : ℕ) (buffer : List ℕ) (w : Going old mid server taken 1099511627776) → taken < 1099511627776 → 1 ≤ n → n ≤ length buffer → length buffer ≡ room →
-    room ≡ min 65536 (1099511627776 - taken) → GotTakes mid.source.left new.source.left (got.Some n) buffer → ReadsOn mid.source new.source → Read old mid new server taken 1099511627776 n buffer w
-read_piece old mid new server taken n room buffer w below some within size space takes on = record {
+    room ≡ min 65536 (1099511627776 - taken) → GotTakes mid.source.left new.source.left (got.Some n) buffer → ReadsOn mid.source new.source (take n buffer) → new.source.reads ≡ mid.source.reads ++ take n buffer ∷ [] → Read old mid new server taken 1099511627776 n buffer w
+read_piece old mid new server taken n room buffer w below some within size space takes on notes = record {
   takes = TakesBytes-more old.source.left mid.source.left new.source.left w.bytes buffer n w.takes takes;
   pieces = before_last old.source.left mid.source.left new.source.left w.bytes buffer n some within (w.pieces below) takes;
   few = omega arith;
-  on = reads_then old.source mid.source new.source w.on on;
+  on = reads_then old.source mid.source new.source w.bytes (take n buffer) w.on on;
+  last = read_last old.source mid.source new.source w.bytes (take n buffer) w.on notes;
 }
 
 -- all of a print is a part of it
 whole_part : (a b : SinkSeen) (x : List ℕ) → Prints a b x → PrintsPart a b x
-whole_part a b x p = record { count = length x; part = omega arith; printed = subst (Appends a.taken b.taken) (sym (take_all (length x) x (omega arith))) p.printed; no_fault = p.no_fault; calls = p.calls }
+whole_part a b x p =
+    let all = sym (take_all (length x) x (omega arith)) in
+    record { count = length x; part = omega arith; printed = subst (Appends a.taken b.taken) all p.printed; no_fault = p.no_fault; calls = subst (AllTake a.writes b.writes) all p.calls }
 
 -- how the bytes end, where that is told
 pub some_end : (e : Option End) (bytes : List ℕ) (bodies : List (List ℕ)) → IsSomeAnd e (IsFrames bytes bodies) → (end : End) × IsFrames bytes bodies end
@@ -72,12 +78,13 @@ few_bytes old mid new server taken most n buffer w r =
 
 -- what was printed before the piece, and after it
 before_written : (old mid new : Streams) (server : Serving) (taken most n : ℕ) (buffer : List ℕ) (w : Going old mid server taken most) (r : Read old mid new server taken most n buffer w) (more : List ℕ) (sink : SinkSeen) →
-    Appends mid.sink.taken sink.taken more →
+    Appends mid.sink.taken sink.taken more → CallsTake mid.sink.writes sink.writes more →
     AnswersPiecesBefore old (record { source = new.source; sink = sink }) (w.bytes ++ take n buffer)
-before_written old mid new server taken most n buffer w r more sink printed = record {
+before_written old mid new server taken most n buffer w r more sink printed writes = record {
   before = w.bytes;
   last = take n buffer;
   split = refl;
+  reads = r.last;
   pieces = r.pieces;
   output = output_so_far old mid server taken most w;
   is = is_output_so_far old mid server taken most w;
@@ -85,19 +92,20 @@ before_written old mid new server taken most n buffer w r more sink printed = re
   unfinished = tt;
   more = more;
   printed = Appends-trans old.sink.taken mid.sink.taken sink.taken _ more w.answers.prints.printed printed;
+  writes = calls_then old.sink.writes mid.sink.writes sink.writes _ more w.answers.prints.calls.take writes;
 }
 
 -- `exit` stands in the piece
 pub piece_exits : {before now : ℕ} (old mid new : Streams) (server next : Serving) (taken most n : ℕ) (exit : Exit) (buffer : List ℕ) (w : Going old mid server taken most) → Read old mid new server taken most n buffer w →
     EndsInPiece server next (take n buffer) (said_exit exit) mid.sink new.sink → (AreQuiet (w.bytes ++ take n buffer) → now ≡ before) → Serves old new before now (Exited exit)
-piece_exits old mid new server next taken most n exit buffer w r e unworked =
+piece_exits old mid new server next taken most n exit buffer w r e uncounted =
     let all = frames_then old mid new server next taken most n buffer e.given w r e.feeds in
     let ended = ends_after (begin empty) server.state w.bodies e.given (said_exit exit) old.sink mid.sink new.sink w.answers e.ends in
     record {
       ends = record {
         bytes = w.bytes ++ take n buffer;
         taken = r.takes;
-        source = (r.on, before_written old mid new server taken most n buffer w r _ new.sink e.ends.prints.printed);
+        source = (r.on, before_written old mid new server taken most n buffer w r _ new.sink e.ends.prints.printed e.ends.prints.calls.take);
         session = (
           few_bytes old mid new server taken most n buffer w r,
           record {
@@ -110,7 +118,7 @@ piece_exits old mid new server next taken most n exit buffer w r e unworked =
           },
         );
       };
-      unworked = unworked;
+      uncounted = uncounted;
     }
 
 -- ---- a fault stands in the piece
@@ -149,7 +157,7 @@ pub farewell_written : {before now : ℕ} (old mid seen : Streams) (sink : SinkS
     Read old mid seen server taken most n buffer w →
     TakesPiece server next (take n buffer) (HasFault at) mid.sink seen.sink → Prints seen.sink sink (frame_of_reply (fault_log at.number at.offset)) → (AreQuiet (w.bytes ++ take n buffer) → now ≡ before) →
     Serves old (record { source = seen.source; sink = sink }) before now FrameFault
-farewell_written old mid seen sink server next taken most n buffer at w r e p unworked =
+farewell_written old mid seen sink server next taken most n buffer at w r e p uncounted =
     let answers = all_answers old mid seen server next taken most n buffer at w r e in
     record {
       ends = record {
@@ -157,7 +165,8 @@ farewell_written old mid seen sink server next taken most n buffer at w r e p un
         taken = r.takes;
         source = (
           r.on,
-          before_written old mid seen server taken most n buffer w r _ sink (Appends-trans mid.sink.taken seen.sink.taken sink.taken _ _ e.answers.prints.printed p.printed),
+          before_written old mid seen server taken most n buffer w r _ sink (Appends-trans mid.sink.taken seen.sink.taken sink.taken _ _ e.answers.prints.printed p.printed)
+              (calls_then mid.sink.writes seen.sink.writes sink.writes _ _ e.answers.prints.calls.take p.calls.take),
         );
         session = (
           few_bytes old mid seen server taken most n buffer w r,
@@ -173,7 +182,7 @@ farewell_written old mid seen sink server next taken most n buffer at w r e p un
           },
         );
       };
-      unworked = unworked;
+      uncounted = uncounted;
     }
 
 -- a write of the farewell fails
@@ -181,7 +190,7 @@ pub farewell_cut : {before now : ℕ} (old mid seen : Streams) (sink : SinkSeen)
     Read old mid seen server taken most n buffer w →
     TakesPiece server next (take n buffer) (HasFault at) mid.sink seen.sink → PrintsFront seen.sink sink (frame_of_reply (fault_log at.number at.offset)) → (AreQuiet (w.bytes ++ take n buffer) → now ≡ before) →
     Serves old (record { source = seen.source; sink = sink }) before now WriteFailed
-farewell_cut old mid seen sink server next taken most n buffer at w r e p unworked =
+farewell_cut old mid seen sink server next taken most n buffer at w r e p uncounted =
     let answers = all_answers old mid seen server next taken most n buffer at w r e in
     let output = faulty_output old mid seen server next taken most n buffer at w r e in
     record {
@@ -190,7 +199,8 @@ farewell_cut old mid seen sink server next taken most n buffer at w r e p unwork
         taken = r.takes;
         source = (
           r.on,
-          before_written old mid seen server taken most n buffer w r _ sink (Appends-trans mid.sink.taken seen.sink.taken sink.taken _ _ e.answers.prints.printed p.printed),
+          before_written old mid seen server taken most n buffer w r _ sink (Appends-trans mid.sink.taken seen.sink.taken sink.taken _ _ e.answers.prints.printed p.printed)
+              (calls_then mid.sink.writes seen.sink.writes sink.writes _ _ e.answers.prints.calls.take (last_none_all seen.sink.writes sink.writes _ p.calls)),
         );
         session = (
           few_bytes old mid seen server taken most n buffer w r,
@@ -202,7 +212,7 @@ farewell_cut old mid seen sink server next taken most n buffer at w r e p unwork
           },
         );
       };
-      unworked = unworked;
+      uncounted = uncounted;
     }
 
 -- memory runs out in the farewell
@@ -210,7 +220,7 @@ pub farewell_lost : {before now : ℕ} (old mid seen : Streams) (sink : SinkSeen
     Read old mid seen server taken most n buffer w →
     TakesPiece server next (take n buffer) (HasFault at) mid.sink seen.sink → PrintsPart seen.sink sink (frame_of_reply (fault_log at.number at.offset)) → (AreQuiet (w.bytes ++ take n buffer) → now ≡ before) →
     Serves old (record { source = seen.source; sink = sink }) before now NoMemory
-farewell_lost old mid seen sink server next taken most n buffer at w r e p unworked =
+farewell_lost old mid seen sink server next taken most n buffer at w r e p uncounted =
     let answers = all_answers old mid seen server next taken most n buffer at w r e in
     let output = faulty_output old mid seen server next taken most n buffer at w r e in
     record {
@@ -228,7 +238,7 @@ farewell_lost old mid seen sink server next taken most n buffer at w r e p unwor
           },
         );
       };
-      unworked = unworked;
+      uncounted = uncounted;
     }
 
 -- ---- a part of the piece is answered
@@ -236,7 +246,7 @@ farewell_lost old mid seen sink server next taken most n buffer at w r e p unwor
 -- memory runs out while a body of the piece is answered
 piece_memory : {before now : ℕ} (old mid new : Streams) (server next : Serving) (taken most n : ℕ) (buffer : List ℕ) (w : Going old mid server taken most) → Read old mid new server taken most n buffer w →
     AnswersInPiece server next (take n buffer) (PrintsPart mid.sink new.sink) → (AreQuiet (w.bytes ++ take n buffer) → now ≡ before) → Serves old new before now NoMemory
-piece_memory old mid new server next taken most n buffer w r e unworked =
+piece_memory old mid new server next taken most n buffer w r e uncounted =
     let all = frames_then old mid new server next taken most n buffer e.given w r e.feeds in
     let some = part_follows (begin empty) server.state w.bodies e.given old.sink mid.sink new.sink w.answers e.answers in
     record {
@@ -259,13 +269,13 @@ piece_memory old mid new server next taken most n buffer w r e unworked =
           },
         );
       };
-      unworked = unworked;
+      uncounted = uncounted;
     }
 
 -- memory runs out before a body of the piece is answered
 no_memory : {before now : ℕ} (old mid new : Streams) (server : Serving) (taken most n : ℕ) (buffer : List ℕ) (w : Going old mid server taken most) → Read old mid new server taken most n buffer w → new.sink ≡ mid.sink →
     (AreQuiet (w.bytes ++ take n buffer) → now ≡ before) → Serves old new before now NoMemory
-no_memory old mid new server taken most n buffer w r same unworked =
+no_memory old mid new server taken most n buffer w r same uncounted =
     let all = every_reading (w.bytes ++ take n buffer) in
     let more = bodies_grow w.bytes (take n buffer) w.bodies all.0 (rest w.kept) all.1 (going_frames old mid server taken most w) all.2 in
     record {
@@ -288,18 +298,18 @@ no_memory old mid new server taken most n buffer w r same unworked =
           },
         );
       };
-      unworked = unworked;
+      uncounted = uncounted;
     }
 
 pub piece_lost : {before now : ℕ} (old mid new : Streams) (server next : Serving) (taken most n : ℕ) (buffer : List ℕ) (w : Going old mid server taken most) → Read old mid new server taken most n buffer w →
     AnswersInPiece server next (take n buffer) (PrintsPart mid.sink new.sink) ⊎ (new.sink ≡ mid.sink) → (AreQuiet (w.bytes ++ take n buffer) → now ≡ before) → Serves old new before now NoMemory
-piece_lost old mid new server next taken most n buffer w r (inl some) unworked = piece_memory old mid new server next taken most n buffer w r some unworked
-piece_lost old mid new server next taken most n buffer w r (inr same) unworked = no_memory old mid new server taken most n buffer w r same unworked
+piece_lost old mid new server next taken most n buffer w r (inl some) uncounted = piece_memory old mid new server next taken most n buffer w r some uncounted
+piece_lost old mid new server next taken most n buffer w r (inr same) uncounted = no_memory old mid new server taken most n buffer w r same uncounted
 
 -- a write fails while a body of the piece is answered
 pub piece_cut : {before now : ℕ} (old mid new : Streams) (server next : Serving) (taken most n : ℕ) (buffer : List ℕ) (w : Going old mid server taken most) → Read old mid new server taken most n buffer w →
     AnswersInPiece server next (take n buffer) (PrintsFront mid.sink new.sink) → (AreQuiet (w.bytes ++ take n buffer) → now ≡ before) → Serves old new before now WriteFailed
-piece_cut old mid new server next taken most n buffer w r e unworked =
+piece_cut old mid new server next taken most n buffer w r e uncounted =
     let all = frames_then old mid new server next taken most n buffer e.given w r e.feeds in
     let first = w.answers.session.messages in
     let some = e.answers in
@@ -307,7 +317,7 @@ piece_cut old mid new server next taken most n buffer w r e unworked =
       ends = record {
         bytes = w.bytes ++ take n buffer;
         taken = r.takes;
-        source = (r.on, before_written old mid new server taken most n buffer w r _ new.sink some.prints.printed);
+        source = (r.on, before_written old mid new server taken most n buffer w r _ new.sink some.prints.printed (last_none_all mid.sink.writes new.sink.writes _ some.prints.calls));
         session = (
           few_bytes old mid new server taken most n buffer w r,
           record {
@@ -323,7 +333,7 @@ piece_cut old mid new server next taken most n buffer w r e unworked =
           },
         );
       };
-      unworked = unworked;
+      uncounted = uncounted;
     }
 
 -- memory runs out before anything is read
@@ -344,5 +354,5 @@ nothing_served a now =
           },
         );
       };
-      unworked = λ q. refl;
+      uncounted = λ q. refl;
     }

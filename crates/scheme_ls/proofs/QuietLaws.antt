@@ -1,4 +1,4 @@
--- No step is worked over quiet bytes.
+-- No step is counted over quiet bytes.
 use Rattle.std.proofs.Common.{◌≡◌, ℕ, List, [], ◌∷◌, ◌++◌, sym, ◌∙◌, subst}
 use Rattle.std.specs.List.{AllByRecursion}
 use Rattle.std.specs.declared.vec.Vec.{Vec}
@@ -36,23 +36,23 @@ cut_quiet old new piece cut feeds q =
     let same = (one_reading (q.past ++ piece) (q.before ++ cut) (q.before ++ q.given) all.0 q.end all.1 q.frames).0 in
     subst (λ (bodies : List (List ℕ)). AllByRecursion IsQuiet bodies) (sym (same_rest q.before cut q.given same)) q.quiet
 
-pub piece_unworked : (old new : Deframed) (piece : List ℕ) (bodies cut : List (Vec ℕ Global)) (before now : ℕ) → Feeds old piece (contents cut) new → bodies ≡ cut → (AllByRecursion IsQuiet (contents bodies) → now ≡ before) →
+pub piece_uncounted : (old new : Deframed) (piece : List ℕ) (bodies cut : List (Vec ℕ Global)) (before now : ℕ) → Feeds old piece (contents cut) new → bodies ≡ cut → (AllByRecursion IsQuiet (contents bodies) → now ≡ before) →
     IsQuietPiece old piece → now ≡ before
-piece_unworked old new piece bodies cut before now feeds same steps q =
+piece_uncounted old new piece bodies cut before now feeds same steps q =
     subst (λ (given : List (Vec ℕ Global)). AllByRecursion IsQuiet (contents given) → now ≡ before) same steps (cut_quiet old new piece (contents cut) feeds q)
 
 -- ---- all pieces so far
 
 -- quiet bytes have quiet bodies
-pub unworked_yet : {old mid : Streams} {server : Serving} {taken most before now : ℕ} (w : Going old mid server taken most) → (AllByRecursion IsQuiet w.bodies → now ≡ before) → AreQuiet w.bytes → now ≡ before
-unworked_yet {old = old} {mid = mid} {server = server} {taken = taken} {most = most} w steps q =
+pub uncounted_yet : {old mid : Streams} {server : Serving} {taken most before now : ℕ} (w : Going old mid server taken most) → (AllByRecursion IsQuiet w.bodies → now ≡ before) → AreQuiet w.bytes → now ≡ before
+uncounted_yet {old = old} {mid = mid} {server = server} {taken = taken} {most = most} w steps q =
     let same = (one_reading w.bytes q.bodies w.bodies q.end (rest w.kept) q.frames (going_frames old mid server taken most w)).0 in
     steps (subst (λ (bodies : List (List ℕ)). AllByRecursion IsQuiet bodies) same q.quiet)
 
 -- so have quiet bytes with one piece more
-pub unworked_then : {old mid : Streams} {server : Serving} {taken most before between now : ℕ} {read piece : List ℕ} (w : Going old mid server taken most) → (AllByRecursion IsQuiet w.bodies → between ≡ before) → read ≡ piece →
+pub uncounted_then : {old mid : Streams} {server : Serving} {taken most before between now : ℕ} {read piece : List ℕ} (w : Going old mid server taken most) → (AllByRecursion IsQuiet w.bodies → between ≡ before) → read ≡ piece →
     (IsQuietPiece server.frames read → now ≡ between) → AreQuiet (w.bytes ++ piece) → now ≡ before
-unworked_then {old = old} {mid = mid} {server = server} {taken = taken} {most = most} {between = between} {now = now} {piece = piece} w so_far same steps q =
+uncounted_then {old = old} {mid = mid} {server = server} {taken = taken} {most = most} {between = between} {now = now} {piece = piece} w so_far same steps q =
     let more = bodies_grow w.bytes piece w.bodies q.bodies (rest w.kept) q.end (going_frames old mid server taken most w) q.frames in
     let parts = all_parts w.bodies more.0 (subst (λ (bodies : List (List ℕ)). AllByRecursion IsQuiet bodies) more.1 q.quiet) in
     subst (λ (p : List ℕ). IsQuietPiece server.frames p → now ≡ between) same steps (record {
@@ -67,9 +67,9 @@ unworked_then {old = old} {mid = mid} {server = server} {taken = taken} {most = 
     ∙ so_far parts.0
 
 -- the session goes on after the piece
-pub unworked_more : {old mid : Streams} {server next : Serving} {taken most before between now : ℕ} {read piece : List ℕ} {seen sink : SinkSeen} (w : Going old mid server taken most) (answered : TakesPiece server next piece IsOpen seen sink) →
+pub uncounted_more : {old mid : Streams} {server next : Serving} {taken most before between now : ℕ} {read piece : List ℕ} {seen sink : SinkSeen} (w : Going old mid server taken most) (answered : TakesPiece server next piece IsOpen seen sink) →
     (AllByRecursion IsQuiet w.bodies → between ≡ before) → read ≡ piece → (IsQuietPiece server.frames read → now ≡ between) → AllByRecursion IsQuiet (w.bodies ++ answered.given) → now ≡ before
-unworked_more {server = server} {next = next} {between = between} {now = now} {piece = piece} w answered so_far same steps q =
+uncounted_more {server = server} {next = next} {between = between} {now = now} {piece = piece} w answered so_far same steps q =
     let parts = all_parts w.bodies answered.given q in
     subst (λ (p : List ℕ). IsQuietPiece server.frames p → now ≡ between) same steps (record {
       past = w.bytes;

@@ -11,6 +11,7 @@ use Rattle.lsp_messages.specs.declared.reply.Reply.{Reply}
 use Rattle.ls_outside.specs.Counts.{Fails}
 use Rattle.ls_outside.specs.Sources.{ArePieces, GotTakes, bytes_of, is_piece, left_over}
 use Rattle.ls_outside.specs.declared.source.Got.TheVariants as got
+use Rattle.ls_outside.proofs.CallLaws.{bytes_more}
 use Rattle.std.specs.FinMap.{empty}
 use Rattle.scheme_model.specs.Session.{State, begin}
 use Rattle.session_core.specs.Stepped.{IsQuiet}
@@ -26,7 +27,7 @@ use Rattle.scheme_ls.specs.Streams.{Streams}
 use Rattle.scheme_ls.specs.declared.serve.SessionEnd.TheVariants.{InputEnded, ReadFailed, Endless}
 use Rattle.scheme_ls.proofs.AnswerLaws.{none_yet, answers_then}
 use Rattle.scheme_ls.proofs.ReadLaws.{read_fails_then, read_to_end, reads_none, reads_then}
-use Rattle.scheme_ls.proofs.Taken.{TakesBytes-more}
+use Rattle.scheme_ls.proofs.Taken.{TakesBytes-more, takes_none}
 
 -- what was taken is whole pieces
 pub record AreWhole (old new : List (List ℕ)) (bytes : List ℕ) : Type 0 where
@@ -50,16 +51,12 @@ pub record Going (old now : Streams) (server : Serving) (taken most : ℕ) : Typ
   pub open_end : server.frames.end ≡ Some (rest kept)
   pub answers : AnswersBodies (begin empty) bodies server.state old.sink now.sink
   pub count : length bytes ≡ taken
-  pub on : ReadsOn old.source now.source
+  pub on : ReadsOn old.source now.source bytes
 
--- and over quiet bodies no step was worked
-pub record GoesUnworked (old now : Streams) (server : Serving) (taken most before steps : ℕ) : Type 0 where
+-- and over quiet bodies no step was counted
+pub record GoesUncounted (old now : Streams) (server : Serving) (taken most before steps : ℕ) : Type 0 where
   pub so_far : Going old now server taken most
-  pub unworked : AllByRecursion IsQuiet so_far.bodies → steps ≡ before
-
-pub takes_none : (left : Option (List (List ℕ))) → TakesBytes left left []
-takes_none None = tt
-takes_none (Some pieces) = refl
+  pub uncounted : AllByRecursion IsQuiet so_far.bodies → steps ≡ before
 
 whole_none : (left : Option (List (List ℕ))) → TakesWhole left left []
 whole_none None = tt
@@ -115,10 +112,6 @@ piece_short piece sized =
     let short : nat_le (length piece) 65536 ≡ true = (both (nat_lt 0 (length piece)) (nat_le (length piece) 65536) sized).1 in
     grind (arith, nat_tests)
 
-bytes_more : (a b : List (List ℕ)) → bytes_of (a ++ b) ≡ bytes_of a ++ bytes_of b
-bytes_more [] b = refl
-bytes_more (piece ∷ a) b = ap (λ (rest : List ℕ). piece ++ rest) (bytes_more a b) ∙ sym (append_assoc piece (bytes_of a) (bytes_of b))
-
 -- a read of as many bytes as the first piece has takes it whole
 whole_piece : (piece buffer : List ℕ) (pieces new : List (List ℕ)) (n : ℕ) → n ≡ length piece → take n buffer ≡ take n piece → new ≡ left_over (drop n piece) pieces → (take n buffer ≡ piece) × (new ≡ pieces)
 whole_piece piece buffer pieces new n count same left =
@@ -172,9 +165,9 @@ before_last (Some old) (Some (piece ∷ pieces)) (Some new) bytes buffer n some 
 -- a read, and what answers it: the session goes on
 pub going_more : {before steps : ℕ} (old mid new : Streams) (server next : Serving) (taken most n room : ℕ) (buffer : List ℕ) (w : Going old mid server taken most) → taken < most → ArePieces mid.source.left → length buffer ≡ room →
     n ≤ room →
-    room ≡ min 65536 (most - taken) → GotTakes mid.source.left new.source.left (got.Some n) buffer → ReadsOn mid.source new.source → (answered : TakesPiece server next (take n buffer) IsOpen mid.sink new.sink) →
-    (AllByRecursion IsQuiet (w.bodies ++ answered.given) → steps ≡ before) → GoesUnworked old new next (taken + n) most before steps
-going_more old mid new server next taken most n room buffer w below sized size within space takes on answered unworked = record {
+    room ≡ min 65536 (most - taken) → GotTakes mid.source.left new.source.left (got.Some n) buffer → ReadsOn mid.source new.source (take n buffer) → (answered : TakesPiece server next (take n buffer) IsOpen mid.sink new.sink) →
+    (AllByRecursion IsQuiet (w.bodies ++ answered.given) → steps ≡ before) → GoesUncounted old new next (taken + n) most before steps
+going_more old mid new server next taken most n room buffer w below sized size within space takes on answered uncounted = record {
   so_far = record {
     bytes = w.bytes ++ take n buffer;
     bodies = w.bodies ++ answered.given;
@@ -185,9 +178,9 @@ going_more old mid new server next taken most n room buffer w below sized size w
     open_end = answered.end.1;
     answers = answers_then (begin empty) server.state next.state w.bodies answered.given old.sink mid.sink new.sink w.answers answered.answers;
     count = length-append w.bytes (take n buffer) ∙ (let l = length-take n buffer in omega (arith, w.count));
-    on = reads_then old.source mid.source new.source w.on on;
+    on = reads_then old.source mid.source new.source w.bytes (take n buffer) w.on on;
   };
-  unworked = unworked;
+  uncounted = uncounted;
 }
 
 -- what was taken so far is answered, and the session goes on
@@ -220,7 +213,7 @@ takes_same (Some old) (Some (piece ∷ pieces)) (Some new) bytes buffer front ta
 -- the input ends
 pub input_ends : {before now : ℕ} (old mid new : Streams) (server : Serving) (taken most : ℕ) (buffer : List ℕ) (w : Going old mid server taken most) → taken < 1099511627776 → GotTakes mid.source.left new.source.left got.End buffer →
     new.source.faults ≡ mid.source.faults → new.source.reads ≡ mid.source.reads ++ [] ∷ [] → new.sink ≡ mid.sink → (AreQuiet w.bytes → now ≡ before) → Serves old new before now InputEnded
-input_ends old mid new server taken most buffer w fewer takes counts notes same unworked =
+input_ends old mid new server taken most buffer w fewer takes counts notes same uncounted =
     let p = takes_all old.source.left mid.source.left new.source.left w.bytes buffer w.takes takes in
     record {
       ends = record {
@@ -229,26 +222,26 @@ input_ends old mid new server taken most buffer w fewer takes counts notes same 
         source = read_to_end old.source mid.source new.source w.bytes w.on p.0 counts notes;
         session = (omega (arith, w.count), goes_on old mid new.sink server taken most w same);
       };
-      unworked = unworked;
+      uncounted = uncounted;
     }
 
 -- a read fails
 pub read_fails : {before now : ℕ} (old mid new : Streams) (server : Serving) (taken most : ℕ) (buffer : List ℕ) (w : Going old mid server taken most) → taken < 1099511627776 → GotTakes mid.source.left new.source.left got.Failed buffer →
     Fails mid.source.faults new.source.faults → new.source.reads ≡ mid.source.reads ++ [] ∷ [] → new.sink ≡ mid.sink → (AreQuiet w.bytes → now ≡ before) → Serves old new before now ReadFailed
-read_fails old mid new server taken most buffer w fewer takes failed notes same unworked = record {
+read_fails old mid new server taken most buffer w fewer takes failed notes same uncounted = record {
   ends = record {
     bytes = w.bytes;
     taken = takes_same old.source.left mid.source.left new.source.left w.bytes buffer w.takes takes;
-    source = read_fails_then old.source mid.source new.source w.on failed notes;
+    source = read_fails_then old.source mid.source new.source w.bytes w.on failed notes;
     session = (omega (arith, w.count), goes_on old mid new.sink server taken most w same);
   };
-  unworked = unworked;
+  uncounted = uncounted;
 }
 
 -- a session has taken all that one may
 pub takes_most : {before steps : ℕ} (old now : Streams) (server : Serving) (taken most : ℕ) (w : Going old now server taken most) → taken ≡ 1099511627776 → (AreQuiet w.bytes → steps ≡ before) → Serves old now before steps Endless
-takes_most old now server taken most w all unworked =
+takes_most old now server taken most w all uncounted =
     record {
       ends = record { bytes = w.bytes; taken = w.takes; source = w.on; session = (w.count ∙ all, goes_on old now now.sink server taken most w refl) };
-      unworked = unworked;
+      uncounted = uncounted;
     }

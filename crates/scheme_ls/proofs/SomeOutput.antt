@@ -1,4 +1,4 @@
--- No stream of bytes is without an output.
+-- Each stream of bytes has an output.
 use Rattle.std.proofs.Common.{ℕ, List, [], ◌∷◌, ◌++◌, refl, Option, None, Some}
 use Rattle.std.specs.FinMap.{empty}
 use Rattle.std.specs.List.{AllByRecursion}
@@ -25,11 +25,10 @@ session_asks [] state = tt
 session_asks (body ∷ bodies) state =
     followed_asks (one_step state body).end (one_step state body) (λ next. session_from next bodies) (step_asks state (message_of body)) (session_asks bodies)
 
-pub some_output : (bytes : List ℕ) → ¬ ¬ ((output : Output) × IsOutputOf bytes output)
-some_output bytes none =
+pub some_output : (bytes : List ℕ) → (output : Output) × IsOutputOf bytes output
+some_output bytes =
     let read = every_reading bytes in
-    some_replies (session_over read.0).replies (session_asks read.0 (begin empty))
-    (λ answers. none (
+    let answers = some_replies (session_over read.0).replies (session_asks read.0 (begin empty)) in (
       record { messages = answers.0; exit = (session_over read.0).end; end = read.1 },
       record { bodies = read.0; frames = read.2; answered = answers.1; exits = refl },
-    ))
+    )

@@ -15,6 +15,11 @@ takes_more : (all bytes buffer piece : List ℕ) (pieces new : List (List ℕ)) 
 takes_more all bytes buffer piece pieces new n front same rest =
     front ∙ rw (rest, same, bytes_of-left_over) (ap (λ (whole : List ℕ). bytes ++ (whole ++ bytes_of pieces)) (sym (take-append-drop n piece)) ∙ simp append_assoc)
 
+-- nothing is taken
+pub takes_none : (left : Option (List (List ℕ))) → TakesBytes left left []
+takes_none None = tt
+takes_none (Some pieces) = refl
+
 -- one read more
 pub TakesBytes-more : (old mid new : Option (List (List ℕ))) (bytes buffer : List ℕ) (n : ℕ) → TakesBytes old mid bytes → GotTakes mid new (got.Some n) buffer → TakesBytes old new (bytes ++ take n buffer)
 TakesBytes-more None mid new bytes buffer n front takes = tt

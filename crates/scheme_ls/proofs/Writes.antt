@@ -3,14 +3,15 @@ use Rattle.std.proofs.Common.{◌≡◌, ℕ, suc, ◌+◌, ◌≤◌, List, [],
 use Rattle.std.proofs.KnownBytes.{Appends-nil, Appends-trans}
 use Rattle.std.specs.Io.KnownBytes.{Appends}
 use Rattle.std.proofs.lemmas.List.{take-append-le}
+use Rattle.ls_outside.specs.Calls.{AllTake, LastTakesNone}
 use Rattle.ls_outside.specs.Counts.{Fails}
+use Rattle.ls_outside.proofs.CallLaws.{last_then, take_none, take_then}
 use Rattle.lsp_messages.specs.declared.reply.Reply.{Reply}
 use Rattle.std.specs.Prelude.{Err}
 use Rattle.scheme_ls.specs.declared.replies.WriteStop.{WriteStop}
 use Rattle.scheme_ls.specs.declared.replies.WriteStop.TheVariants as stop
 use Rattle.scheme_ls.specs.Prints.{SinkSeen, Prints, PrintsPart, PrintsFront, WritingEndsAs}
 use Rattle.scheme_ls.specs.ReplyFrames.{frame_of_reply, frames_of}
-use Rattle.scheme_ls.proofs.CallLaws.{take_none, take_then, last_then}
 
 -- a front of what comes second is a longer front of both
 pub take_second : (first second : List ℕ) (count : ℕ) → take (length first + count) (first ++ second) ≡ first ++ take count second
@@ -35,7 +36,7 @@ pub nothing_printed : (a : SinkSeen) (output : List ℕ) → PrintsPart a a outp
 nothing_printed a output = record { count = 0; part = omega arith; printed = Appends-nil a.taken; no_fault = refl; calls = take_none a.writes }
 
 pub prints_then : (a b c : SinkSeen) (x y : List ℕ) → Prints a b x → Prints b c y → Prints a c (x ++ y)
-prints_then a b c x y first second = record { printed = Appends-trans a.taken b.taken c.taken x y first.printed second.printed; no_fault = second.no_fault ∙ first.no_fault; calls = take_then a.writes b.writes c.writes first.calls second.calls }
+prints_then a b c x y first second = record { printed = Appends-trans a.taken b.taken c.taken x y first.printed second.printed; no_fault = second.no_fault ∙ first.no_fault; calls = take_then a.writes b.writes c.writes x y first.calls second.calls }
 
 pub prints_then_part : (a b c : SinkSeen) (x y z : List ℕ) → Prints a b x → PrintsPart b c y → PrintsPart a c (x ++ (y ++ z))
 prints_then_part a b c x y z first second = record {
@@ -43,7 +44,7 @@ prints_then_part a b c x y z first second = record {
   part = omega (arith, second.part, length-append {A = ℕ});
   printed = subst (Appends a.taken c.taken) (sym (second_front x y z second.count second.part)) (Appends-trans a.taken b.taken c.taken _ _ first.printed second.printed);
   no_fault = second.no_fault ∙ first.no_fault;
-  calls = take_then a.writes b.writes c.writes first.calls second.calls;
+  calls = subst (AllTake a.writes c.writes) (sym (second_front x y z second.count second.part)) (take_then a.writes b.writes c.writes x (take second.count y) first.calls second.calls);
 }
 
 abbrev pub prints_then_front : (a b c : SinkSeen) (x y z : List ℕ) → Prints a b x → PrintsFront b c y → PrintsFront a c (x ++ (y ++ z))
@@ -54,7 +55,9 @@ prints_then_front a b c x y z first second = record {
       let within : second.count ≤ length y = omega (arith, second.part) in
       subst (Appends a.taken c.taken) (sym (second_front x y z second.count within)) (Appends-trans a.taken b.taken c.taken _ _ first.printed second.printed);
   failed = subst (λ (n : ℕ). Fails n c.faults) first.no_fault second.failed;
-  calls = last_then a.writes b.writes c.writes first.calls second.calls;
+  calls =
+      let within : second.count ≤ length y = omega (arith, second.part) in
+      subst (LastTakesNone a.writes c.writes) (sym (second_front x y z second.count within)) (last_then a.writes b.writes c.writes x (take second.count y) [] first.calls second.calls);
 }
 
 -- the frames of the first of these replies are written, and those of the rest aren't
@@ -74,6 +77,10 @@ wrote_more old mid new replies rest reply w p = record {
   prints = prints_then old mid new w.done (frame_of_reply reply) w.prints p;
   split = append_assoc w.done (frame_of_reply reply) (frames_of rest) ∙ w.split;
 }
+
+-- no reply is left
+pub wrote_all : (a b : SinkSeen) (replies rest : List Reply) → WroteFirst a b replies rest → rest ≡ [] → Prints a b (frames_of replies)
+wrote_all a b replies rest w none = subst (Prints a b) (sym (append-nil w.done) ∙ ap (λ (r : List Reply). w.done ++ frames_of r) (sym none) ∙ w.split) w.prints
 
 -- what was printed where writing stops
 abbrev pub PrintsStop : SinkSeen → SinkSeen → List ℕ → WriteStop → Type 0

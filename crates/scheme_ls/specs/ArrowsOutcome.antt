@@ -1,6 +1,6 @@
 -- How the command `arrows` ends, and why.
 use Rattle.std.specs.Prelude.{◌≡◌, ℕ, List}
-use Rattle.scheme_ls.specs.Reading.{FailsInText, PassesLimit, ReadsOn, ReadsText}
+use Rattle.scheme_ls.specs.Reading.{FailsInText, PassesLimit, ReadsFront, ReadsText}
 use Rattle.scheme_ls.specs.Prints.{Prints, PrintsFront, SinkSeen}
 use Rattle.scheme_ls.specs.Printed.{AreLines, IsAnswer, IsRefusal}
 use Rattle.scheme_ls.specs.Streams.{Streams}
@@ -46,4 +46,4 @@ abbrev pub ArrowsEndsAs : Streams → Streams → ArrowsEnd → Type 0
 ArrowsEndsAs old new (arrows.Answered end) = AnswersText end old new
 ArrowsEndsAs old new arrows.TooLong = PassesLimit old.source new.source × (new.sink ≡ old.sink)
 ArrowsEndsAs old new arrows.ReadFailed = FailsInText old.source new.source × (new.sink ≡ old.sink)
-ArrowsEndsAs old new arrows.NoMemory = ReadsOn old.source new.source × (new.sink ≡ old.sink)
+ArrowsEndsAs old new arrows.NoMemory = ReadsFront old.source new.source × (new.sink ≡ old.sink)

@@ -68,7 +68,7 @@ PieceEndsAs old new piece seen now (Exited exit) = EndsInPiece old new piece (sa
 PieceEndsAs old new piece seen now WriteFailed = AnswersInPiece old new piece (PrintsFront seen now)
 PieceEndsAs old new piece seen now NoMemory = AnswersInPiece old new piece (PrintsPart seen now) ⊎ (now ≡ seen)
 
--- each body that the piece completes is quiet, so that no macro use is worked; those before were complete in the bytes that were taken
+-- each body that the piece completes is quiet, so that no macro use is counted; those before were complete in the bytes that were taken
 pub record IsQuietPiece (taken : Deframed) (piece : List ℕ) : Type 0 where
   pub past : List ℕ
   pub before : List (List ℕ)

@@ -10,7 +10,7 @@ use Rattle.scheme_ls.specs.declared.replies.WriteStop.{WriteStop}
 use Rattle.scheme_ls.specs.declared.replies.WriteStop.TheVariants as stop
 
 -- what a sink shows at a moment: the bytes that it took, where it tells them, how often a write has failed, and what
--- each write took
+-- each write so far took
 pub record SinkSeen : Type 0 where
   pub taken : Option (List ℕ)
   pub faults : ℕ
@@ -19,11 +19,11 @@ pub record SinkSeen : Type 0 where
 abbrev pub sink_seen : Option (List ℕ) → ℕ → List (List ℕ) → SinkSeen
 sink_seen taken faults writes = record { taken = taken; faults = faults; writes = writes }
 
--- these bytes were printed, and no write failed
+-- these bytes are what the writes took, and no write failed
 pub record Prints (old new : SinkSeen) (output : List ℕ) : Type 0 where
   pub printed : Appends old.taken new.taken output
   pub no_fault : new.faults ≡ old.faults
-  pub calls : AllTake old.writes new.writes
+  pub calls : AllTake old.writes new.writes output
 
 -- a front of these bytes was printed, but not all: then a write failed, and none followed it
 pub record PrintsFront (old new : SinkSeen) (output : List ℕ) : Type 0 where
@@ -31,7 +31,7 @@ pub record PrintsFront (old new : SinkSeen) (output : List ℕ) : Type 0 where
   pub part : count < length output
   pub printed : Appends old.taken new.taken (take count output)
   pub failed : Fails old.faults new.faults
-  pub calls : LastTakesNone old.writes new.writes
+  pub calls : LastTakesNone old.writes new.writes (take count output)
 
 -- a front of these bytes was printed, perhaps all, and no write failed
 pub record PrintsPart (old new : SinkSeen) (output : List ℕ) : Type 0 where
@@ -39,7 +39,7 @@ pub record PrintsPart (old new : SinkSeen) (output : List ℕ) : Type 0 where
   pub part : count ≤ length output
   pub printed : Appends old.taken new.taken (take count output)
   pub no_fault : new.faults ≡ old.faults
-  pub calls : AllTake old.writes new.writes
+  pub calls : AllTake old.writes new.writes (take count output)
 
 -- how printing bytes ends
 abbrev pub PrintingEndsAs : SinkSeen → SinkSeen → List ℕ → Result (Unit {0}) SinkFailed → Type 0

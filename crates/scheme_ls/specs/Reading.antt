@@ -12,7 +12,7 @@ use Rattle.scheme_ls.specs.declared.reading.ReadStop.{ReadStop}
 use Rattle.scheme_ls.specs.declared.reading.ReadStop.TheVariants as stop
 
 -- what a source shows at a moment: the pieces that are left, where it tells them, how often a read has failed, and what
--- each read took
+-- each read so far took
 pub record SourceSeen : Type 0 where
   pub left : Option (List (List ℕ))
   pub faults : ℕ
@@ -33,21 +33,21 @@ TakesAll None new bytes = Unit {0}
 TakesAll (Some old) None bytes = ⊥
 TakesAll (Some old) (Some new) bytes = (bytes ≡ bytes_of old) × (new ≡ [])
 
--- each read took bytes, and none failed
-pub record ReadsOn (old new : SourceSeen) : Type 0 where
+-- these bytes are what the reads took, each of them some, and none failed
+pub record ReadsOn (old new : SourceSeen) (bytes : List ℕ) : Type 0 where
   pub no_fault : new.faults ≡ old.faults
-  pub calls : AllTake old.reads new.reads
+  pub calls : AllTake old.reads new.reads bytes
 
 -- these bytes were read, and then a read found the end; none failed
 pub record ReadsToEnd (old new : SourceSeen) (bytes : List ℕ) : Type 0 where
   pub all : TakesAll old.left new.left bytes
   pub no_fault : new.faults ≡ old.faults
-  pub calls : LastTakesNone old.reads new.reads
+  pub calls : LastTakesNone old.reads new.reads bytes
 
--- a read failed, and none followed it
-pub record FailsToRead (old new : SourceSeen) : Type 0 where
+-- these bytes were read, and then a read failed; none followed it
+pub record FailsToRead (old new : SourceSeen) (bytes : List ℕ) : Type 0 where
   pub failed : Fails old.faults new.faults
-  pub calls : LastTakesNone old.reads new.reads
+  pub calls : LastTakesNone old.reads new.reads bytes
 
 -- ---- a text that is read whole
 
@@ -66,18 +66,24 @@ pub record PassesLimit (old new : SourceSeen) : Type 0 where
   pub front : TakesBytes old.left new.left bytes
   pub over : max_text < length bytes
   pub stops : length bytes ≤ max_text + text_buffer
-  pub on : ReadsOn old new
+  pub on : ReadsOn old new bytes
 
 -- a read failed after a front of at most the limit
 pub record FailsInText (old new : SourceSeen) : Type 0 where
   pub bytes : List ℕ
   pub front : TakesBytes old.left new.left bytes
   pub within_limit : length bytes ≤ max_text
-  pub fails : FailsToRead old new
+  pub fails : FailsToRead old new bytes
+
+-- a front was read, and no read failed
+pub record ReadsFront (old new : SourceSeen) : Type 0 where
+  pub bytes : List ℕ
+  pub front : TakesBytes old.left new.left bytes
+  pub on : ReadsOn old new bytes
 
 -- how reading a text ends
 abbrev pub ReadingEndsAs : SourceSeen → SourceSeen → Result (Vec ℕ Global) ReadStop → Type 0
 ReadingEndsAs old new (Ok text) = ReadsText old new text.items
 ReadingEndsAs old new (Err stop.Long) = PassesLimit old new
 ReadingEndsAs old new (Err stop.Failed) = FailsInText old new
-ReadingEndsAs old new (Err stop.Memory) = ReadsOn old new
+ReadingEndsAs old new (Err stop.Memory) = ReadsFront old new

@@ -16,13 +16,13 @@ use Rattle.scheme_ls.specs.declared.status.Status.TheVariants.{BadWords, SinkFau
 use Rattle.scheme_ls.specs.declared.arguments.Command.{Command}
 use Rattle.scheme_ls.specs.declared.arguments.Command.TheVariants.{Arrows, Serve, Unknown}
 
--- what files show at a moment: what names hold, where they tell it, the names asked, and how often a fetch has failed
+-- what files show at a moment: what names hold, where they tell it, the names asked so far, and how often a fetch has failed
 pub record FilesSeen : Type 0 where
   pub held : Option (List ℕ → Option (List ℕ))
-  pub asked : Option (List (List ℕ))
+  pub asked : List (List ℕ)
   pub faults : ℕ
 
-abbrev pub files_seen : Option (List ℕ → Option (List ℕ)) → Option (List (List ℕ)) → ℕ → FilesSeen
+abbrev pub files_seen : Option (List ℕ → Option (List ℕ)) → List (List ℕ) → ℕ → FilesSeen
 files_seen held asked faults = record { held = held; asked = asked; faults = faults }
 
 -- what the outside and the counter of steps show at a moment
@@ -38,17 +38,17 @@ seen source sink files steps = record { streams = record { source = source; sink
 abbrev pub AsksNoFile : Seen → Seen → Type 0
 AsksNoFile old new = new.files ≡ old.files
 
--- and no macro use was worked
+-- and no macro use was counted
 pub record AsksNothing (old new : Seen) : Type 0 where
   pub files : AsksNoFile old new
   pub steps : new.steps ≡ old.steps
 
--- `arrows` ended with a status, and works macro uses only where it opens a text
+-- `arrows` ended with a status, and counts macro uses only where it opens a text
 pub record ArrowsDone (old new : Seen) (status : Status) : Type 0 where
   pub end : ArrowsEnd
   pub ends : ArrowsEndsAs old.streams new.streams end
   pub files : AsksNoFile old new
-  pub unworked : OpensNone end → new.steps ≡ old.steps
+  pub uncounted : OpensNone end → new.steps ≡ old.steps
   pub status_is : status ≡ arrows_status end
 
 -- `serve` ended with a status

@@ -3,6 +3,7 @@ use Rattle.std.specs.Prelude.{◌≡◌, ℕ, ◌<◌, ◌≤◌, ◌^◌, List,
 use Rattle.std.specs.Io.KnownBytes.{Appends}
 use Rattle.ls_base.specs.Frames.{End, rest, fault}
 use Rattle.lsp_messages.specs.declared.reply.Reply.{Reply}
+use Rattle.ls_outside.specs.Calls.{CallsTake, LastTakes}
 use Rattle.ls_outside.specs.Sources.{bytes_of}
 use Rattle.scheme_model.specs.Session.{Ending}
 use Rattle.scheme_ls.specs.ReplyFrames.{frames_of}
@@ -92,11 +93,13 @@ abbrev pub AreBeforeLast : Option (List (List ℕ)) → List ℕ → List ℕ �
 AreBeforeLast None bytes last = Unit {0}
 AreBeforeLast (Some pieces) bytes last = AreBefore pieces bytes last
 
--- the session goes on up to the piece that holds the last byte taken, and what answers the pieces before it was written
+-- the session goes on up to the last read, which took from the piece that holds the last byte taken, and what answers the reads
+-- before it was written
 pub record AnswersPiecesBefore (old new : Streams) (bytes : List ℕ) : Type 0 where
   pub before : List ℕ
   pub last : List ℕ
   pub split : bytes ≡ before ++ last
+  pub reads : LastTakes old.source.reads new.source.reads before last
   pub pieces : AreBeforeLast old.source.left before last
   pub output : Output
   pub is : IsOutputOf before output
@@ -104,16 +107,17 @@ pub record AnswersPiecesBefore (old new : Streams) (bytes : List ℕ) : Type 0 w
   pub unfinished : IsUnfinished output.end
   pub more : List ℕ
   pub printed : Appends old.sink.taken new.sink.taken (frames_of output.messages ++ more)
+  pub writes : CallsTake old.sink.writes new.sink.writes (frames_of output.messages ++ more)
 
 -- what became of the source of these bytes
 abbrev pub SourceEndsAs : Streams → Streams → List ℕ → SessionEnd → Type 0
-SourceEndsAs old new bytes (Exited exit) = ReadsOn old.source new.source × AnswersPiecesBefore old new bytes
+SourceEndsAs old new bytes (Exited exit) = ReadsOn old.source new.source bytes × AnswersPiecesBefore old new bytes
 SourceEndsAs old new bytes InputEnded = ReadsToEnd old.source new.source bytes
-SourceEndsAs old new bytes ReadFailed = FailsToRead old.source new.source
-SourceEndsAs old new bytes WriteFailed = ReadsOn old.source new.source × AnswersPiecesBefore old new bytes
-SourceEndsAs old new bytes NoMemory = ReadsOn old.source new.source
-SourceEndsAs old new bytes FrameFault = ReadsOn old.source new.source × AnswersPiecesBefore old new bytes
-SourceEndsAs old new bytes Endless = ReadsOn old.source new.source
+SourceEndsAs old new bytes ReadFailed = FailsToRead old.source new.source bytes
+SourceEndsAs old new bytes WriteFailed = ReadsOn old.source new.source bytes × AnswersPiecesBefore old new bytes
+SourceEndsAs old new bytes NoMemory = ReadsOn old.source new.source bytes
+SourceEndsAs old new bytes FrameFault = ReadsOn old.source new.source bytes × AnswersPiecesBefore old new bytes
+SourceEndsAs old new bytes Endless = ReadsOn old.source new.source bytes
 
 -- how `serve` ends: bytes were taken of the source, and the session over them ended so
 pub record ServeEndsAs (old new : Streams) (end : SessionEnd) : Type 0 where
@@ -122,7 +126,7 @@ pub record ServeEndsAs (old new : Streams) (end : SessionEnd) : Type 0 where
   pub source : SourceEndsAs old new bytes end
   pub session : SessionEndsAs (length bytes) (IsOutputOf bytes) (BeginOutput bytes) old.sink new.sink end
 
--- `serve` ended so, and works macro uses only where a body tells a document event
+-- `serve` ended so, and counts macro uses only where a body tells a document event
 pub record Serves (old new : Streams) (before now : ℕ) (end : SessionEnd) : Type 0 where
   pub ends : ServeEndsAs old new end
-  pub unworked : AreQuiet ends.bytes → now ≡ before
+  pub uncounted : AreQuiet ends.bytes → now ≡ before

@@ -2,7 +2,7 @@
 ghost use Rattle.std.specs.Prelude.{◌≡◌};
 ghost use Rattle.scheme_ls.specs.Statuses.{code_of};
 
-/// How a run ends. Each has a cause, which the contract of `run` states.
+/// How a run ends. Each but `NoMemory` has a cause, which the contract of `run` states.
 #[derive(Clone, Copy, Debug, PartialEq, Eq)]
 pub enum Status {
     /// The command did its work.

@@ -1,4 +1,4 @@
--- No question that a body asks is without an answer.
+-- Each question that a body asks has an answer.
 use Rattle.std.proofs.Common.{List, [], ◌∷◌, ◌++◌, map, refl}
 use Rattle.std.specs.FinMap.{entries}
 use Rattle.std.specs.List.{AllByRecursion}
@@ -40,19 +40,20 @@ AsksThat (session.Error id code text) = Unit {0}
 AsksThat (session.Publish question) = AsksNews question
 AsksThat (session.Log text) = Unit {0}
 
-some_messages : (reply : session.Reply Question) → AsksThat reply → ¬ ¬ ((messages : List Reply) × AreMessages reply messages)
-some_messages (session.Capabilities id prepare encoding) asks none = none (_, refl)
-some_messages (session.Result id question) asks none = let found = some_answer question asks in none (replies.Result (sent_id id) found.0 ∷ [], (found.0, found.1, refl))
-some_messages (session.Error id code text) asks none = none (_, refl)
-some_messages (session.Publish (News encoding before after uri)) asks none =
-    some_news (encoding_of encoding) before after uri (λ found. none (map sent_list found.0, (found.0, found.1, refl)))
-some_messages (session.Publish Nothing) asks none = absurd asks
-some_messages (session.Publish (About encoding texts uri position query)) asks none = absurd asks
-some_messages (session.Log text) asks none = none (_, refl)
+some_messages : (reply : session.Reply Question) → AsksThat reply → (messages : List Reply) × AreMessages reply messages
+some_messages (session.Capabilities id prepare encoding) asks = (_, refl)
+some_messages (session.Result id question) asks = let found = some_answer question asks in (replies.Result (sent_id id) found.0 ∷ [], (found.0, found.1, refl))
+some_messages (session.Error id code text) asks = (_, refl)
+some_messages (session.Publish (News encoding before after uri)) asks =
+    let found = some_news (encoding_of encoding) before after uri in (map sent_list found.0, (found.0, found.1, refl))
+some_messages (session.Publish Nothing) asks = absurd asks
+some_messages (session.Publish (About encoding texts uri position query)) asks = absurd asks
+some_messages (session.Log text) asks = (_, refl)
 
--- replies that ask such questions aren't without messages
-pub some_replies : (rs : List (session.Reply Question)) → AllByRecursion AsksThat rs → ¬ ¬ ((messages : List Reply) × AreReplies rs messages)
-some_replies [] asks none = none ([], refl)
-some_replies (r ∷ rs) asks none =
-    some_messages r asks.0 (λ first. some_replies rs asks.1
-    (λ rest. none (first.0 ++ rest.0, record { first = first.0; rest = rest.0; split = refl; are_first = first.1; are_rest = rest.1 })))
+-- replies that ask such questions have messages
+pub some_replies : (rs : List (session.Reply Question)) → AllByRecursion AsksThat rs → (messages : List Reply) × AreReplies rs messages
+some_replies [] asks = ([], refl)
+some_replies (r ∷ rs) asks =
+    let first = some_messages r asks.0 in
+    let rest = some_replies rs asks.1 in
+    (first.0 ++ rest.0, record { first = first.0; rest = rest.0; split = refl; are_first = first.1; are_rest = rest.1 })

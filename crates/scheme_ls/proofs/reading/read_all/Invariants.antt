@@ -6,7 +6,7 @@ abbrev pub invariant-loop-buf : goal.invariant-loop-buf
 invariant-loop-buf g l = record {
   front : TakesBytes (g.I.Source.left l.fn.input) (g.I.Source.left l.input) l.text.items;
   on : ReadsOn (source_seen (g.I.Source.left l.fn.input) (g.I.Source.faults l.fn.input) (g.I.Source.reads l.fn.input))
-      (source_seen (g.I.Source.left l.input) (g.I.Source.faults l.input) (g.I.Source.reads l.input));
+      (source_seen (g.I.Source.left l.input) (g.I.Source.faults l.input) (g.I.Source.reads l.input)) l.text.items;
   wide : length l.buf ≡ 4096;
   stops : vec_len l.text ≤ 1048576 + 4096;
 }

@@ -1,10 +1,17 @@
 use Rattle.std.proofs.Common.{List, drop, subst, ◌+◌}
+use Rattle.std.proofs.lemmas.List.{drop_all}
 use Rattle.std.proofs.lemmas.Result.{err_from_is_err_and}
 use Rattle.lsp_messages.specs.declared.reply.Reply.{Reply}
 use Rattle.scheme_ls.specs.Prints.{sink_seen}
 use Rattle.scheme_ls.proofs.Items.{at_item}
-use Rattle.scheme_ls.proofs.Writes.{WroteFirst, wrote_more, wrote_some, stop_of, stop_as}
+use Rattle.scheme_ls.proofs.Writes.{WroteFirst, wrote_all, wrote_more, wrote_none, wrote_some, stop_of, stop_as}
 use Rattle.scheme_ls.proofs.replies.write_replies.Goals as goal
+
+pub loop-reply-init : goal.loop-reply-init
+loop-reply-init g c = wrote_none _ _
+
+pub returns : goal.returns
+returns g c = wrote_all _ _ c.args.replies.now _ c.loop-reply.invariant (drop_all c.loop-reply.reply-index c.args.replies.now c.loop-reply-test.false)
 
 pub loop-reply-preserved : goal.loop-reply-preserved
 loop-reply-preserved g c =

@@ -9,7 +9,7 @@ use Rattle.scheme_ls.specs.Statuses.{said_exit}
 use Rattle.scheme_ls.specs.Streams.{streams}
 use Rattle.scheme_ls.specs.declared.replies.WriteStop.{WriteStop}
 use Rattle.scheme_ls.proofs.PieceEndsSession.{farewell_cut, farewell_lost, farewell_written, piece_cut, piece_exits, piece_lost, read_piece}
-use Rattle.scheme_ls.proofs.QuietLaws.{unworked_more, unworked_then, unworked_yet}
+use Rattle.scheme_ls.proofs.QuietLaws.{uncounted_more, uncounted_then, uncounted_yet}
 use Rattle.scheme_ls.proofs.ReadLaws.{read_some}
 use Rattle.scheme_ls.proofs.SessionSoFar.{going_first, going_more, input_ends, read_fails, takes_most}
 use Rattle.scheme_ls.proofs.Writes.{take_first}
@@ -19,7 +19,7 @@ pub loop-taken-init : goal.loop-taken-init
 loop-taken-init g c = record {
   going = record {
     so_far = going_first _ (serving c.args.server.now.deframer c.args.server.now.session) 1099511627776 [] c.requires.start c.requires.end c.requires.state;
-    unworked = λ q. refl;
+    uncounted = λ q. refl;
   };
   few = omega arith;
   wide = refl;
@@ -51,10 +51,10 @@ returns-in-Exited g c =
     let size : length buffer ≡ room = filled c.loop-taken.buf buffer room (1099511627776 - c.loop-taken.taken) c.loop-taken.invariant.wide c.min-room.ensures c.read.auto.buf in
     let whole = take_first buffer (drop room c.loop-taken.buf) n c.in-Some.ensures.within.1 in
     let on = read_some mid.source new.source buffer n c.in-Some.ensures.counts c.in-Some.ensures.notes c.in-Some.ensures.within.0 c.in-Some.ensures.within.1 in
-    let read = read_piece old mid new server c.loop-taken.taken n room buffer c.loop-taken.invariant.going.so_far c.loop-taken-test.true c.in-Some.ensures.within.0 c.in-Some.ensures.within.1 size c.min-room.ensures c.in-Some.ensures.takes on in
+    let read = read_piece old mid new server c.loop-taken.taken n room buffer c.loop-taken.invariant.going.so_far c.loop-taken-test.true c.in-Some.ensures.within.0 c.in-Some.ensures.within.1 size c.min-room.ensures c.in-Some.ensures.takes on c.in-Some.ensures.notes in
     piece_exits old mid new server next c.loop-taken.taken 1099511627776 n c.in-Exited.exit buffer c.loop-taken.invariant.going.so_far read
     (subst (λ (piece : List ℕ). EndsInPiece server next piece (said_exit c.in-Exited.exit) mid.sink new.sink) whole c.in-Exited.ensures.takes)
-    (unworked_then {old = old} {mid = mid} {server = server} c.loop-taken.invariant.going.so_far c.loop-taken.invariant.going.unworked whole c.in-Exited.ensures.steps)
+    (uncounted_then {old = old} {mid = mid} {server = server} c.loop-taken.invariant.going.so_far c.loop-taken.invariant.going.uncounted whole c.in-Exited.ensures.steps)
 
 pub returns-in-WriteFailed : goal.returns-in-WriteFailed
 returns-in-WriteFailed g c =
@@ -72,10 +72,10 @@ returns-in-WriteFailed g c =
     let size : length buffer ≡ room = filled c.loop-taken.buf buffer room (1099511627776 - c.loop-taken.taken) c.loop-taken.invariant.wide c.min-room.ensures c.read.auto.buf in
     let whole = take_first buffer (drop room c.loop-taken.buf) n c.in-Some.ensures.within.1 in
     let on = read_some mid.source new.source buffer n c.in-Some.ensures.counts c.in-Some.ensures.notes c.in-Some.ensures.within.0 c.in-Some.ensures.within.1 in
-    let read = read_piece old mid new server c.loop-taken.taken n room buffer c.loop-taken.invariant.going.so_far c.loop-taken-test.true c.in-Some.ensures.within.0 c.in-Some.ensures.within.1 size c.min-room.ensures c.in-Some.ensures.takes on in
+    let read = read_piece old mid new server c.loop-taken.taken n room buffer c.loop-taken.invariant.going.so_far c.loop-taken-test.true c.in-Some.ensures.within.0 c.in-Some.ensures.within.1 size c.min-room.ensures c.in-Some.ensures.takes on c.in-Some.ensures.notes in
     piece_cut old mid new server next c.loop-taken.taken 1099511627776 n buffer c.loop-taken.invariant.going.so_far read
     (subst (λ (piece : List ℕ). AnswersInPiece server next piece (PrintsFront mid.sink new.sink)) whole c.in-WriteFailed.ensures.takes)
-    (unworked_then {old = old} {mid = mid} {server = server} c.loop-taken.invariant.going.so_far c.loop-taken.invariant.going.unworked whole c.in-WriteFailed.ensures.steps)
+    (uncounted_then {old = old} {mid = mid} {server = server} c.loop-taken.invariant.going.so_far c.loop-taken.invariant.going.uncounted whole c.in-WriteFailed.ensures.steps)
 
 pub returns-in-NoMemory : goal.returns-in-NoMemory
 returns-in-NoMemory g c =
@@ -93,10 +93,10 @@ returns-in-NoMemory g c =
     let size : length buffer ≡ room = filled c.loop-taken.buf buffer room (1099511627776 - c.loop-taken.taken) c.loop-taken.invariant.wide c.min-room.ensures c.read.auto.buf in
     let whole = take_first buffer (drop room c.loop-taken.buf) n c.in-Some.ensures.within.1 in
     let on = read_some mid.source new.source buffer n c.in-Some.ensures.counts c.in-Some.ensures.notes c.in-Some.ensures.within.0 c.in-Some.ensures.within.1 in
-    let read = read_piece old mid new server c.loop-taken.taken n room buffer c.loop-taken.invariant.going.so_far c.loop-taken-test.true c.in-Some.ensures.within.0 c.in-Some.ensures.within.1 size c.min-room.ensures c.in-Some.ensures.takes on in
+    let read = read_piece old mid new server c.loop-taken.taken n room buffer c.loop-taken.invariant.going.so_far c.loop-taken-test.true c.in-Some.ensures.within.0 c.in-Some.ensures.within.1 size c.min-room.ensures c.in-Some.ensures.takes on c.in-Some.ensures.notes in
     piece_lost old mid new server next c.loop-taken.taken 1099511627776 n buffer c.loop-taken.invariant.going.so_far read
     (subst (λ (piece : List ℕ). AnswersInPiece server next piece (PrintsPart mid.sink new.sink) ⊎ (new.sink ≡ mid.sink)) whole c.in-NoMemory.ensures.takes)
-    (unworked_then {old = old} {mid = mid} {server = server} c.loop-taken.invariant.going.so_far c.loop-taken.invariant.going.unworked whole c.in-NoMemory.ensures.steps)
+    (uncounted_then {old = old} {mid = mid} {server = server} c.loop-taken.invariant.going.so_far c.loop-taken.invariant.going.uncounted whole c.in-NoMemory.ensures.steps)
 
 pub returns-in-Ok : goal.returns-in-Ok
 returns-in-Ok g c =
@@ -114,11 +114,11 @@ returns-in-Ok g c =
     let size : length buffer ≡ room = filled c.loop-taken.buf buffer room (1099511627776 - c.loop-taken.taken) c.loop-taken.invariant.wide c.min-room.ensures c.read.auto.buf in
     let whole = take_first buffer (drop room c.loop-taken.buf) n c.in-Some.ensures.within.1 in
     let on = read_some mid.source new.source buffer n c.in-Some.ensures.counts c.in-Some.ensures.notes c.in-Some.ensures.within.0 c.in-Some.ensures.within.1 in
-    let read = read_piece old mid new server c.loop-taken.taken n room buffer c.loop-taken.invariant.going.so_far c.loop-taken-test.true c.in-Some.ensures.within.0 c.in-Some.ensures.within.1 size c.min-room.ensures c.in-Some.ensures.takes on in
+    let read = read_piece old mid new server c.loop-taken.taken n room buffer c.loop-taken.invariant.going.so_far c.loop-taken-test.true c.in-Some.ensures.within.0 c.in-Some.ensures.within.1 size c.min-room.ensures c.in-Some.ensures.takes on c.in-Some.ensures.notes in
     let sink = sink_seen (g.O.Sink.taken c.say_farewell.new.output) (g.O.Sink.faults c.say_farewell.new.output) (g.O.Sink.writes c.say_farewell.new.output) in
     farewell_written old mid new sink server next c.loop-taken.taken 1099511627776 n buffer c.in-Faulty.fault c.loop-taken.invariant.going.so_far read
     (subst (λ (piece : List ℕ). TakesPiece server next piece (HasFault c.in-Faulty.fault) mid.sink new.sink) whole c.in-Faulty.ensures.takes) c.in-Ok.ensures
-    (unworked_then {old = old} {mid = mid} {server = server} c.loop-taken.invariant.going.so_far c.loop-taken.invariant.going.unworked whole c.in-Faulty.ensures.steps)
+    (uncounted_then {old = old} {mid = mid} {server = server} c.loop-taken.invariant.going.so_far c.loop-taken.invariant.going.uncounted whole c.in-Faulty.ensures.steps)
 
 pub returns-in-Err-Failed : goal.returns-in-Err-Failed
 returns-in-Err-Failed g c =
@@ -136,12 +136,12 @@ returns-in-Err-Failed g c =
     let size : length buffer ≡ room = filled c.loop-taken.buf buffer room (1099511627776 - c.loop-taken.taken) c.loop-taken.invariant.wide c.min-room.ensures c.read.auto.buf in
     let whole = take_first buffer (drop room c.loop-taken.buf) n c.in-Some.ensures.within.1 in
     let on = read_some mid.source new.source buffer n c.in-Some.ensures.counts c.in-Some.ensures.notes c.in-Some.ensures.within.0 c.in-Some.ensures.within.1 in
-    let read = read_piece old mid new server c.loop-taken.taken n room buffer c.loop-taken.invariant.going.so_far c.loop-taken-test.true c.in-Some.ensures.within.0 c.in-Some.ensures.within.1 size c.min-room.ensures c.in-Some.ensures.takes on in
+    let read = read_piece old mid new server c.loop-taken.taken n room buffer c.loop-taken.invariant.going.so_far c.loop-taken-test.true c.in-Some.ensures.within.0 c.in-Some.ensures.within.1 size c.min-room.ensures c.in-Some.ensures.takes on c.in-Some.ensures.notes in
     let sink = sink_seen (g.O.Sink.taken c.say_farewell.new.output) (g.O.Sink.faults c.say_farewell.new.output) (g.O.Sink.writes c.say_farewell.new.output) in
     farewell_cut old mid new sink server next c.loop-taken.taken 1099511627776 n buffer c.in-Faulty.fault c.loop-taken.invariant.going.so_far read
     (subst (λ (piece : List ℕ). TakesPiece server next piece (HasFault c.in-Faulty.fault) mid.sink new.sink) whole c.in-Faulty.ensures.takes)
     (subst (λ (stop : WriteStop). WritingEndsAs new.sink sink (frame_of_reply (fault_log c.in-Faulty.fault.number c.in-Faulty.fault.offset)) (Err stop)) c.in-Err-Failed.field-0-is c.in-Err-Failed.ensures)
-    (unworked_then {old = old} {mid = mid} {server = server} c.loop-taken.invariant.going.so_far c.loop-taken.invariant.going.unworked whole c.in-Faulty.ensures.steps)
+    (uncounted_then {old = old} {mid = mid} {server = server} c.loop-taken.invariant.going.so_far c.loop-taken.invariant.going.uncounted whole c.in-Faulty.ensures.steps)
 
 pub returns-in-Err-Memory : goal.returns-in-Err-Memory
 returns-in-Err-Memory g c =
@@ -159,12 +159,12 @@ returns-in-Err-Memory g c =
     let size : length buffer ≡ room = filled c.loop-taken.buf buffer room (1099511627776 - c.loop-taken.taken) c.loop-taken.invariant.wide c.min-room.ensures c.read.auto.buf in
     let whole = take_first buffer (drop room c.loop-taken.buf) n c.in-Some.ensures.within.1 in
     let on = read_some mid.source new.source buffer n c.in-Some.ensures.counts c.in-Some.ensures.notes c.in-Some.ensures.within.0 c.in-Some.ensures.within.1 in
-    let read = read_piece old mid new server c.loop-taken.taken n room buffer c.loop-taken.invariant.going.so_far c.loop-taken-test.true c.in-Some.ensures.within.0 c.in-Some.ensures.within.1 size c.min-room.ensures c.in-Some.ensures.takes on in
+    let read = read_piece old mid new server c.loop-taken.taken n room buffer c.loop-taken.invariant.going.so_far c.loop-taken-test.true c.in-Some.ensures.within.0 c.in-Some.ensures.within.1 size c.min-room.ensures c.in-Some.ensures.takes on c.in-Some.ensures.notes in
     let sink = sink_seen (g.O.Sink.taken c.say_farewell.new.output) (g.O.Sink.faults c.say_farewell.new.output) (g.O.Sink.writes c.say_farewell.new.output) in
     farewell_lost old mid new sink server next c.loop-taken.taken 1099511627776 n buffer c.in-Faulty.fault c.loop-taken.invariant.going.so_far read
     (subst (λ (piece : List ℕ). TakesPiece server next piece (HasFault c.in-Faulty.fault) mid.sink new.sink) whole c.in-Faulty.ensures.takes)
     (subst (λ (stop : WriteStop). WritingEndsAs new.sink sink (frame_of_reply (fault_log c.in-Faulty.fault.number c.in-Faulty.fault.offset)) (Err stop)) c.in-Err-Memory.field-0-is c.in-Err-Memory.ensures)
-    (unworked_then {old = old} {mid = mid} {server = server} c.loop-taken.invariant.going.so_far c.loop-taken.invariant.going.unworked whole c.in-Faulty.ensures.steps)
+    (uncounted_then {old = old} {mid = mid} {server = server} c.loop-taken.invariant.going.so_far c.loop-taken.invariant.going.uncounted whole c.in-Faulty.ensures.steps)
 
 pub loop-taken-preserved : goal.loop-taken-preserved
 loop-taken-preserved g c =
@@ -187,7 +187,7 @@ loop-taken-preserved g c =
     record {
       going = going_more old mid new server next c.loop-taken.taken 1099511627776 n room buffer c.loop-taken.invariant.going.so_far c.loop-taken-test.true (g.met.I.Source.sized c.loop-taken.input) size within c.min-room.ensures
           c.in-Some.ensures.takes on answered
-          (unworked_more {old = old} {mid = mid} {server = server} {next = next} c.loop-taken.invariant.going.so_far answered c.loop-taken.invariant.going.unworked whole c.in-Answered.ensures.steps);
+          (uncounted_more {old = old} {mid = mid} {server = server} {next = next} c.loop-taken.invariant.going.so_far answered c.loop-taken.invariant.going.uncounted whole c.in-Answered.ensures.steps);
       few = omega (arith, within, c.min-room.ensures, c.loop-taken-test.true);
       wide = refilled c.loop-taken.buf buffer room (1099511627776 - c.loop-taken.taken) c.loop-taken.invariant.wide c.min-room.ensures c.read.auto.buf;
     }
@@ -195,14 +195,14 @@ loop-taken-preserved g c =
 pub returns-in-End : goal.returns-in-End
 returns-in-End g c =
     input_ends _ _ _ _ _ 1099511627776 _ c.loop-taken.invariant.going.so_far c.loop-taken-test.true c.in-End.ensures.takes c.in-End.ensures.counts c.in-End.ensures.notes refl
-    (unworked_yet c.loop-taken.invariant.going.so_far c.loop-taken.invariant.going.unworked)
+    (uncounted_yet c.loop-taken.invariant.going.so_far c.loop-taken.invariant.going.uncounted)
 
 pub returns-in-Failed : goal.returns-in-Failed
 returns-in-Failed g c =
     read_fails _ _ _ _ _ 1099511627776 _ c.loop-taken.invariant.going.so_far c.loop-taken-test.true c.in-Failed.ensures.takes c.in-Failed.ensures.counts c.in-Failed.ensures.notes refl
-    (unworked_yet c.loop-taken.invariant.going.so_far c.loop-taken.invariant.going.unworked)
+    (uncounted_yet c.loop-taken.invariant.going.so_far c.loop-taken.invariant.going.uncounted)
 
 pub returns : goal.returns
 returns g c =
     takes_most _ _ _ _ 1099511627776 c.loop-taken.invariant.going.so_far (omega (arith, c.loop-taken.invariant.few))
-    (unworked_yet c.loop-taken.invariant.going.so_far c.loop-taken.invariant.going.unworked)
+    (uncounted_yet c.loop-taken.invariant.going.so_far c.loop-taken.invariant.going.uncounted)

@@ -3,12 +3,12 @@ use Rattle.scheme_ls.specs.PieceOutcome.{serving}
 use Rattle.scheme_ls.specs.Prints.{sink_seen}
 use Rattle.scheme_ls.specs.Reading.{source_seen}
 use Rattle.scheme_ls.specs.Streams.{streams}
-use Rattle.scheme_ls.proofs.SessionSoFar.{GoesUnworked}
+use Rattle.scheme_ls.proofs.SessionSoFar.{GoesUncounted}
 use Rattle.scheme_ls.proofs.serve.answer_input.Given as goal
 
 abbrev pub invariant-loop-taken : goal.invariant-loop-taken
 invariant-loop-taken g l = record {
-  going : GoesUnworked
+  going : GoesUncounted
       (streams (source_seen (g.I.Source.left l.fn.input) (g.I.Source.faults l.fn.input) (g.I.Source.reads l.fn.input))
       (sink_seen (g.O.Sink.taken l.fn.output) (g.O.Sink.faults l.fn.output) (g.O.Sink.writes l.fn.output)))
       (streams (source_seen (g.I.Source.left l.input) (g.I.Source.faults l.input) (g.I.Source.reads l.input))

@@ -7,7 +7,7 @@ use Rattle.scheme_ls.specs.PieceOutcome.{EndsCut}
 use Rattle.scheme_ls.specs.Prints.{PrintsFront, PrintsPart, sink_seen}
 use Rattle.scheme_ls.specs.Statuses.{said_exit}
 use Rattle.scheme_ls.specs.declared.server.FaultAt.{FaultAt}
-use Rattle.scheme_ls.proofs.QuietLaws.{piece_unworked}
+use Rattle.scheme_ls.proofs.QuietLaws.{piece_uncounted}
 use Rattle.scheme_ls.proofs.server.Server.take.Goals as goal
 
 pub returns-in_default-clause-takes : goal.returns-in_default-clause-takes
@@ -70,20 +70,20 @@ returns-in_default-clause-steps g c = λ q. refl
 
 pub returns-in-None-clause-steps : goal.returns-in-None-clause-steps
 returns-in-None-clause-steps g c =
-    piece_unworked c.args.self.now.deframer c.cut_piece.new.deframer _ _ c.in-Ok.cut.bodies _ _ c.in-Ok.ensures.feeds c.as_slice-bodies.ensures c.in-Answered.ensures.steps
+    piece_uncounted c.args.self.now.deframer c.cut_piece.new.deframer _ _ c.in-Ok.cut.bodies _ _ c.in-Ok.ensures.feeds c.as_slice-bodies.ensures c.in-Answered.ensures.steps
 
 pub returns-in-Answered-clause-steps : goal.returns-in-Answered-clause-steps
 returns-in-Answered-clause-steps g c =
-    piece_unworked c.args.self.now.deframer c.cut_piece.new.deframer _ _ c.in-Ok.cut.bodies _ _ c.in-Ok.ensures.feeds c.as_slice-bodies.ensures c.in-Answered.ensures.steps
+    piece_uncounted c.args.self.now.deframer c.cut_piece.new.deframer _ _ c.in-Ok.cut.bodies _ _ c.in-Ok.ensures.feeds c.as_slice-bodies.ensures c.in-Answered.ensures.steps
 
 pub returns-in-Exited-clause-steps : goal.returns-in-Exited-clause-steps
 returns-in-Exited-clause-steps g c =
-    piece_unworked c.args.self.now.deframer c.cut_piece.new.deframer _ _ c.in-Ok.cut.bodies _ _ c.in-Ok.ensures.feeds c.as_slice-bodies.ensures c.in-Exited.ensures.steps
+    piece_uncounted c.args.self.now.deframer c.cut_piece.new.deframer _ _ c.in-Ok.cut.bodies _ _ c.in-Ok.ensures.feeds c.as_slice-bodies.ensures c.in-Exited.ensures.steps
 
 pub returns-in-WriteFailed-clause-steps : goal.returns-in-WriteFailed-clause-steps
 returns-in-WriteFailed-clause-steps g c =
-    piece_unworked c.args.self.now.deframer c.cut_piece.new.deframer _ _ c.in-Ok.cut.bodies _ _ c.in-Ok.ensures.feeds c.as_slice-bodies.ensures c.in-WriteFailed.ensures.steps
+    piece_uncounted c.args.self.now.deframer c.cut_piece.new.deframer _ _ c.in-Ok.cut.bodies _ _ c.in-Ok.ensures.feeds c.as_slice-bodies.ensures c.in-WriteFailed.ensures.steps
 
 pub returns-clause-steps : goal.returns-clause-steps
 returns-clause-steps g c =
-    piece_unworked c.args.self.now.deframer c.cut_piece.new.deframer _ _ c.in-Ok.cut.bodies _ _ c.in-Ok.ensures.feeds c.as_slice-bodies.ensures c.in-NoMemory.ensures.steps
+    piece_uncounted c.args.self.now.deframer c.cut_piece.new.deframer _ _ c.in-Ok.cut.bodies _ _ c.in-Ok.ensures.feeds c.as_slice-bodies.ensures c.in-NoMemory.ensures.steps
