@@ -19,6 +19,7 @@ use Rattle.scheme_ls.specs.BodiesOutcome.{AnswersBodies}
 use Rattle.scheme_ls.specs.PieceOutcome.{AnswersInPiece, EndsInPiece, HasFault, Serving, TakesPiece}
 use Rattle.scheme_ls.specs.Prints.{SinkSeen, Prints, PrintsFront, PrintsPart}
 use Rattle.scheme_ls.specs.Reading.{ReadsOn, TakesBytes}
+use Rattle.scheme_ls.specs.CountedBytes.{CountsAll, CountsFirst}
 use Rattle.scheme_ls.specs.QuietBytes.{AreQuiet}
 use Rattle.scheme_ls.specs.ReplyFrames.{frame_of_reply, frames_of}
 use Rattle.scheme_ls.specs.ServeOutcome.{AnswersPiecesBefore, AreBeforeLast, Serves}
@@ -97,8 +98,8 @@ before_written old mid new server taken most n buffer w r more sink printed writ
 
 -- `exit` stands in the piece
 pub piece_exits : {before now : ℕ} (old mid new : Streams) (server next : Serving) (taken most n : ℕ) (exit : Exit) (buffer : List ℕ) (w : Going old mid server taken most) → Read old mid new server taken most n buffer w →
-    EndsInPiece server next (take n buffer) (said_exit exit) mid.sink new.sink → (AreQuiet (w.bytes ++ take n buffer) → now ≡ before) → Serves old new before now (Exited exit)
-piece_exits old mid new server next taken most n exit buffer w r e uncounted =
+    EndsInPiece server next (take n buffer) (said_exit exit) mid.sink new.sink → CountsAll (w.bytes ++ take n buffer) before now → (AreQuiet (w.bytes ++ take n buffer) → now ≡ before) → Serves old new before now (Exited exit)
+piece_exits old mid new server next taken most n exit buffer w r e counted uncounted =
     let all = frames_then old mid new server next taken most n buffer e.given w r e.feeds in
     let ended = ends_after (begin empty) server.state w.bodies e.given (said_exit exit) old.sink mid.sink new.sink w.answers e.ends in
     record {
@@ -118,6 +119,7 @@ piece_exits old mid new server next taken most n exit buffer w r e uncounted =
           },
         );
       };
+      counted = counted;
       uncounted = uncounted;
     }
 
@@ -155,9 +157,9 @@ farewell_frames messages number offset kind is =
 -- the farewell is written
 pub farewell_written : {before now : ℕ} (old mid seen : Streams) (sink : SinkSeen) (server next : Serving) (taken most n : ℕ) (buffer : List ℕ) (at : FaultAt) (w : Going old mid server taken most) →
     Read old mid seen server taken most n buffer w →
-    TakesPiece server next (take n buffer) (HasFault at) mid.sink seen.sink → Prints seen.sink sink (frame_of_reply (fault_log at.number at.offset)) → (AreQuiet (w.bytes ++ take n buffer) → now ≡ before) →
+    TakesPiece server next (take n buffer) (HasFault at) mid.sink seen.sink → Prints seen.sink sink (frame_of_reply (fault_log at.number at.offset)) → CountsAll (w.bytes ++ take n buffer) before now → (AreQuiet (w.bytes ++ take n buffer) → now ≡ before) →
     Serves old (record { source = seen.source; sink = sink }) before now FrameFault
-farewell_written old mid seen sink server next taken most n buffer at w r e p uncounted =
+farewell_written old mid seen sink server next taken most n buffer at w r e p counted uncounted =
     let answers = all_answers old mid seen server next taken most n buffer at w r e in
     record {
       ends = record {
@@ -182,15 +184,16 @@ farewell_written old mid seen sink server next taken most n buffer at w r e p un
           },
         );
       };
+      counted = counted;
       uncounted = uncounted;
     }
 
 -- a write of the farewell fails
 pub farewell_cut : {before now : ℕ} (old mid seen : Streams) (sink : SinkSeen) (server next : Serving) (taken most n : ℕ) (buffer : List ℕ) (at : FaultAt) (w : Going old mid server taken most) →
     Read old mid seen server taken most n buffer w →
-    TakesPiece server next (take n buffer) (HasFault at) mid.sink seen.sink → PrintsFront seen.sink sink (frame_of_reply (fault_log at.number at.offset)) → (AreQuiet (w.bytes ++ take n buffer) → now ≡ before) →
+    TakesPiece server next (take n buffer) (HasFault at) mid.sink seen.sink → PrintsFront seen.sink sink (frame_of_reply (fault_log at.number at.offset)) → CountsFirst (w.bytes ++ take n buffer) before now → (AreQuiet (w.bytes ++ take n buffer) → now ≡ before) →
     Serves old (record { source = seen.source; sink = sink }) before now WriteFailed
-farewell_cut old mid seen sink server next taken most n buffer at w r e p uncounted =
+farewell_cut old mid seen sink server next taken most n buffer at w r e p counted uncounted =
     let answers = all_answers old mid seen server next taken most n buffer at w r e in
     let output = faulty_output old mid seen server next taken most n buffer at w r e in
     record {
@@ -212,6 +215,7 @@ farewell_cut old mid seen sink server next taken most n buffer at w r e p uncoun
           },
         );
       };
+      counted = counted;
       uncounted = uncounted;
     }
 
@@ -238,6 +242,7 @@ farewell_lost old mid seen sink server next taken most n buffer at w r e p uncou
           },
         );
       };
+      counted = tt;
       uncounted = uncounted;
     }
 
@@ -269,6 +274,7 @@ piece_memory old mid new server next taken most n buffer w r e uncounted =
           },
         );
       };
+      counted = tt;
       uncounted = uncounted;
     }
 
@@ -298,6 +304,7 @@ no_memory old mid new server taken most n buffer w r same uncounted =
           },
         );
       };
+      counted = tt;
       uncounted = uncounted;
     }
 
@@ -308,8 +315,8 @@ piece_lost old mid new server next taken most n buffer w r (inr same) uncounted 
 
 -- a write fails while a body of the piece is answered
 pub piece_cut : {before now : ℕ} (old mid new : Streams) (server next : Serving) (taken most n : ℕ) (buffer : List ℕ) (w : Going old mid server taken most) → Read old mid new server taken most n buffer w →
-    AnswersInPiece server next (take n buffer) (PrintsFront mid.sink new.sink) → (AreQuiet (w.bytes ++ take n buffer) → now ≡ before) → Serves old new before now WriteFailed
-piece_cut old mid new server next taken most n buffer w r e uncounted =
+    AnswersInPiece server next (take n buffer) (PrintsFront mid.sink new.sink) → CountsFirst (w.bytes ++ take n buffer) before now → (AreQuiet (w.bytes ++ take n buffer) → now ≡ before) → Serves old new before now WriteFailed
+piece_cut old mid new server next taken most n buffer w r e counted uncounted =
     let all = frames_then old mid new server next taken most n buffer e.given w r e.feeds in
     let first = w.answers.session.messages in
     let some = e.answers in
@@ -333,6 +340,7 @@ piece_cut old mid new server next taken most n buffer w r e uncounted =
           },
         );
       };
+      counted = counted;
       uncounted = uncounted;
     }
 
@@ -354,5 +362,6 @@ nothing_served a now =
           },
         );
       };
+      counted = tt;
       uncounted = λ q. refl;
     }

@@ -23,7 +23,7 @@ all_parts (body ∷ a) b q = let h = all_parts a b q.1 in ((q.0, h.0), h.1)
 same_tails : (body : List ℕ) (a b : List (List ℕ)) → body ∷ a ≡ body ∷ b → a ≡ b
 same_tails body a b same = cc
 
-same_rest : (first a b : List (List ℕ)) → first ++ a ≡ first ++ b → a ≡ b
+pub same_rest : (first a b : List (List ℕ)) → first ++ a ≡ first ++ b → a ≡ b
 same_rest [] a b same = same
 same_rest (body ∷ first) a b same = same_rest first a b (same_tails body (first ++ a) (first ++ b) same)
 

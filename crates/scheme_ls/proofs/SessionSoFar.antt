@@ -14,15 +14,17 @@ use Rattle.ls_outside.specs.declared.source.Got.TheVariants as got
 use Rattle.ls_outside.proofs.CallLaws.{bytes_more}
 use Rattle.std.specs.FinMap.{empty}
 use Rattle.scheme_model.specs.Session.{State, begin}
+use Rattle.session_core.specs.Counted.{AreCounted}
 use Rattle.session_core.specs.Stepped.{IsQuiet}
 use Rattle.scheme_ls.specs.BodiesOutcome.{AnswersBodies}
 use Rattle.scheme_ls.specs.PieceOutcome.{IsOpen, Serving, TakesPiece}
 use Rattle.scheme_ls.specs.Prints.{Prints, SinkSeen}
+use Rattle.scheme_ls.specs.CountedBytes.{CountsAll}
 use Rattle.scheme_ls.specs.QuietBytes.{AreQuiet}
 use Rattle.scheme_ls.specs.Reading.{ReadsOn, TakesAll, TakesBytes}
 use Rattle.scheme_ls.specs.ReplyFrames.{frames_of}
 use Rattle.scheme_ls.specs.ServeOutcome.{AreBeforeLast, GoesOn, Serves}
-use Rattle.scheme_ls.specs.SessionOutput.{IsOutputOf, Output}
+use Rattle.scheme_ls.specs.SessionOutput.{IsOutputOf, Output, session_over}
 use Rattle.scheme_ls.specs.Streams.{Streams}
 use Rattle.scheme_ls.specs.declared.serve.SessionEnd.TheVariants.{InputEnded, ReadFailed, Endless}
 use Rattle.scheme_ls.proofs.AnswerLaws.{none_yet, answers_then}
@@ -53,9 +55,10 @@ pub record Going (old now : Streams) (server : Serving) (taken most : ℕ) : Typ
   pub count : length bytes ≡ taken
   pub on : ReadsOn old.source now.source bytes
 
--- and over quiet bodies no step was counted
+-- and the macro uses of the bodies were counted, none over quiet bodies
 pub record GoesUncounted (old now : Streams) (server : Serving) (taken most before steps : ℕ) : Type 0 where
   pub so_far : Going old now server taken most
+  pub counted : AreCounted (session_over so_far.bodies).replies before steps
   pub uncounted : AllByRecursion IsQuiet so_far.bodies → steps ≡ before
 
 whole_none : (left : Option (List (List ℕ))) → TakesWhole left left []
@@ -75,6 +78,10 @@ going_first a server most kept after end state = record {
   count = refl;
   on = reads_none a.source;
 }
+
+-- nothing was taken and nothing counted
+pub goes_first : (a : Streams) (server : Serving) (most : ℕ) (kept : List ℕ) (n : ℕ) → After [] [] server.frames → server.frames.end ≡ Some (rest kept) → server.state ≡ begin empty → GoesUncounted a a server 0 most n n
+goes_first a server most kept n after end state = record { so_far = going_first a server most kept after end state; counted = refl; uncounted = λ q. refl }
 
 -- ---- the bytes so far
 
@@ -166,8 +173,8 @@ before_last (Some old) (Some (piece ∷ pieces)) (Some new) bytes buffer n some 
 pub going_more : {before steps : ℕ} (old mid new : Streams) (server next : Serving) (taken most n room : ℕ) (buffer : List ℕ) (w : Going old mid server taken most) → taken < most → ArePieces mid.source.left → length buffer ≡ room →
     n ≤ room →
     room ≡ min 65536 (most - taken) → GotTakes mid.source.left new.source.left (got.Some n) buffer → ReadsOn mid.source new.source (take n buffer) → (answered : TakesPiece server next (take n buffer) IsOpen mid.sink new.sink) →
-    (AllByRecursion IsQuiet (w.bodies ++ answered.given) → steps ≡ before) → GoesUncounted old new next (taken + n) most before steps
-going_more old mid new server next taken most n room buffer w below sized size within space takes on answered uncounted = record {
+    AreCounted (session_over (w.bodies ++ answered.given)).replies before steps → (AllByRecursion IsQuiet (w.bodies ++ answered.given) → steps ≡ before) → GoesUncounted old new next (taken + n) most before steps
+going_more old mid new server next taken most n room buffer w below sized size within space takes on answered counted uncounted = record {
   so_far = record {
     bytes = w.bytes ++ take n buffer;
     bodies = w.bodies ++ answered.given;
@@ -180,6 +187,7 @@ going_more old mid new server next taken most n room buffer w below sized size w
     count = length-append w.bytes (take n buffer) ∙ (let l = length-take n buffer in omega (arith, w.count));
     on = reads_then old.source mid.source new.source w.bytes (take n buffer) w.on on;
   };
+  counted = counted;
   uncounted = uncounted;
 }
 
@@ -212,8 +220,8 @@ takes_same (Some old) (Some (piece ∷ pieces)) (Some new) bytes buffer front ta
 
 -- the input ends
 pub input_ends : {before now : ℕ} (old mid new : Streams) (server : Serving) (taken most : ℕ) (buffer : List ℕ) (w : Going old mid server taken most) → taken < 1099511627776 → GotTakes mid.source.left new.source.left got.End buffer →
-    new.source.faults ≡ mid.source.faults → new.source.reads ≡ mid.source.reads ++ [] ∷ [] → new.sink ≡ mid.sink → (AreQuiet w.bytes → now ≡ before) → Serves old new before now InputEnded
-input_ends old mid new server taken most buffer w fewer takes counts notes same uncounted =
+    new.source.faults ≡ mid.source.faults → new.source.reads ≡ mid.source.reads ++ [] ∷ [] → new.sink ≡ mid.sink → CountsAll w.bytes before now → (AreQuiet w.bytes → now ≡ before) → Serves old new before now InputEnded
+input_ends old mid new server taken most buffer w fewer takes counts notes same counted uncounted =
     let p = takes_all old.source.left mid.source.left new.source.left w.bytes buffer w.takes takes in
     record {
       ends = record {
@@ -222,26 +230,29 @@ input_ends old mid new server taken most buffer w fewer takes counts notes same 
         source = read_to_end old.source mid.source new.source w.bytes w.on p.0 counts notes;
         session = (omega (arith, w.count), goes_on old mid new.sink server taken most w same);
       };
+      counted = counted;
       uncounted = uncounted;
     }
 
 -- a read fails
 pub read_fails : {before now : ℕ} (old mid new : Streams) (server : Serving) (taken most : ℕ) (buffer : List ℕ) (w : Going old mid server taken most) → taken < 1099511627776 → GotTakes mid.source.left new.source.left got.Failed buffer →
-    Fails mid.source.faults new.source.faults → new.source.reads ≡ mid.source.reads ++ [] ∷ [] → new.sink ≡ mid.sink → (AreQuiet w.bytes → now ≡ before) → Serves old new before now ReadFailed
-read_fails old mid new server taken most buffer w fewer takes failed notes same uncounted = record {
+    Fails mid.source.faults new.source.faults → new.source.reads ≡ mid.source.reads ++ [] ∷ [] → new.sink ≡ mid.sink → CountsAll w.bytes before now → (AreQuiet w.bytes → now ≡ before) → Serves old new before now ReadFailed
+read_fails old mid new server taken most buffer w fewer takes failed notes same counted uncounted = record {
   ends = record {
     bytes = w.bytes;
     taken = takes_same old.source.left mid.source.left new.source.left w.bytes buffer w.takes takes;
     source = read_fails_then old.source mid.source new.source w.bytes w.on failed notes;
     session = (omega (arith, w.count), goes_on old mid new.sink server taken most w same);
   };
+  counted = counted;
   uncounted = uncounted;
 }
 
 -- a session has taken all that one may
-pub takes_most : {before steps : ℕ} (old now : Streams) (server : Serving) (taken most : ℕ) (w : Going old now server taken most) → taken ≡ 1099511627776 → (AreQuiet w.bytes → steps ≡ before) → Serves old now before steps Endless
-takes_most old now server taken most w all uncounted =
+pub takes_most : {before steps : ℕ} (old now : Streams) (server : Serving) (taken most : ℕ) (w : Going old now server taken most) → taken ≡ 1099511627776 → CountsAll w.bytes before steps → (AreQuiet w.bytes → steps ≡ before) → Serves old now before steps Endless
+takes_most old now server taken most w all counted uncounted =
     record {
       ends = record { bytes = w.bytes; taken = w.takes; source = w.on; session = (w.count ∙ all, goes_on old now now.sink server taken most w refl) };
+      counted = counted;
       uncounted = uncounted;
     }

@@ -2,6 +2,7 @@
 use Rattle.std.specs.Prelude.{◌≡◌, ℕ, zero, suc, List, ◌++◌, Option, Some, None}
 use Rattle.lsp_messages.specs.declared.reply.Reply.{Reply}
 use Rattle.scheme_model.specs.Session.{Ending, State}
+use Rattle.session_core.specs.Counted.{AreCounted}
 use Rattle.session_core.specs.ToWire.{AreReplies}
 use Rattle.scheme_ls.specs.Prints.{SinkSeen, Prints, PrintsFront, PrintsPart}
 use Rattle.scheme_ls.specs.ReplyFrames.{frames_of}
@@ -49,3 +50,19 @@ BodiesEndAs state bodies next old new Answered = AnswersBodies state bodies next
 BodiesEndAs state bodies next old new (Exited exit) = EndsSession state bodies (said_exit exit) old new
 BodiesEndAs state bodies next old new WriteFailed = AnswersSome state bodies (PrintsFront old new)
 BodiesEndAs state bodies next old new NoMemory = AnswersSome state bodies (PrintsPart old new)
+
+-- ---- the macro uses that are counted over bodies
+
+-- those of some first bodies
+pub record CountsSome (state : State) (bodies : List (List ℕ)) (before now : ℕ) : Type 0 where
+  pub first : List (List ℕ)
+  pub later : List (List ℕ)
+  pub split : bodies ≡ first ++ later
+  pub counted : AreCounted (session_from state first).replies before now
+
+-- answering bodies that ends so counts from one number to another. Where memory runs out nothing is told
+abbrev pub BodiesCountAs : State → List (List ℕ) → (before now : ℕ) → BodiesEnd → Type 0
+BodiesCountAs state bodies before now Answered = AreCounted (session_from state bodies).replies before now
+BodiesCountAs state bodies before now (Exited exit) = AreCounted (session_from state bodies).replies before now
+BodiesCountAs state bodies before now WriteFailed = CountsSome state bodies before now
+BodiesCountAs state bodies before now NoMemory = Unit {0}

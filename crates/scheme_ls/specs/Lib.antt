@@ -10,6 +10,7 @@ pub mod ReplyFrames  -- The bytes that replies are written as (LSP 3.17, base pr
 pub mod SessionOutput  -- What a session writes in answer to a stream of bytes (LSP 3.17, base protocol and lifecycle)
 pub mod BodiesOutcome  -- What answering bodies one after another leaves, in the middle of a session
 pub mod QuietBytes  -- Bytes whose bodies tell no document event
+pub mod CountedBytes  -- The macro uses that are counted over bytes (R7RS 4.3)
 pub mod PieceOutcome  -- What a server makes of a piece of its input
 pub mod ServeOutcome  -- How the command `serve` ends, and why
 pub mod ArrowsOutcome  -- How the command `arrows` ends, and why

@@ -6,9 +6,11 @@ use Rattle.lsp_framing.specs.Deframed.{Deframed, After}
 use Rattle.lsp_framing.specs.Feeds.{Feeds}
 use Rattle.lsp_framing.specs.Taken.{contents}
 use Rattle.scheme_model.specs.Session.{Ending, State}
+use Rattle.session_core.specs.Counted.{AreCounted}
 use Rattle.session_core.specs.Stepped.{IsQuiet}
-use Rattle.scheme_ls.specs.BodiesOutcome.{AnswersBodies, EndsSession, AnswersSome}
+use Rattle.scheme_ls.specs.BodiesOutcome.{AnswersBodies, EndsSession, AnswersSome, CountsSome}
 use Rattle.scheme_ls.specs.Prints.{SinkSeen, PrintsFront, PrintsPart}
+use Rattle.scheme_ls.specs.SessionOutput.{session_from}
 use Rattle.scheme_ls.specs.Statuses.{said_exit}
 use Rattle.scheme_ls.specs.declared.server.Cut.{Cut}
 use Rattle.scheme_ls.specs.declared.server.FaultAt.{FaultAt}
@@ -77,3 +79,25 @@ pub record IsQuietPiece (taken : Deframed) (piece : List ℕ) : Type 0 where
   pub after : After past before taken
   pub frames : IsFrames (past ++ piece) (before ++ given) end
   pub quiet : AllByRecursion IsQuiet given
+
+-- ---- the macro uses that are counted over a piece
+
+-- those of all bodies that the piece completes
+pub record CountsPiece (old new : Serving) (piece : List ℕ) (before now : ℕ) : Type 0 where
+  pub given : List (List ℕ)
+  pub feeds : Feeds old.frames piece given new.frames
+  pub counted : AreCounted (session_from old.state given).replies before now
+
+-- those of some of them
+pub record CountsInPiece (old new : Serving) (piece : List ℕ) (before now : ℕ) : Type 0 where
+  pub given : List (List ℕ)
+  pub feeds : Feeds old.frames piece given new.frames
+  pub counts : CountsSome old.state given before now
+
+-- taking a piece that ends so counts from one number to another. Where memory runs out nothing is told
+abbrev pub PieceCountsAs : Serving → Serving → List ℕ → (before now : ℕ) → PieceEnd → Type 0
+PieceCountsAs old new piece before now Answered = CountsPiece old new piece before now
+PieceCountsAs old new piece before now (Faulty at) = CountsPiece old new piece before now
+PieceCountsAs old new piece before now (Exited exit) = CountsPiece old new piece before now
+PieceCountsAs old new piece before now WriteFailed = CountsInPiece old new piece before now
+PieceCountsAs old new piece before now NoMemory = Unit {0}

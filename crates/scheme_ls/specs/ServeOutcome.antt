@@ -8,6 +8,7 @@ use Rattle.ls_outside.specs.Sources.{bytes_of}
 use Rattle.scheme_model.specs.Session.{Ending}
 use Rattle.scheme_ls.specs.ReplyFrames.{frames_of}
 use Rattle.scheme_ls.specs.Prints.{SinkSeen, Prints, PrintsFront, PrintsPart}
+use Rattle.scheme_ls.specs.CountedBytes.{CountsAs}
 use Rattle.scheme_ls.specs.QuietBytes.{AreQuiet}
 use Rattle.scheme_ls.specs.Reading.{FailsToRead, ReadsOn, ReadsToEnd, TakesBytes}
 use Rattle.scheme_ls.specs.SessionOutput.{BeginOutput, IsOutputOf, Output, written}
@@ -126,7 +127,8 @@ pub record ServeEndsAs (old new : Streams) (end : SessionEnd) : Type 0 where
   pub source : SourceEndsAs old new bytes end
   pub session : SessionEndsAs (length bytes) (IsOutputOf bytes) (BeginOutput bytes) old.sink new.sink end
 
--- `serve` ended so, and counts macro uses only where a body tells a document event
+-- `serve` ended so, and counts the macro uses that the bodies lead to; none, where no body tells a document event
 pub record Serves (old new : Streams) (before now : ℕ) (end : SessionEnd) : Type 0 where
   pub ends : ServeEndsAs old new end
+  pub counted : CountsAs end ends.bytes before now
   pub uncounted : AreQuiet ends.bytes → now ≡ before

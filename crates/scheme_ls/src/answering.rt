@@ -3,7 +3,7 @@ ghost use Rattle.std.specs.Prelude.{◌≡◌, [], ◌∷◌};
 ghost use Rattle.std.specs.List.{AllByRecursion};
 ghost use Rattle.lsp_framing.specs.Taken.{contents};
 ghost use Rattle.session_core.specs.Stepped.{IsQuiet};
-ghost use Rattle.scheme_ls.specs.BodiesOutcome.{BodiesEndAs, body_end_of};
+ghost use Rattle.scheme_ls.specs.BodiesOutcome.{BodiesCountAs, BodiesEndAs, body_end_of};
 ghost use Rattle.scheme_ls.specs.Prints.{sink_seen};
 ghost use Rattle.scheme_ls.specs.Statuses.{exit_status};
 
@@ -71,6 +71,7 @@ fn answer_body<O: Sink, L: Ledger>(
     ensures answers { BodiesEndAs session.old (body.now ∷ []) session.new
         (sink_seen (O.taken output.old) (O.faults output.old) (O.writes output.old))
         (sink_seen (O.taken output.new) (O.faults output.new) (O.writes output.new)) result }
+    ensures counted { BodiesCountAs session.old (body.now ∷ []) steps.old steps.new result }
     ensures steps { IsQuiet body.now → steps.new ≡ steps.old }
 {
     let Ok(out) = session.on_body(body, steps) else {
@@ -94,6 +95,7 @@ pub fn answer_bodies<O: Sink, L: Ledger>(
     ensures answers { BodiesEndAs session.old (contents bodies.now) session.new
         (sink_seen (O.taken output.old) (O.faults output.old) (O.writes output.old))
         (sink_seen (O.taken output.new) (O.faults output.new) (O.writes output.new)) result }
+    ensures counted { BodiesCountAs session.old (contents bodies.now) steps.old steps.new result }
     ensures steps { AllByRecursion IsQuiet (contents bodies.now) → steps.new ≡ steps.old }
 {
     for body in bodies {

@@ -1,6 +1,6 @@
 //! A session, and the frames that it gets its bodies from.
 ghost use Rattle.std.specs.Prelude.{◌≡◌, ◌+◌, ◌<◌, ◌^◌, length, IfOk};
-ghost use Rattle.scheme_ls.specs.PieceOutcome.{Cuts, IsQuietPiece, PieceEndsAs, serving};
+ghost use Rattle.scheme_ls.specs.PieceOutcome.{Cuts, IsQuietPiece, PieceCountsAs, PieceEndsAs, serving};
 ghost use Rattle.scheme_ls.specs.Prints.{WritingEndsAs, sink_seen};
 ghost use Rattle.scheme_ls.specs.ReplyFrames.{frame_of_reply};
 ghost use Rattle.scheme_ls.specs.SessionOutput.{fault_log};
@@ -89,6 +89,8 @@ impl Server {
         ensures takes { PieceEndsAs (serving self.old.deframer self.old.session) (serving self.new.deframer self.new.session)
             piece.now (sink_seen (O.taken output.old) (O.faults output.old) (O.writes output.old))
             (sink_seen (O.taken output.new) (O.faults output.new) (O.writes output.new)) result }
+        ensures counted { PieceCountsAs (serving self.old.deframer self.old.session) (serving self.new.deframer self.new.session)
+            piece.now steps.old steps.new result }
         ensures steps { IsQuietPiece self.old.deframer piece.now → steps.new ≡ steps.old }
     {
         let Ok(cut) = cut_piece(&mut self.deframer, piece) else {

@@ -1,11 +1,12 @@
 use Rattle.std.proofs.Common.{List, [], ◌∷◌, Err, sym, subst}
 use Rattle.lsp_messages.specs.declared.reply.Reply.{Reply}
-use Rattle.scheme_ls.specs.BodiesOutcome.{BodiesEndAs}
+use Rattle.scheme_ls.specs.BodiesOutcome.{BodiesCountAs, BodiesEndAs}
 use Rattle.scheme_ls.specs.ReplyFrames.{frames_of}
 use Rattle.scheme_ls.specs.Prints.{sink_seen, Prints, PrintsFront, PrintsPart, WritingEndsAs}
 use Rattle.scheme_ls.specs.declared.answering.BodiesEnd.{BodiesEnd}
 use Rattle.scheme_ls.specs.declared.replies.WriteStop.{WriteStop}
 use Rattle.scheme_ls.proofs.AnswerLaws.{one_answered, one_some, none_answered}
+use Rattle.scheme_ls.proofs.CountLaws.{end_counts, one_counted, one_counts_some}
 use Rattle.scheme_ls.proofs.answering.answer_body.Goals as goal
 
 pub returns-in_default-clause-answers : goal.returns-in_default-clause-answers
@@ -34,3 +35,11 @@ returns-clause-answers g c =
     let printed = subst (λ (stop : WriteStop). WritingEndsAs old new (frames_of c.as_slice.result.now) (Err stop)) c.in-Err-Memory.field-0-is c.in-Err-Memory.ensures in
     let written = subst (λ (replies : List Reply). PrintsPart old new (frames_of replies)) c.as_slice.ensures printed in
     one_some _ _ c.args.body.now c.in-Ok.out (PrintsPart old new) c.in-Ok.ensures.step written
+
+pub returns-in-Ok-write_replies-clause-counted : goal.returns-in-Ok-write_replies-clause-counted
+returns-in-Ok-write_replies-clause-counted g c =
+    subst (λ (end : BodiesEnd). BodiesCountAs c.args.session.now (c.args.body.now ∷ []) c.args.steps.now c.on_body.new.steps end) (sym c.body_end.ensures)
+    (end_counts c.args.session.now (c.args.body.now ∷ []) _ _ c.in-Ok.out.end (one_counted c.args.session.now c.args.body.now _ _ c.in-Ok.ensures.counted))
+
+pub returns-in-Err-Failed-clause-counted : goal.returns-in-Err-Failed-clause-counted
+returns-in-Err-Failed-clause-counted g c = one_counts_some c.args.session.now c.args.body.now _ _ c.in-Ok.ensures.counted

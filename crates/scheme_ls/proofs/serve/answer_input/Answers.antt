@@ -8,19 +8,17 @@ use Rattle.scheme_ls.specs.SessionOutput.{fault_log}
 use Rattle.scheme_ls.specs.Statuses.{said_exit}
 use Rattle.scheme_ls.specs.Streams.{streams}
 use Rattle.scheme_ls.specs.declared.replies.WriteStop.{WriteStop}
+use Rattle.scheme_ls.proofs.CountLaws.{all_then, all_yet, counts_more, first_of_all, first_then}
 use Rattle.scheme_ls.proofs.PieceEndsSession.{farewell_cut, farewell_lost, farewell_written, piece_cut, piece_exits, piece_lost, read_piece}
 use Rattle.scheme_ls.proofs.QuietLaws.{uncounted_more, uncounted_then, uncounted_yet}
 use Rattle.scheme_ls.proofs.ReadLaws.{read_some}
-use Rattle.scheme_ls.proofs.SessionSoFar.{going_first, going_more, input_ends, read_fails, takes_most}
+use Rattle.scheme_ls.proofs.SessionSoFar.{goes_first, going_more, input_ends, read_fails, takes_most}
 use Rattle.scheme_ls.proofs.Writes.{take_first}
 use Rattle.scheme_ls.proofs.serve.answer_input.Goals as goal
 
 pub loop-taken-init : goal.loop-taken-init
 loop-taken-init g c = record {
-  going = record {
-    so_far = going_first _ (serving c.args.server.now.deframer c.args.server.now.session) 1099511627776 [] c.requires.start c.requires.end c.requires.state;
-    uncounted = λ q. refl;
-  };
+  going = goes_first _ (serving c.args.server.now.deframer c.args.server.now.session) 1099511627776 [] c.args.steps.now c.requires.start c.requires.end c.requires.state;
   few = omega arith;
   wide = refl;
 }
@@ -54,6 +52,7 @@ returns-in-Exited g c =
     let read = read_piece old mid new server c.loop-taken.taken n room buffer c.loop-taken.invariant.going.so_far c.loop-taken-test.true c.in-Some.ensures.within.0 c.in-Some.ensures.within.1 size c.min-room.ensures c.in-Some.ensures.takes on c.in-Some.ensures.notes in
     piece_exits old mid new server next c.loop-taken.taken 1099511627776 n c.in-Exited.exit buffer c.loop-taken.invariant.going.so_far read
     (subst (λ (piece : List ℕ). EndsInPiece server next piece (said_exit c.in-Exited.exit) mid.sink new.sink) whole c.in-Exited.ensures.takes)
+    (all_then {old = old} {mid = mid} {server = server} {next = next} c.loop-taken.invariant.going.so_far c.loop-taken.invariant.going.counted whole c.in-Exited.ensures.counted)
     (uncounted_then {old = old} {mid = mid} {server = server} c.loop-taken.invariant.going.so_far c.loop-taken.invariant.going.uncounted whole c.in-Exited.ensures.steps)
 
 pub returns-in-WriteFailed : goal.returns-in-WriteFailed
@@ -75,6 +74,7 @@ returns-in-WriteFailed g c =
     let read = read_piece old mid new server c.loop-taken.taken n room buffer c.loop-taken.invariant.going.so_far c.loop-taken-test.true c.in-Some.ensures.within.0 c.in-Some.ensures.within.1 size c.min-room.ensures c.in-Some.ensures.takes on c.in-Some.ensures.notes in
     piece_cut old mid new server next c.loop-taken.taken 1099511627776 n buffer c.loop-taken.invariant.going.so_far read
     (subst (λ (piece : List ℕ). AnswersInPiece server next piece (PrintsFront mid.sink new.sink)) whole c.in-WriteFailed.ensures.takes)
+    (first_then {old = old} {mid = mid} {server = server} {next = next} c.loop-taken.invariant.going.so_far c.loop-taken.invariant.going.counted whole c.in-WriteFailed.ensures.counted)
     (uncounted_then {old = old} {mid = mid} {server = server} c.loop-taken.invariant.going.so_far c.loop-taken.invariant.going.uncounted whole c.in-WriteFailed.ensures.steps)
 
 pub returns-in-NoMemory : goal.returns-in-NoMemory
@@ -118,6 +118,7 @@ returns-in-Ok g c =
     let sink = sink_seen (g.O.Sink.taken c.say_farewell.new.output) (g.O.Sink.faults c.say_farewell.new.output) (g.O.Sink.writes c.say_farewell.new.output) in
     farewell_written old mid new sink server next c.loop-taken.taken 1099511627776 n buffer c.in-Faulty.fault c.loop-taken.invariant.going.so_far read
     (subst (λ (piece : List ℕ). TakesPiece server next piece (HasFault c.in-Faulty.fault) mid.sink new.sink) whole c.in-Faulty.ensures.takes) c.in-Ok.ensures
+    (all_then {old = old} {mid = mid} {server = server} {next = next} c.loop-taken.invariant.going.so_far c.loop-taken.invariant.going.counted whole c.in-Faulty.ensures.counted)
     (uncounted_then {old = old} {mid = mid} {server = server} c.loop-taken.invariant.going.so_far c.loop-taken.invariant.going.uncounted whole c.in-Faulty.ensures.steps)
 
 pub returns-in-Err-Failed : goal.returns-in-Err-Failed
@@ -141,6 +142,7 @@ returns-in-Err-Failed g c =
     farewell_cut old mid new sink server next c.loop-taken.taken 1099511627776 n buffer c.in-Faulty.fault c.loop-taken.invariant.going.so_far read
     (subst (λ (piece : List ℕ). TakesPiece server next piece (HasFault c.in-Faulty.fault) mid.sink new.sink) whole c.in-Faulty.ensures.takes)
     (subst (λ (stop : WriteStop). WritingEndsAs new.sink sink (frame_of_reply (fault_log c.in-Faulty.fault.number c.in-Faulty.fault.offset)) (Err stop)) c.in-Err-Failed.field-0-is c.in-Err-Failed.ensures)
+    (first_of_all (all_then {old = old} {mid = mid} {server = server} {next = next} c.loop-taken.invariant.going.so_far c.loop-taken.invariant.going.counted whole c.in-Faulty.ensures.counted))
     (uncounted_then {old = old} {mid = mid} {server = server} c.loop-taken.invariant.going.so_far c.loop-taken.invariant.going.uncounted whole c.in-Faulty.ensures.steps)
 
 pub returns-in-Err-Memory : goal.returns-in-Err-Memory
@@ -187,6 +189,7 @@ loop-taken-preserved g c =
     record {
       going = going_more old mid new server next c.loop-taken.taken 1099511627776 n room buffer c.loop-taken.invariant.going.so_far c.loop-taken-test.true (g.met.I.Source.sized c.loop-taken.input) size within c.min-room.ensures
           c.in-Some.ensures.takes on answered
+          (counts_more {old = old} {mid = mid} {server = server} {next = next} _ _ _ c.loop-taken.invariant.going.so_far answered c.loop-taken.invariant.going.counted whole c.in-Answered.ensures.counted)
           (uncounted_more {old = old} {mid = mid} {server = server} {next = next} c.loop-taken.invariant.going.so_far answered c.loop-taken.invariant.going.uncounted whole c.in-Answered.ensures.steps);
       few = omega (arith, within, c.min-room.ensures, c.loop-taken-test.true);
       wide = refilled c.loop-taken.buf buffer room (1099511627776 - c.loop-taken.taken) c.loop-taken.invariant.wide c.min-room.ensures c.read.auto.buf;
@@ -195,14 +198,17 @@ loop-taken-preserved g c =
 pub returns-in-End : goal.returns-in-End
 returns-in-End g c =
     input_ends _ _ _ _ _ 1099511627776 _ c.loop-taken.invariant.going.so_far c.loop-taken-test.true c.in-End.ensures.takes c.in-End.ensures.counts c.in-End.ensures.notes refl
+    (all_yet c.loop-taken.invariant.going.so_far c.loop-taken.invariant.going.counted)
     (uncounted_yet c.loop-taken.invariant.going.so_far c.loop-taken.invariant.going.uncounted)
 
 pub returns-in-Failed : goal.returns-in-Failed
 returns-in-Failed g c =
     read_fails _ _ _ _ _ 1099511627776 _ c.loop-taken.invariant.going.so_far c.loop-taken-test.true c.in-Failed.ensures.takes c.in-Failed.ensures.counts c.in-Failed.ensures.notes refl
+    (all_yet c.loop-taken.invariant.going.so_far c.loop-taken.invariant.going.counted)
     (uncounted_yet c.loop-taken.invariant.going.so_far c.loop-taken.invariant.going.uncounted)
 
 pub returns : goal.returns
 returns g c =
     takes_most _ _ _ _ 1099511627776 c.loop-taken.invariant.going.so_far (omega (arith, c.loop-taken.invariant.few))
+    (all_yet c.loop-taken.invariant.going.so_far c.loop-taken.invariant.going.counted)
     (uncounted_yet c.loop-taken.invariant.going.so_far c.loop-taken.invariant.going.uncounted)

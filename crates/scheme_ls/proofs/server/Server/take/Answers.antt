@@ -3,10 +3,11 @@ use Rattle.std.specs.declared.vec.Vec.{Vec}
 use Rattle.std.specs.declared.alloc.Global.{Global}
 use Rattle.lsp_framing.specs.Taken.{contents}
 use Rattle.scheme_ls.specs.BodiesOutcome.{AnswersBodies, AnswersSome, EndsSession}
-use Rattle.scheme_ls.specs.PieceOutcome.{EndsCut}
+use Rattle.scheme_ls.specs.PieceOutcome.{EndsCut, serving}
 use Rattle.scheme_ls.specs.Prints.{PrintsFront, PrintsPart, sink_seen}
 use Rattle.scheme_ls.specs.Statuses.{said_exit}
 use Rattle.scheme_ls.specs.declared.server.FaultAt.{FaultAt}
+use Rattle.scheme_ls.proofs.CountLaws.{part_counts, piece_counts}
 use Rattle.scheme_ls.proofs.QuietLaws.{piece_uncounted}
 use Rattle.scheme_ls.proofs.server.Server.take.Goals as goal
 
@@ -87,3 +88,19 @@ returns-in-WriteFailed-clause-steps g c =
 pub returns-clause-steps : goal.returns-clause-steps
 returns-clause-steps g c =
     piece_uncounted c.args.self.now.deframer c.cut_piece.new.deframer _ _ c.in-Ok.cut.bodies _ _ c.in-Ok.ensures.feeds c.as_slice-bodies.ensures c.in-NoMemory.ensures.steps
+
+pub returns-in-None-clause-counted : goal.returns-in-None-clause-counted
+returns-in-None-clause-counted g c =
+    piece_counts (serving c.args.self.now.deframer c.args.self.now.session) (serving c.cut_piece.new.deframer c.answer_bodies.new.session) _ _ c.in-Ok.cut.bodies _ _ c.in-Ok.ensures.feeds c.as_slice-bodies.ensures c.in-Answered.ensures.counted
+
+pub returns-in-Answered-clause-counted : goal.returns-in-Answered-clause-counted
+returns-in-Answered-clause-counted g c =
+    piece_counts (serving c.args.self.now.deframer c.args.self.now.session) (serving c.cut_piece.new.deframer c.answer_bodies.new.session) _ _ c.in-Ok.cut.bodies _ _ c.in-Ok.ensures.feeds c.as_slice-bodies.ensures c.in-Answered.ensures.counted
+
+pub returns-in-Exited-clause-counted : goal.returns-in-Exited-clause-counted
+returns-in-Exited-clause-counted g c =
+    piece_counts (serving c.args.self.now.deframer c.args.self.now.session) (serving c.cut_piece.new.deframer c.answer_bodies.new.session) _ _ c.in-Ok.cut.bodies _ _ c.in-Ok.ensures.feeds c.as_slice-bodies.ensures c.in-Exited.ensures.counted
+
+pub returns-in-WriteFailed-clause-counted : goal.returns-in-WriteFailed-clause-counted
+returns-in-WriteFailed-clause-counted g c =
+    part_counts (serving c.args.self.now.deframer c.args.self.now.session) (serving c.cut_piece.new.deframer c.answer_bodies.new.session) _ _ c.in-Ok.cut.bodies _ _ c.in-Ok.ensures.feeds c.as_slice-bodies.ensures c.in-WriteFailed.ensures.counted

@@ -1,0 +1,162 @@
+-- The macro uses that are counted over bodies and bytes.
+use Rattle.std.proofs.Common.{◌≡◌, ℕ, zero, suc, List, [], ◌∷◌, ◌++◌, refl, sym, ap, ◌∙◌, append_assoc, append-nil, Some, None, Option, subst}
+use Rattle.std.specs.FinMap.{empty}
+use Rattle.std.specs.declared.vec.Vec.{Vec}
+use Rattle.std.specs.declared.alloc.Global.{Global}
+use Rattle.ls_base.specs.Frames.{End, IsFrames, rest}
+use Rattle.lsp_framing.specs.Feeds.{Feeds}
+use Rattle.lsp_framing.specs.Taken.{contents}
+use Rattle.lsp_framing.proofs.OneReading.{one_reading}
+use Rattle.scheme_model.specs.Session as model
+use Rattle.scheme_model.specs.Session.{Run, State, begin}
+use Rattle.session_core.specs.Asked.{Question}
+use Rattle.session_core.specs.Counted.{AreCounted}
+use Rattle.session_core.proofs.CountedLaws.{counted_then}
+use Rattle.scheme_ls.specs.BodiesOutcome.{AnswersBodies, BodiesCountAs, CountsSome, EndsSession, body_end_of}
+use Rattle.scheme_ls.specs.CountedBytes.{CountsAll, CountsFirst}
+use Rattle.scheme_ls.specs.PieceOutcome.{CountsInPiece, CountsPiece, IsOpen, Serving, TakesPiece}
+use Rattle.scheme_ls.specs.Prints.{SinkSeen}
+use Rattle.scheme_ls.specs.SessionOutput.{session_from, session_over}
+use Rattle.scheme_ls.specs.Statuses.{said_exit}
+use Rattle.scheme_ls.specs.Streams.{Streams}
+use Rattle.scheme_ls.specs.declared.answering.Exit.{Exit}
+use Rattle.scheme_ls.proofs.AnswerLaws.{AnsweredSoFar, none_yet, so_far_more}
+use Rattle.scheme_ls.proofs.PieceEndsSession.{some_end}
+use Rattle.scheme_ls.proofs.QuietLaws.{same_rest}
+use Rattle.scheme_ls.proofs.SessionSoFar.{Going, frames_so_far, going_frames}
+use Rattle.scheme_ls.proofs.Sessions.{ended_session, more_bodies, one_step, replies_of_one}
+
+-- ---- one body
+
+pub one_counted : (state : State) (body : List ℕ) (before now : ℕ) → AreCounted (one_step state body).replies before now → AreCounted (session_from state (body ∷ [])).replies before now
+one_counted state body before now c = subst (λ (rs : List (model.Reply Question)). AreCounted rs before now) (sym (replies_of_one state body)) c
+
+-- however it leaves the session
+pub end_counts : (state : State) (bodies : List (List ℕ)) (before now : ℕ) (code : Option ℕ) → AreCounted (session_from state bodies).replies before now → BodiesCountAs state bodies before now (body_end_of code)
+end_counts state bodies before now None c = c
+end_counts state bodies before now (Some zero) c = c
+end_counts state bodies before now (Some (suc n)) c = c
+
+pub one_counts_some : (state : State) (body : List ℕ) (before now : ℕ) → AreCounted (one_step state body).replies before now → CountsSome state (body ∷ []) before now
+one_counts_some state body before now c = record { first = body ∷ []; later = []; split = refl; counted = one_counted state body before now c }
+
+-- ---- several bodies
+
+-- those of bodies that don't end the session, and of those behind them
+counts_then : (state mid : State) (a b : List (List ℕ)) (before between now : ℕ) → (session_from state a).end ≡ None → mid ≡ (session_from state a).state → AreCounted (session_from state a).replies before between →
+    AreCounted (session_from mid b).replies between now → AreCounted (session_from state (a ++ b)).replies before now
+counts_then state mid a b before between now goes_on is first second =
+    let r = session_from state a in
+    let from : session_from mid b ≡ session_from r.state b = ap (λ (s : State). session_from s b) is in
+    subst (λ (run : Run Question). AreCounted run.replies before now) (sym (more_bodies a b state goes_on))
+    (counted_then r.replies (session_from r.state b).replies before between now first (subst (λ (run : Run Question). AreCounted run.replies between now) from second))
+
+-- ---- the loop over bodies
+
+-- the first of these bodies are answered and counted, and the rest isn't
+pub record CountedSoFar (state : State) (all later : List (List ℕ)) (now : State) (old new : SinkSeen) (before steps : ℕ) : Type 0 where
+  pub so_far : AnsweredSoFar state all later now old new
+  pub counted : AreCounted (session_from state so_far.first).replies before steps
+
+pub counted_none : (state : State) (all : List (List ℕ)) (a : SinkSeen) (n : ℕ) → CountedSoFar state all all state a a n n
+counted_none state all a n = record { so_far = record { first = []; split = refl; answers = none_yet state a }; counted = refl }
+
+pub counted_more : (state mid next : State) (all later : List (List ℕ)) (body : List ℕ) (old seen new : SinkSeen) (before between now : ℕ) → CountedSoFar state all (body ∷ later) mid old seen before between → AnswersBodies mid (body ∷ []) next seen new →
+    AreCounted (session_from mid (body ∷ [])).replies between now → CountedSoFar state all later next old new before now
+counted_more state mid next all later body old seen new before between now w one c = record {
+  so_far = so_far_more state mid next all later body old seen new w.so_far one;
+  counted = counts_then state mid w.so_far.first (body ∷ []) before between now w.so_far.answers.session.ends w.so_far.answers.now w.counted c;
+}
+
+pub counted_all : (state now : State) (all : List (List ℕ)) (old new : SinkSeen) (before steps : ℕ) → CountedSoFar state all [] now old new before steps → AreCounted (session_from state all).replies before steps
+counted_all state now all old new before steps w =
+    subst (λ (bodies : List (List ℕ)). AreCounted (session_from state bodies).replies before steps) (sym (append-nil w.so_far.first) ∙ w.so_far.split) w.counted
+
+pub counted_ends : (state mid : State) (all later : List (List ℕ)) (body : List ℕ) (exit : Exit) (old seen new : SinkSeen) (before between now : ℕ) → CountedSoFar state all (body ∷ later) mid old seen before between →
+    EndsSession mid (body ∷ []) (said_exit exit) seen new → AreCounted (session_from mid (body ∷ [])).replies between now → AreCounted (session_from state all).replies before now
+counted_ends state mid all later body exit old seen new before between now w one c =
+    let over = ended_session (body ∷ []) later mid (said_exit exit) one.session.ends in
+    subst (λ (bodies : List (List ℕ)). AreCounted (session_from state bodies).replies before now) w.so_far.split
+    (counts_then state mid w.so_far.first (body ∷ later) before between now w.so_far.answers.session.ends w.so_far.answers.now w.counted (subst (λ (run : Run Question). AreCounted run.replies between now) (sym over) c))
+
+pub counted_some : (state mid : State) (all later : List (List ℕ)) (body : List ℕ) (old seen : SinkSeen) (before between now : ℕ) → CountedSoFar state all (body ∷ later) mid old seen before between →
+    CountsSome mid (body ∷ []) between now → CountsSome state all before now
+counted_some state mid all later body old seen before between now w c =
+    let parts : body ∷ later ≡ c.first ++ (c.later ++ later) = ap (λ (b : List (List ℕ)). b ++ later) c.split ∙ append_assoc c.first c.later later in
+    record {
+      first = w.so_far.first ++ c.first;
+      later = c.later ++ later;
+      split = sym w.so_far.split ∙ ap (λ (b : List (List ℕ)). w.so_far.first ++ b) parts ∙ sym (append_assoc w.so_far.first c.first (c.later ++ later));
+      counted = counts_then state mid w.so_far.first c.first before between now w.so_far.answers.session.ends w.so_far.answers.now w.counted c.counted;
+    }
+
+-- ---- the bodies of a piece
+
+pub piece_counts : (old new : Serving) (piece : List ℕ) (bodies cut : List (Vec ℕ Global)) (before now : ℕ) → Feeds old.frames piece (contents cut) new.frames → bodies ≡ cut →
+    AreCounted (session_from old.state (contents bodies)).replies before now → CountsPiece old new piece before now
+piece_counts old new piece bodies cut before now feeds same c = record {
+  given = contents cut;
+  feeds = feeds;
+  counted = subst (λ (given : List (Vec ℕ Global)). AreCounted (session_from old.state (contents given)).replies before now) same c;
+}
+
+pub part_counts : (old new : Serving) (piece : List ℕ) (bodies cut : List (Vec ℕ Global)) (before now : ℕ) → Feeds old.frames piece (contents cut) new.frames → bodies ≡ cut →
+    CountsSome old.state (contents bodies) before now → CountsInPiece old new piece before now
+part_counts old new piece bodies cut before now feeds same c = record {
+  given = contents cut;
+  feeds = feeds;
+  counts = subst (λ (given : List (Vec ℕ Global)). CountsSome old.state (contents given) before now) same c;
+}
+
+-- ---- all bytes so far
+
+pub all_yet : {old mid : Streams} {server : Serving} {taken most before now : ℕ} (w : Going old mid server taken most) → AreCounted (session_over w.bodies).replies before now → CountsAll w.bytes before now
+all_yet {old = old} {mid = mid} {server = server} {taken = taken} {most = most} w c = record { bodies = w.bodies; end = rest w.kept; frames = going_frames old mid server taken most w; counted = c }
+
+-- with one piece more
+pub all_then : {old mid : Streams} {server next : Serving} {taken most before between now : ℕ} {read piece : List ℕ} (w : Going old mid server taken most) → AreCounted (session_over w.bodies).replies before between → read ≡ piece →
+    CountsPiece server next read between now → CountsAll (w.bytes ++ piece) before now
+all_then {server = server} {next = next} {before = before} {between = between} {now = now} {piece = piece} w so_far same c =
+    let p = subst (λ (q : List ℕ). CountsPiece server next q between now) same c in
+    let all = some_end next.frames.end (w.bytes ++ piece) (w.bodies ++ p.given) (p.feeds w.bytes w.bodies w.after).frames in
+    record {
+      bodies = w.bodies ++ p.given;
+      end = all.0;
+      frames = all.1;
+      counted = counts_then (begin empty) server.state w.bodies p.given before between now w.answers.session.ends w.answers.now so_far p.counted;
+    }
+
+-- with a part of one
+pub first_then : {old mid : Streams} {server next : Serving} {taken most before between now : ℕ} {read piece : List ℕ} (w : Going old mid server taken most) → AreCounted (session_over w.bodies).replies before between → read ≡ piece →
+    CountsInPiece server next read between now → CountsFirst (w.bytes ++ piece) before now
+first_then {server = server} {next = next} {before = before} {between = between} {now = now} {piece = piece} w so_far same c =
+    let p = subst (λ (q : List ℕ). CountsInPiece server next q between now) same c in
+    let all = some_end next.frames.end (w.bytes ++ piece) (w.bodies ++ p.given) (p.feeds w.bytes w.bodies w.after).frames in
+    record {
+      bodies = w.bodies ++ p.counts.first;
+      later = p.counts.later;
+      end = all.0;
+      frames = subst (λ (bodies : List (List ℕ)). IsFrames (w.bytes ++ piece) bodies all.0)
+          (ap (λ (given : List (List ℕ)). w.bodies ++ given) p.counts.split ∙ sym (append_assoc w.bodies p.counts.first p.counts.later)) all.1;
+      counted = counts_then (begin empty) server.state w.bodies p.counts.first before between now w.answers.session.ends w.answers.now so_far p.counts.counted;
+    }
+
+pub first_of_all : {bytes : List ℕ} {before now : ℕ} → CountsAll bytes before now → CountsFirst bytes before now
+first_of_all {bytes = bytes} c = record {
+  bodies = c.bodies;
+  later = [];
+  end = c.end;
+  frames = subst (λ (bodies : List (List ℕ)). IsFrames bytes bodies c.end) (sym (append-nil c.bodies)) c.frames;
+  counted = c.counted;
+}
+
+-- the session goes on after the piece
+pub counts_more : {old mid : Streams} {server next : Serving} {taken most : ℕ} {read piece : List ℕ} {seen sink : SinkSeen} (before between now : ℕ) (w : Going old mid server taken most) (answered : TakesPiece server next piece IsOpen seen sink) →
+    AreCounted (session_over w.bodies).replies before between → read ≡ piece → CountsPiece server next read between now → AreCounted (session_over (w.bodies ++ answered.given)).replies before now
+counts_more {server = server} {next = next} {piece = piece} before between now w answered so_far same c =
+    let p = subst (λ (q : List ℕ). CountsPiece server next q between now) same c in
+    let all = some_end next.frames.end (w.bytes ++ piece) (w.bodies ++ p.given) (p.feeds w.bytes w.bodies w.after).frames in
+    let frames = frames_so_far (w.bytes ++ piece) (w.bodies ++ answered.given) next.frames (rest answered.end.0) (answered.feeds w.bytes w.bodies w.after) answered.end.1 in
+    let one = (one_reading (w.bytes ++ piece) (w.bodies ++ p.given) (w.bodies ++ answered.given) all.0 (rest answered.end.0) all.1 frames).0 in
+    let counted = subst (λ (given : List (List ℕ)). AreCounted (session_from server.state given).replies between now) (same_rest w.bodies p.given answered.given one) p.counted in
+    counts_then (begin empty) server.state w.bodies answered.given before between now w.answers.session.ends w.answers.now so_far counted
