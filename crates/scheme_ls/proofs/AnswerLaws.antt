@@ -155,16 +155,6 @@ pub record AnsweredSoFar (state : State) (all rest : List (List ℕ)) (now : Sta
   pub split : first ++ rest ≡ all
   pub answers : AnswersBodies state first now old new
 
-pub so_far_none : (state : State) (all : List (List ℕ)) (a : SinkSeen) → AnsweredSoFar state all all state a a
-so_far_none state all a = record { first = []; split = refl; answers = none_yet state a }
-
-pub so_far_more : (state mid next : State) (all rest : List (List ℕ)) (body : List ℕ) (old between new : SinkSeen) → AnsweredSoFar state all (body ∷ rest) mid old between → AnswersBodies mid (body ∷ []) next between new → AnsweredSoFar state all rest next old new
-so_far_more state mid next all rest body old between new w one = record {
-  first = w.first ++ (body ∷ []);
-  split = append_assoc w.first (body ∷ []) rest ∙ w.split;
-  answers = answers_then state mid next w.first (body ∷ []) old between new w.answers one;
-}
-
 pub so_far_all : (state now : State) (all : List (List ℕ)) (old new : SinkSeen) → AnsweredSoFar state all [] now old new → AnswersBodies state all now old new
 so_far_all state now all old new w = subst (λ (bodies : List (List ℕ)). AnswersBodies state bodies now old new) (sym (append-nil w.first) ∙ w.split) w.answers
 

@@ -20,7 +20,7 @@ use Rattle.scheme_ls.specs.SessionOutput.{session_from, session_over}
 use Rattle.scheme_ls.specs.Statuses.{said_exit}
 use Rattle.scheme_ls.specs.Streams.{Streams}
 use Rattle.scheme_ls.specs.declared.answering.Exit.{Exit}
-use Rattle.scheme_ls.proofs.AnswerLaws.{AnsweredSoFar, none_yet, so_far_more}
+use Rattle.scheme_ls.proofs.AnswerLaws.{AnsweredSoFar, answers_then, none_yet}
 use Rattle.scheme_ls.proofs.PieceEndsSession.{some_end}
 use Rattle.scheme_ls.proofs.QuietLaws.{same_rest}
 use Rattle.scheme_ls.proofs.SessionSoFar.{Going, frames_so_far, going_frames}
@@ -64,7 +64,11 @@ counted_none state all a n = record { so_far = record { first = []; split = refl
 pub counted_more : (state mid next : State) (all later : List (List ℕ)) (body : List ℕ) (old seen new : SinkSeen) (before between now : ℕ) → CountedSoFar state all (body ∷ later) mid old seen before between → AnswersBodies mid (body ∷ []) next seen new →
     AreCounted (session_from mid (body ∷ [])).replies between now → CountedSoFar state all later next old new before now
 counted_more state mid next all later body old seen new before between now w one c = record {
-  so_far = so_far_more state mid next all later body old seen new w.so_far one;
+  so_far = record {
+    first = w.so_far.first ++ (body ∷ []);
+    split = append_assoc w.so_far.first (body ∷ []) later ∙ w.so_far.split;
+    answers = answers_then state mid next w.so_far.first (body ∷ []) old seen new w.so_far.answers one;
+  };
   counted = counts_then state mid w.so_far.first (body ∷ []) before between now w.so_far.answers.session.ends w.so_far.answers.now w.counted c;
 }
 

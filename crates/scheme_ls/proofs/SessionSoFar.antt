@@ -81,6 +81,7 @@ going_first a server most kept after end state = record {
 
 -- nothing was taken and nothing counted
 pub goes_first : (a : Streams) (server : Serving) (most : ℕ) (kept : List ℕ) (n : ℕ) → After [] [] server.frames → server.frames.end ≡ Some (rest kept) → server.state ≡ begin empty → GoesUncounted a a server 0 most n n
+unfolding going_first
 goes_first a server most kept n after end state = record { so_far = going_first a server most kept after end state; counted = refl; uncounted = λ q. refl }
 
 -- ---- the bytes so far
