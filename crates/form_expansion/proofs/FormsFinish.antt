@@ -168,6 +168,7 @@ pub record Finishing (old new : Bench) (known : Known) (unit form : ℕ) (l : Le
   pub number : state.unit ≡ unit
   pub at_work : state.form ≡ form
   pub kept : KeepsOthers old new unit form s state
+  pub uses : (m : ℕ) → (m ≡ form → ⊥) → state.uses m ≡ s.uses m
   pub table : state.table ≡ s.table
   pub parts : List Part
   pub stand : PartsStand new.work unit form (map (λ (i : ExpandedItem). i.part) items) (as_parts parts)
@@ -208,6 +209,7 @@ module _ (b : Bench) (u : UnitScope) (known : Known) (unit form : ℕ) (ls : Lis
         number = stay.unit ∙ own;
         at_work = met_form form known l.uses s;
         kept = others_kept b (with_scope b u) g.trees g.names refl unit form s met stay;
+        uses = λ m apart. (stay.counts m apart).uses;
         table = met_table known form l.uses s;
         parts = [];
         stand = tt;
@@ -222,9 +224,9 @@ module _ (b : Bench) (u : UnitScope) (known : Known) (unit form : ℕ) (ls : Lis
 -- ---- a form that was broken before
 
 pub broken_before : (b : Bench) (known : Known) (unit form : ℕ) (ls : List Frames) (s : ScopedState) (notes : List (Note FramedIdent)) (d : code.Declared) (r : Passing) (total : ℕ) (e : FormFault) (k : code_form.UnitForm) → UnitStands b.work b.scope ls s notes → s.unit ≡ unit →
-    IsDeclared b.work b.region unit form s d r → total ≤ max_total → d.fault ≡ Some e → k.fault ≡ Some e → k.trace.definitions ≡ d.trace.definitions → FinishesForm b b known unit form r s total total k
-broken_before b known unit form ls s notes d (Ok l) total e k stands own h few was fault told = absurd (subst (λ (f : Option FormFault). IsSetAside b.work b.region unit form d f (Ok l)) was h.set_aside)
-broken_before b known unit form ls s notes d (Err x) total e k stands own h few was fault told =
+    IsDeclared b.work b.region unit form s d r → total ≤ max_total → d.fault ≡ Some e → k.fault ≡ Some e → k.trace.definitions ≡ d.trace.definitions → (steps : ℕ) → FinishesForm b b known unit form r s total total steps steps k
+broken_before b known unit form ls s notes d (Ok l) total e k stands own h few was fault told steps = absurd (subst (λ (f : Option FormFault). IsSetAside b.work b.region unit form d f (Ok l)) was h.set_aside)
+broken_before b known unit form ls s notes d (Err x) total e k stands own h few was fault told steps =
     record {
       finishes = record {
         layout = ls;
@@ -233,6 +235,7 @@ broken_before b known unit form ls s notes d (Err x) total e k stands own h few 
         stands = unit_turned b.work b.scope ls s form notes stands;
         number = own;
         kept = λ m c q apart is. declared_turned b.work b.region unit m form s c q is;
+        uses = λ m apart. refl;
         table = refl;
         result = Err x;
         met = (searched known).counted (turned form s);
@@ -243,15 +246,16 @@ broken_before b known unit form ls s notes d (Err x) total e k stands own h few 
       };
       goes = λ fs c. record { counted = turned_counted known form s fs ∙ c.counted; over = λ many. not_over total few many; whole = λ still. (Err x, refl, refl) };
       counted = refl;
+      steps = refl;
     }
 
 pub broken_first : (b : Bench) (known : Known) (unit form : ℕ) (ls : List Frames) (s : ScopedState) (notes : List (Note FramedIdent)) (d : code.Declared) (r : Passing) (total : ℕ) (k : code_form.UnitForm) → UnitStands b.work b.scope ls s notes → s.unit ≡ unit →
-    IsDeclared b.work b.region unit form s d r → total ≤ max_total → is_some d.fault ≡ true → k.fault ≡ d.fault → k.trace.definitions ≡ d.trace.definitions → FinishesForm b b known unit form r s total total k
-broken_first b known unit form ls s notes d r total k stands own h few is fault told = by d.fault refl is
+    IsDeclared b.work b.region unit form s d r → total ≤ max_total → is_some d.fault ≡ true → k.fault ≡ d.fault → k.trace.definitions ≡ d.trace.definitions → (steps : ℕ) → FinishesForm b b known unit form r s total total steps steps k
+broken_first b known unit form ls s notes d r total k stands own h few is fault told steps = by d.fault refl is
   where
-    by : (f : Option FormFault) → d.fault ≡ f → is_some f ≡ true → FinishesForm b b known unit form r s total total k
+    by : (f : Option FormFault) → d.fault ≡ f → is_some f ≡ true → FinishesForm b b known unit form r s total total steps steps k
     by None was is = absurd cc
-    by (Some e) was is = broken_before b known unit form ls s notes d r total e k stands own h few was (fault ∙ was) told
+    by (Some e) was is = broken_before b known unit form ls s notes d r total e k stands own h few was (fault ∙ was) told steps
 
 -- ---- one item more
 
@@ -293,6 +297,9 @@ module _ (known : Known) (old b c : Bench) (unit form : ℕ) (l : Left Identifie
 
       step_kept : KeepsOthers old c unit form s step.1
       step_kept m d r apart is = others_kept b c trees names same unit form h.state step.1 (expanded_stays form known i h.state) m d r apart (h.kept m d r apart is)
+
+      step_uses : (m : ℕ) → (m ≡ form → ⊥) → step.1.uses m ≡ s.uses m
+      step_uses m apart = ((expanded_stays form known i h.state).counts m apart).uses ∙ h.uses m apart
 
       step_table : step.1.table ≡ s.table
       step_table = expanded_table known form i h.state ∙ h.table
@@ -350,6 +357,7 @@ module _ (known : Known) (old b c : Bench) (unit form : ℕ) (l : Left Identifie
             number = step_unit;
             at_work = item_form form known i h.state;
             kept = step_kept;
+            uses = step_uses;
             table = step_table;
             parts = h.parts ++ e.0 ∷ [];
             stand =
@@ -365,8 +373,8 @@ module _ (known : Known) (old b c : Bench) (unit form : ℕ) (l : Left Identifie
 
       -- it is broken, so nothing behind it is expanded
       broken_now : (e : FormFault) (q : code_form.UnitForm) (more : ℕ) → more + before_it.nodes ≡ total + after.nodes → q.fault ≡ Some e → q.trace.definitions ≡ next.definitions →
-          Expands b.work c.work b.region b.scope c.scope before_it after h.layout form next h.notes (Err (fault.At e)) step → FinishesForm old c known unit form (Ok l) s start more q
-      broken_now e q more nodes told defines x =
+          Expands b.work c.work b.region b.scope c.scope before_it after h.layout form next h.notes (Err (fault.At e)) step → (from to : ℕ) → to + s.uses form ≡ from + after.uses → FinishesForm old c known unit form (Ok l) s start more from to q
+      broken_now e q more nodes told defines x from to steps =
           let goes = x.2 in
           record {
             finishes = record {
@@ -376,6 +384,7 @@ module _ (known : Known) (old b c : Bench) (unit form : ℕ) (l : Left Identifie
               stands = goes.stands;
               number = step_unit;
               kept = step_kept;
+              uses = step_uses;
               table = step_table;
               result = Err x.0;
               met = (searched known).counted step.1;
@@ -390,6 +399,7 @@ module _ (known : Known) (old b c : Bench) (unit form : ℕ) (l : Left Identifie
               whole = λ still. (Err x.0, step_fault more nodes goes.counts fs have x.0 x.1 still, refl);
             };
             counted = refl;
+            steps = steps ∙ ap (λ n. from + n) goes.counts.uses;
           }
 
 -- ---- a form that was expanded
@@ -406,6 +416,7 @@ module _ (old b : Bench) (known : Known) (unit form : ℕ) (l : Left Identifier)
         stands = h.stands;
         number = h.number;
         kept = h.kept;
+        uses = h.uses;
         table = h.table;
         result = Ok (as_parts h.parts);
         met = (searched known).counted (turned form t);
@@ -420,9 +431,9 @@ module _ (old b : Bench) (known : Known) (unit form : ℕ) (l : Left Identifier)
       }
 
   -- nothing is left, or work on the unit ended
-  form_finished : (nat_lt max_total total ≡ false → drop k l.items ≡ []) → FinishesForm old b known unit form (Ok l) s start total (record { items = items; trace = trace; fault = None })
+  form_finished : (nat_lt max_total total ≡ false → drop k l.items ≡ []) → (from to : ℕ) → to + s.uses form ≡ from + budget.uses → FinishesForm old b known unit form (Ok l) s start total from to (record { items = items; trace = trace; fault = None })
   unfolding finished_so
-  form_finished all = record {
+  form_finished all from to steps = record {
     finishes = finished_so;
     goes = λ fs have.
         let g = h.goes fs have in record {
@@ -435,6 +446,7 @@ module _ (old b : Bench) (known : Known) (unit form : ℕ) (l : Left Identifier)
           );
         };
     counted = ap (λ (t : ScopedState). (searched known).counted t) (same_turned h.state form h.at_work);
+    steps = steps ∙ ap (λ n. from + n) h.counts.uses;
   }
 
 -- ---- the loop over a form's items
@@ -456,9 +468,9 @@ Continues old b unit form d k start total budget trace items = (known : Known) (
     IsDeclared old.work old.region unit form s d (Ok l) → Finishing old b known unit form l s k start total budget trace items
 
 -- what comes of the form, from each state that it may begin in
-abbrev pub Finished : (old b : Bench) (unit form : ℕ) → code.Declared → (start total : ℕ) → code_form.UnitForm → Type 0
-Finished old b unit form d start total k = (known : Known) (ls : List Frames) (s : ScopedState) (notes : List (Note FramedIdent)) (r : Passing) → Knows old.scope.libraries known → UnitStands old.work old.scope ls s notes → s.unit ≡ unit →
-    IsDeclared old.work old.region unit form s d r → FinishesForm old b known unit form r s start total k
+abbrev pub Finished : (old b : Bench) (unit form : ℕ) → code.Declared → (start total : ℕ) → (from to : ℕ) → code_form.UnitForm → Type 0
+Finished old b unit form d start total from to k = (known : Known) (ls : List Frames) (s : ScopedState) (notes : List (Note FramedIdent)) (r : Passing) → Knows old.scope.libraries known → UnitStands old.work old.scope ls s notes → s.unit ≡ unit →
+    IsDeclared old.work old.region unit form s d r → FinishesForm old b known unit form r s start total from to k
 
 -- the call that meets the form's uses
 abbrev pub Meets : (b : Bench) (u : UnitScope) (form : ℕ) (budget : Budget) (trace next : Trace) → List code_waiting.WaitingUse → Type 0
@@ -542,13 +554,13 @@ module _ (old b : Bench) (unit form : ℕ) (d : code.Declared) (none : d.fault �
         (call known f.layout f.state f.notes i.item (stay.libraries known knows) f.stands f.counts i.stands)
 
     pub at_finishes : (e : FormFault) (more : ℕ) → more + before_it.nodes ≡ total + after.nodes → nat_lt max_total total ≡ false → Step b c form before_it after trace next x (Err (fault.At e)) →
-        (q : code_form.UnitForm) → q.fault ≡ Some e → q.trace.definitions ≡ next.definitions → Finished old c unit form d start more q
-    at_finishes e more nodes few call q told defines known ls s notes (Err z) knows stands own h = no_fault old.work old.region unit form s d z h none
-    at_finishes e more nodes few call q told defines known ls s notes (Ok l) knows stands own h =
+        (q : code_form.UnitForm) → q.fault ≡ Some e → q.trace.definitions ≡ next.definitions → (from to : ℕ) → to + d.budget.uses ≡ from + after.uses → Finished old c unit form d start more from to q
+    at_finishes e more nodes few call q told defines from to steps known ls s notes (Err z) knows stands own h = no_fault old.work old.region unit form s d z h none
+    at_finishes e more nodes few call q told defines from to steps known ls s notes (Ok l) knows stands own h =
         let f = so known ls s notes l knows stands own h in
         let i = item_is known s l h f in
         broken_now known old b c unit form l s k start total before_it after trace next items f i.item trees names same i.there few e q more nodes told defines
-        (call known f.layout f.state f.notes i.item (stay.libraries known knows) f.stands f.counts i.stands)
+        (call known f.layout f.state f.notes i.item (stay.libraries known knows) f.stands f.counts i.stands) from to (ap (λ n. to + n) (sym h.counts.uses) ∙ steps)
 
     -- what the call leaves, by the state that there is
     module _ (can : CanFinish old unit form d) where
@@ -579,14 +591,15 @@ module _ (old b : Bench) (unit form : ℕ) (d : code.Declared) (none : d.fault �
 -- ---- all items of a form, or as many as are expanded before work on the unit ends
 
 module _ (old b : Bench) (unit form : ℕ) (d : code.Declared) (none : d.fault ≡ None) (k start total : ℕ) (budget : Budget) (trace : Trace) (items : List ExpandedItem) (so : Continues old b unit form d k start total budget trace items) where
-  pub finishes_by : (nat_lt max_total total ≡ false → length d.aside ≤ k) → Finished old b unit form d start total (record { items = items; trace = trace; fault = None })
-  finishes_by all known ls s notes (Err e) knows stands own h = no_fault old.work old.region unit form s d e h none
-  finishes_by all known ls s notes (Ok l) knows stands own h =
+  pub finishes_by : (nat_lt max_total total ≡ false → length d.aside ≤ k) → (from to : ℕ) → to + d.budget.uses ≡ from + budget.uses → Finished old b unit form d start total from to (record { items = items; trace = trace; fault = None })
+  finishes_by all from to steps known ls s notes (Err e) knows stands own h = no_fault old.work old.region unit form s d e h none
+  finishes_by all from to steps known ls s notes (Ok l) knows stands own h =
       form_finished old b known unit form l s k start total budget trace items (so known ls s notes l knows stands own h)
       (λ few.
       let long = matched_length (ItemFor old.work old.region unit form) d.aside l.items (set_aside_of old.work old.region unit form s d l h none).1 in
       let there = all few in
       dropped_behind l.items k (omega (arith, there, long)))
+      from to (ap (λ n. to + n) (sym h.counts.uses) ∙ steps)
 
   -- what a loop over the items knows of the scopes
   pub can_go_on : CanFinish old unit form d → CanDeclare b.work b.scope form budget trace

@@ -12,6 +12,7 @@ use Rattle.scheme_model.specs.Expression.{expand}
 use Rattle.scheme_model.specs.UnitExpansion.{Formed, LeftOf, max_total, nodes_in, finished}
 use Rattle.scheme_model.specs.Requirements.{Known}
 use Rattle.scheme_model.specs.ScopedExpansion.{ScopedState}
+use Rattle.macro_uses.specs.MacroUses.{total_of}
 use Rattle.syntax_tree.specs.Names.{Names, KeepsNames}
 use Rattle.syntax_tree.specs.Works.{KeepsTrees}
 use Rattle.syntax_tree.specs.declared.trees.Work.{Work}
@@ -39,7 +40,7 @@ use Rattle.form_expansion.specs.declared.forms.Declared as code
 use Rattle.form_expansion.proofs.DeclaredForms.{declared_on}
 use Rattle.form_expansion.proofs.FormAtWork.{unit_apart}
 use Rattle.form_expansion.proofs.FormsFinish.{Finished, dropped_at}
-use Rattle.form_expansion.proofs.UnitForms.{among}
+use Rattle.form_expansion.proofs.UnitForms.{among, step_total}
 use Rattle.form_expansion.proofs.UnitWalk.{behind, behind_none, behind_twice, finish_over, finish_on}
 
 -- ---- lists
@@ -141,8 +142,8 @@ can_finish_at b unit place ds h n same d at = subst (λ (m : ℕ). CanFinish b u
 
 -- as it is left by the call that expands the form
 pub finished_at : (b c : Bench) (unit place : ℕ) (ds : List code.Declared) (cs : List code_form.UnitForm) (k : code_form.UnitForm) (h : AreFinished b unit place ds cs) → KeepsTrees b.work c.work → KeepsNames b.work.symbols c.work.symbols →
-    (d : code.Declared) → slice_get ds place ≡ Some d → (start total : ℕ) → Finished b c unit place d start total k → AreFinished c unit (suc place) ds (cs ++ k ∷ [])
-finished_at b c unit place ds cs k h trees names d at start total so =
+    (d : code.Declared) → slice_get ds place ≡ Some d → (start total : ℕ) (from to : ℕ) → Finished b c unit place d start total from to k → AreFinished c unit (suc place) ds (cs ++ k ∷ [])
+finished_at b c unit place ds cs k h trees names d at start total from to so =
     let was = h.held in
     let x = was.held place d (omega arith) at in
     next_finished b c unit place ds cs k h trees names (so (known_by b.scope.libraries) was.layout was.state was.notes x.0 (λ l _. refl) was.stands was.number x.1).finishes
@@ -182,6 +183,7 @@ blank_to b w unit place ds h d k at none blank =
       stands = unit_apart b.work b.scope w h.layout h.state h.notes h.stands;
       number = h.number;
       kept = λ m c r apart is. is;
+      uses = λ m apart. refl;
       table = refl;
       result = Ok no_parts;
       met = record { locals = 0; uses = 0; nodes = 0; keywords = []; met = [] };
@@ -199,7 +201,7 @@ blank_to b w unit place ds h d k at none blank =
 
 -- ---- the definition's forms, as they are finished
 
-module _ (known : Known) (unit : ℕ) (rs : List (LeftOf Identifier)) (s : ScopedState) (rise : Rise 0 (numbers_of rs)) (ds : List code.Declared) where
+module _ (known : Known) (unit : ℕ) (rs : List (LeftOf Identifier)) (s : ScopedState) (rise : Rise 0 (numbers_of rs)) (ds : List code.Declared) (first : ℕ) where
   -- what is still to come of forms
   abbrev to_come : List (LeftOf Identifier) → ScopedState → Option (List Formed) × ScopedState
   to_come rest t = finished (searched known) (expand (searched known) enough_turns) [] (numbers_of rs) rest t
@@ -212,7 +214,7 @@ module _ (known : Known) (unit : ℕ) (rs : List (LeftOf Identifier)) (s : Scope
     pub goes : to_come rs s ≡ behind gone (to_come rest t)
 
   -- so many are finished, or as many as it took to count too many nodes
-  pub record AllSo (b : Bench) (total place : ℕ) (cs : List code_form.UnitForm) : Type 0 where
+  pub record AllSo (b : Bench) (total place now : ℕ) (cs : List code_form.UnitForm) : Type 0 where
     pub base : AreFinished b unit place ds cs
     pub front : List (LeftOf Identifier)
     pub rest : List (LeftOf Identifier)
@@ -220,8 +222,9 @@ module _ (known : Known) (unit : ℕ) (rs : List (LeftOf Identifier)) (s : Scope
     pub counted : nodes_in (searched known) (numbers_of rs) base.held.state ≡ total
     pub over : nat_lt max_total total ≡ true → to_come rs s ≡ (None, base.held.state)
     pub on : nat_lt max_total total ≡ false → GoneOn b place cs rest base.held.state
+    pub steps : now + total_of s.uses (numbers_of rs) ≡ first + total_of base.held.state.uses (numbers_of rs)
 
-  pub none_so : (b : Bench) (h : FormsHeld b unit 0 ds) (total : ℕ) → h.state ≡ s → CanFinishAll b unit known rs s total ds → AllSo b total 0 []
+  pub none_so : (b : Bench) (h : FormsHeld b unit 0 ds) (total : ℕ) → h.state ≡ s → CanFinishAll b unit known rs s total ds → AllSo b total 0 first []
   unfolding none_finished
   none_so b h total same can = record {
     base = none_finished b unit ds h;
@@ -236,9 +239,10 @@ module _ (known : Known) (unit : ℕ) (rs : List (LeftOf Identifier)) (s : Scope
       left = subst (λ (t : ScopedState). AreDeclared b.work b.region unit 0 t ds rs) (sym same) can.forms;
       goes = ap (λ (t : ScopedState). to_come rs t) (sym same) ∙ sym (behind_none (to_come rs h.state));
     };
+    steps = ap (λ (t : ScopedState). first + total_of t.uses (numbers_of rs)) (sym same);
   }
 
-  module _ (b : Bench) (total place : ℕ) (cs : List code_form.UnitForm) (a : AllSo b total place cs) (few : nat_lt max_total total ≡ false) (d : code.Declared) (at : slice_get ds place ≡ Some d) (k : code_form.UnitForm) where
+  module _ (b : Bench) (total place so_many : ℕ) (cs : List code_form.UnitForm) (a : AllSo b total place so_many cs) (few : nat_lt max_total total ≡ false) (d : code.Declared) (at : slice_get ds place ≡ Some d) (k : code_form.UnitForm) where
     abbrev was : ScopedState
     was = a.base.held.state
 
@@ -246,7 +250,7 @@ module _ (known : Known) (unit : ℕ) (rs : List (LeftOf Identifier)) (s : Scope
     so_far = a.on few
 
     -- one that isn't expanded
-    blank_so : (w : FormAtWork) → IsUntouched d → IsBlank k → AreDeclared b.work b.region unit (suc place) was (drop (suc place) ds) a.rest → AllSo (at_work b w) total (suc place) (cs ++ k ∷ [])
+    blank_so : (w : FormAtWork) → IsUntouched d → IsBlank k → AreDeclared b.work b.region unit (suc place) was (drop (suc place) ds) a.rest → AllSo (at_work b w) total (suc place) so_many (cs ++ k ∷ [])
     unfolding next_finished blank_to
     blank_so w none blank left =
         let g = grows_itself b.work b.region in
@@ -258,11 +262,12 @@ module _ (known : Known) (unit : ℕ) (rs : List (LeftOf Identifier)) (s : Scope
           counted = a.counted;
           over = a.over;
           on = λ still. record { gone = so_far.gone; forms = forms_blank b.work unit 0 cs so_far.gone k blank so_far.forms; left = left; goes = so_far.goes };
+          steps = a.steps;
         }
 
     -- one that is
     module _ (c : Bench) (after : ℕ) (trees : KeepsTrees b.work c.work) (names : KeepsNames b.work.symbols c.work.symbols) (r : LeftOf Identifier) (rest : List (LeftOf Identifier)) (parted : a.front ++ r ∷ rest ≡ rs) (others : a.rest ≡ r ∷ rest) (here : r.0 ≡ place)
-        (left : AreDeclared b.work b.region unit (suc place) was (drop (suc place) ds) rest) (f : FinishesForm b c known unit place r.1 was total after k) where
+        (left : AreDeclared b.work b.region unit (suc place) was (drop (suc place) ds) rest) (to : ℕ) (f : FinishesForm b c known unit place r.1 was total after so_many to k) where
       abbrev now : ScopedState
       now = f.finishes.state
 
@@ -301,7 +306,12 @@ module _ (known : Known) (unit : ℕ) (rs : List (LeftOf Identifier)) (s : Scope
           subst (λ (n : ℕ). IsResult c.work unit n k f.finishes.result ((searched known).counted now)) (sym here)
           (subst (λ (m : Counted). IsResult c.work unit place k f.finishes.result m) f.counted f.finishes.result_is)
 
-      next_so : AllSo c after (suc place) (cs ++ k ∷ [])
+      -- each macro use was a step
+      next_steps : to + total_of s.uses (numbers_of rs) ≡ first + total_of now.uses (numbers_of rs)
+      next_steps =
+          let more = step_total place was.uses now.uses f.finishes.uses 0 (numbers_of rs) rise counting.among in let here = f.steps in let before = a.steps in omega (arith, more, here, before)
+
+      next_so : AllSo c after (suc place) to (cs ++ k ∷ [])
       unfolding next_finished
       next_so =
           let count : r.0 ≡ 0 + length cs = let e = a.base.count in omega (arith, e, here) in
@@ -318,27 +328,29 @@ module _ (known : Known) (unit : ℕ) (rs : List (LeftOf Identifier)) (s : Scope
               left = declared_on b c unit (suc place) (suc place + length (drop (suc place) ds)) was now (λ m e q from low is. f.finishes.kept m e q (λ same. omega (arith, from, same)) is) (suc place) (drop (suc place) ds) rest (omega arith) (omega arith) left;
               goes = next_on still;
             };
+            steps = next_steps;
           }
 
     next_is : drop place ds ≡ d ∷ drop (suc place) ds
     next_is = dropped_at ds place d at
 
     -- either
-    pub one_so : (c : Bench) (after : ℕ) → KeepsTrees b.work c.work → KeepsNames b.work.symbols c.work.symbols → Knows b.scope.libraries known → (IsUntouched d → IsBlank k) → (IsUntouched d → IsTurned b c × (after ≡ total)) → Finished b c unit place d total after k →
-        AllSo c after (suc place) (cs ++ k ∷ [])
-    one_so c after trees names knows blank same so = by a.rest refl (subst (λ (es : List code.Declared). AreDeclared b.work b.region unit place was es a.rest) next_is so_far.left)
+    pub one_so : (c : Bench) (after to : ℕ) → KeepsTrees b.work c.work → KeepsNames b.work.symbols c.work.symbols → Knows b.scope.libraries known → (IsUntouched d → IsBlank k) → (IsUntouched d → IsTurned b c × (after ≡ total) × (to ≡ so_many)) → Finished b c unit place d total after so_many to k →
+        AllSo c after (suc place) to (cs ++ k ∷ [])
+    one_so c after to trees names knows blank same so = by a.rest refl (subst (λ (es : List code.Declared). AreDeclared b.work b.region unit place was es a.rest) next_is so_far.left)
       where
-        none : IsUntouched d → AreDeclared b.work b.region unit (suc place) was (drop (suc place) ds) a.rest → AllSo c after (suc place) (cs ++ k ∷ [])
+        none : IsUntouched d → AreDeclared b.work b.region unit (suc place) was (drop (suc place) ds) a.rest → AllSo c after (suc place) to (cs ++ k ∷ [])
         none un left =
-            subst (λ (e : Bench). AllSo e after (suc place) (cs ++ k ∷ [])) (sym (same un).0)
-            (subst (λ (n : ℕ). AllSo (at_work b c.scope.form) n (suc place) (cs ++ k ∷ [])) (sym (same un).1) (blank_so c.scope.form un (blank un) left))
+            subst (λ (e : Bench). AllSo e after (suc place) to (cs ++ k ∷ [])) (sym (same un).0)
+            (subst (λ (n : ℕ). AllSo (at_work b c.scope.form) n (suc place) to (cs ++ k ∷ [])) (sym (same un).1)
+            (subst (λ (n : ℕ). AllSo (at_work b c.scope.form) total (suc place) n (cs ++ k ∷ [])) (sym (same un).2) (blank_so c.scope.form un (blank un) left)))
 
-        by : (rest : List (LeftOf Identifier)) → a.rest ≡ rest → AreDeclared b.work b.region unit place was (d ∷ drop (suc place) ds) rest → AllSo c after (suc place) (cs ++ k ∷ [])
+        by : (rest : List (LeftOf Identifier)) → a.rest ≡ rest → AreDeclared b.work b.region unit place was (d ∷ drop (suc place) ds) rest → AllSo c after (suc place) to (cs ++ k ∷ [])
         by [] is h = none h.0 (subst (λ (qs : List (LeftOf Identifier)). AreDeclared b.work b.region unit (suc place) was (drop (suc place) ds) qs) (sym is) h.1)
         by (r ∷ rest) is h = elim h [
           | inl un ↦ none un.0 (subst (λ (qs : List (LeftOf Identifier)). AreDeclared b.work b.region unit (suc place) was (drop (suc place) ds) qs) (sym is) un.2)
           | inr made ↦
-              next_so c after trees names r rest (ap (λ (qs : List (LeftOf Identifier)). a.front ++ qs) (sym is) ∙ a.parted) is made.0 made.2
+              next_so c after trees names r rest (ap (λ (qs : List (LeftOf Identifier)). a.front ++ qs) (sym is) ∙ a.parted) is made.0 made.2 to
               (so known a.base.held.layout was a.base.held.notes r.1 knows a.base.held.stands a.base.held.number made.1)
         ]
 
@@ -350,9 +362,9 @@ module _ (known : Known) (unit : ℕ) (rs : List (LeftOf Identifier)) (s : Scope
       by [] h = refl
       by (q ∷ qs) h = absurd h
 
-  pub all_so : (b : Bench) (total place : ℕ) (cs : List code_form.UnitForm) → AllSo b total place cs → (nat_lt max_total total ≡ false → place ≡ length ds) → Finishes b unit known rs s total cs
+  pub all_so : (b : Bench) (total place to : ℕ) (cs : List code_form.UnitForm) → AllSo b total place to cs → (nat_lt max_total total ≡ false → place ≡ length ds) → Finishes b unit known rs s total first to cs
   unfolding all_finished_formed
-  all_so b total place cs a all = record {
+  all_so b total place to cs a all = record {
     layout = a.base.held.layout;
     last = a.base.held.state;
     notes = a.base.held.notes;
@@ -370,21 +382,22 @@ module _ (known : Known) (unit : ℕ) (rs : List (LeftOf Identifier)) (s : Scope
           );
     };
     definitions = λ few. (all_finished_formed b unit place ds cs (all few) a.base).definitions;
+    steps = a.steps;
   }
 
 -- the forms that were gone through, from each state that they may have left
-abbrev pub AllFrom : (old b : Bench) (unit : ℕ) (ds : List code.Declared) (start total place : ℕ) (cs : List code_form.UnitForm) → Type 0
-AllFrom old b unit ds start total place cs = (known : Known) (h : FormsHeld old unit 0 ds) (rs : List (LeftOf Identifier)) → Knows old.scope.libraries known → (can : CanFinishAll old unit known rs h.state start ds) → AllSo known unit rs h.state can.rise ds b total place cs
+abbrev pub AllFrom : (old b : Bench) (unit : ℕ) (ds : List code.Declared) (start total place : ℕ) (from to : ℕ) (cs : List code_form.UnitForm) → Type 0
+AllFrom old b unit ds start total place from to cs = (known : Known) (h : FormsHeld old unit 0 ds) (rs : List (LeftOf Identifier)) → Knows old.scope.libraries known → (can : CanFinishAll old unit known rs h.state start ds) → AllSo known unit rs h.state can.rise ds from b total place to cs
 
-pub none_from : (b : Bench) (unit : ℕ) (ds : List code.Declared) (start : ℕ) → AllFrom b b unit ds start start 0 []
-none_from b unit ds start known h rs knows can = none_so known unit rs h.state can.rise ds b h start refl can
+pub none_from : (b : Bench) (unit : ℕ) (ds : List code.Declared) (start steps : ℕ) → AllFrom b b unit ds start start 0 steps steps []
+none_from b unit ds start steps known h rs knows can = none_so known unit rs h.state can.rise ds steps b h start refl can
 
-pub next_from : (old b c : Bench) (unit : ℕ) (ds : List code.Declared) (start total place : ℕ) (cs : List code_form.UnitForm) → AllFrom old b unit ds start total place cs → Stays old b → Stays b c → nat_lt max_total total ≡ false →
-    (d : code.Declared) → slice_get ds place ≡ Some d → (k : code_form.UnitForm) (after : ℕ) → (IsUntouched d → IsBlank k) → (IsUntouched d → IsTurned b c × (after ≡ total)) → Finished b c unit place d total after k →
-    AllFrom old c unit ds start after (suc place) (cs ++ k ∷ [])
-next_from old b c unit ds start total place cs so stay stays few d at k after blank same done known h rs knows can =
-    one_so known unit rs h.state can.rise ds b total place cs (so known h rs knows can) few d at k c after stays.trees stays.names (stay.libraries known knows) blank same done
+pub next_from : (old b c : Bench) (unit : ℕ) (ds : List code.Declared) (start total place : ℕ) (from now : ℕ) (cs : List code_form.UnitForm) → AllFrom old b unit ds start total place from now cs → Stays old b → Stays b c → nat_lt max_total total ≡ false →
+    (d : code.Declared) → slice_get ds place ≡ Some d → (k : code_form.UnitForm) (after to : ℕ) → (IsUntouched d → IsBlank k) → (IsUntouched d → IsTurned b c × (after ≡ total) × (to ≡ now)) → Finished b c unit place d total after now to k →
+    AllFrom old c unit ds start after (suc place) from to (cs ++ k ∷ [])
+next_from old b c unit ds start total place from now cs so stay stays few d at k after to blank same done known h rs knows can =
+    one_so known unit rs h.state can.rise ds from b total place now cs (so known h rs knows can) few d at k c after to stays.trees stays.names (stay.libraries known knows) blank same done
 
-pub all_from : (old b : Bench) (unit : ℕ) (ds : List code.Declared) (start total place : ℕ) (cs : List code_form.UnitForm) → AllFrom old b unit ds start total place cs → (nat_lt max_total total ≡ false → place ≡ length ds) →
-    (known : Known) (h : FormsHeld old unit 0 ds) (rs : List (LeftOf Identifier)) → Knows old.scope.libraries known → CanFinishAll old unit known rs h.state start ds → Finishes b unit known rs h.state total cs
-all_from old b unit ds start total place cs so all known h rs knows can = all_so known unit rs h.state can.rise ds b total place cs (so known h rs knows can) all
+pub all_from : (old b : Bench) (unit : ℕ) (ds : List code.Declared) (start total place : ℕ) (from to : ℕ) (cs : List code_form.UnitForm) → AllFrom old b unit ds start total place from to cs → (nat_lt max_total total ≡ false → place ≡ length ds) →
+    (known : Known) (h : FormsHeld old unit 0 ds) (rs : List (LeftOf Identifier)) → Knows old.scope.libraries known → CanFinishAll old unit known rs h.state start ds → Finishes b unit known rs h.state total from to cs
+all_from old b unit ds start total place from to cs so all known h rs knows can = all_so known unit rs h.state can.rise ds from b total place to cs (so known h rs knows can) all

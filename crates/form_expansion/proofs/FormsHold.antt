@@ -15,6 +15,7 @@ use Rattle.scheme_model.specs.Requirements.{Known}
 use Rattle.scheme_model.specs.Substitution.{Defined}
 use Rattle.scheme_model.specs.ScopedExpansion.{Frames, FramedIdent, ScopedState}
 use Rattle.scheme_model.specs.UnitExpansion.{LeftOf, max_total, passes, nodes_in}
+use Rattle.macro_uses.specs.MacroUses.{total_of}
 use Rattle.syntax_tree.proofs.Places.{none_some, push_cases}
 use Rattle.core_tree.specs.Units.{defined_by}
 use Rattle.datum_reader.specs.WellFormed.{WasRead}
@@ -31,13 +32,13 @@ use Rattle.unit_scopes.proofs.FreshLaws.{none_in_order}
 use Rattle.expansion_laws.proofs.OtherForms.{declared_stays}
 use Rattle.syntax_tree.specs.Works.{IsOpened}
 use Rattle.form_expansion.specs.Ends.{numbers_of, Rise, IsAmong}
-use Rattle.form_expansion.specs.Forms.{IsBench, IsBegun, IsUntouched, IsDeclared, AreInOrder, PassesTo, PassesForm, CanPass, FormsHeld, AreFresh, AreDeclared, Passes, Stays, passed, known_by}
+use Rattle.form_expansion.specs.Forms.{IsBench, IsBegun, IsUntouched, IsDeclared, used_by, AreInOrder, PassesTo, PassesForm, CanPass, FormsHeld, AreFresh, AreDeclared, Passes, Stays, passed, known_by}
 use Rattle.document_units.specs.WereRead.{WereRead}
 use Rattle.form_expansion.specs.declared.forms.Bench.{Bench}
 use Rattle.form_expansion.specs.declared.forms.Declared as code
 use Rattle.form_expansion.proofs.DeclaredForms.{declared_on, declared_blank, declared_more}
 use Rattle.form_expansion.proofs.FormSteps.{blank_is, nothing_left}
-use Rattle.form_expansion.proofs.UnitForms.{forms_rise, among, none_counted, step_counted}
+use Rattle.form_expansion.proofs.UnitForms.{forms_rise, among, none_total, step_total, none_counted, step_counted}
 use Rattle.form_expansion.proofs.UnitWalk.{behind, behind_none, behind_twice, pass_over, pass_on}
 
 pub read_at : (fs : List source.UnitForm) (n : ℕ) (f : source.UnitForm) → WereRead (forms_of fs) → slice_get fs n ≡ Some f → f.declared ≡ false → WasRead (datum_of f.datum)
@@ -170,6 +171,11 @@ dropped_all [] (suc k) le = refl
 dropped_all (f ∷ fs) zero le = absurd (omega (arith, le))
 dropped_all (f ∷ fs) (suc k) le = dropped_all fs k (omega (arith, le))
 
+-- one form more
+pub used_more : (ds : List code.Declared) (d : code.Declared) → used_by (ds ++ d ∷ []) ≡ used_by ds + d.budget.uses
+used_more [] d = omega arith
+used_more (e ∷ ds) d = let rest = used_more ds d in omega (arith, rest)
+
 -- what a form counted that had counted nothing
 counted_on : (now was total nodes before after : ℕ) → now + before ≡ was + after → was ≡ total → before ≡ 0 → nodes ≡ after → now ≡ total + nodes
 counted_on now was total nodes before after moved so none all = omega (arith, moved, so, none, all)
@@ -192,6 +198,7 @@ module _ (known : Known) (unit : ℕ) (ts : List (ℕ × Tree Identifier)) (s : 
     pub counted : nodes_in (searched known) (numbers_of ts) base.held.state ≡ total
     pub over : nat_lt max_total total ≡ true → whole ≡ (None, base.held.state)
     pub on : nat_lt max_total total ≡ false → whole ≡ behind gone (to_come (forms_over (Written unit) unit place left) base.held.notes base.held.state)
+    pub used : total_of base.held.state.uses (numbers_of ts) ≡ used_by ds
 
   pub none_passed : (b : Bench) (ls : List Frames) (left : List UnitForm) → forms_over (Written unit) unit 0 left ≡ ts → IsOpened b.work b.region → UnitStands b.work b.scope ls s [] → s.unit ≡ unit → ((m : ℕ) → IsFresh s m) → PassedSo b 0 [] 0 left
   unfolding none_held
@@ -204,6 +211,7 @@ module _ (known : Known) (unit : ℕ) (ts : List (ℕ × Tree Identifier)) (s : 
     counted = none_counted (searched known) s (λ m. (fresh m).nodes) (numbers_of ts);
     over = λ many. absurd cc;
     on = λ few. ap (λ (xs : List (ℕ × Tree Identifier)). to_come xs [] s) (sym all) ∙ sym (behind_none (to_come (forms_over (Written unit) unit 0 left) [] s));
+    used = none_total s.uses (λ m. (fresh m).uses) (numbers_of ts);
   }
 
   module _ (b : Bench) (total place : ℕ) (ds : List code.Declared) (f : source.UnitForm) (left : List UnitForm) (a : PassedSo b total ds place (form_of f ∷ left)) (at : place ≡ length ds) (d : code.Declared) where
@@ -233,6 +241,7 @@ module _ (known : Known) (unit : ℕ) (ts : List (ℕ × Tree Identifier)) (s : 
           counted = a.counted ∙ same;
           over = λ many. a.over (ap (nat_lt max_total) same ∙ many);
           on = λ few. a.on (ap (nat_lt max_total) same ∙ few) ∙ ap by_declared off;
+          used = let was_used = a.used in let one = used_more ds d in let nothing = none.uses in omega (arith, was_used, one, nothing);
         }
 
     -- one that is
@@ -249,6 +258,14 @@ module _ (known : Known) (unit : ℕ) (ts : List (ℕ × Tree Identifier)) (s : 
           let stay = declared_stays place known (seeded unit place (datum_of f.datum)) a.base.held.notes was in
           counted_on (nodes_in (searched known) (numbers_of ts) now.1) (nodes_in (searched known) (numbers_of ts) was) total d.budget.nodes (was.nodes place) (now.1.nodes place)
           (step_counted (searched known) place was now.1 (λ m apart. (stay.counts m apart).nodes) 0 (numbers_of ts) rise here) a.counted (a.base.fresh place (omega (arith, at))).nodes n.form_is.counts.nodes
+
+      used_so : total_of now.1.uses (numbers_of ts) ≡ used_by (ds ++ d ∷ [])
+      used_so =
+          let here : IsAmong place (numbers_of ts) = subst (λ (xs : List (ℕ × Tree Identifier)). IsAmong place (numbers_of xs)) (sym (append_assoc a.front (tree ∷ []) others) ∙ parted_so) (among a.front others tree) in
+          let stay = declared_stays place known (seeded unit place (datum_of f.datum)) a.base.held.notes was in
+          counted_on (total_of now.1.uses (numbers_of ts)) (total_of was.uses (numbers_of ts)) (used_by ds) d.budget.uses (was.uses place) (now.1.uses place)
+          (step_total place was.uses now.1.uses (λ m apart. (stay.counts m apart).uses) 0 (numbers_of ts) rise here) a.used (a.base.fresh place (omega (arith, at))).uses n.form_is.counts.uses
+          ∙ sym (used_more ds d)
 
       before_it : whole ≡ behind a.gone (to_come (tree ∷ others) a.base.held.notes was)
       before_it = a.on few ∙ ap by_declared off
@@ -267,6 +284,7 @@ module _ (known : Known) (unit : ℕ) (ts : List (ℕ × Tree Identifier)) (s : 
         on = λ still.
             before_it ∙ ap (behind a.gone) (pass_on (searched known) (numbers_of ts) enough_turns [] tree others a.base.held.notes was (ap (nat_lt max_total) counted_so ∙ still))
             ∙ behind_twice a.gone ((place, now.0.left) ∷ []) (to_come others now.0.notes now.1);
+        used = used_so;
       }
 
     -- either
@@ -291,6 +309,7 @@ module _ (known : Known) (unit : ℕ) (ts : List (ℕ × Tree Identifier)) (s : 
         a.forms,
       );
     };
+    used = a.used;
   }
 
 -- the forms that are expanded, from each state that they may begin in

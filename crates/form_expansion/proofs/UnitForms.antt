@@ -1,5 +1,5 @@
 -- The forms of a unit by their numbers: what they count together, and what the unit comes to.
-use Rattle.std.proofs.Common.{◌≡◌, ℕ, suc, ◌+◌, ◌≤◌, ◌<◌, List, [], ◌∷◌, ◌++◌, Bool, true, false, cond, Option, Some, None, refl, ap, inl, inr, arith}
+use Rattle.std.proofs.Common.{◌≡◌, ℕ, suc, ◌+◌, ◌≤◌, ◌<◌, List, [], ◌∷◌, ◌++◌, Bool, true, false, cond, Option, Some, None, refl, sym, ap, ◌∙◌, inl, inr, arith}
 use Rattle.scheme_model.specs.Data.{place_of}
 use Rattle.scheme_model.specs.DataTrees.{tree_of}
 use Rattle.scheme_model.specs.Trees.{Tree, placed_in}
@@ -8,6 +8,7 @@ use Rattle.scheme_model.specs.Expression.{expand}
 use Rattle.scheme_model.specs.Declarations.{UnitForm}
 use Rattle.scheme_model.specs.ScopedProgram.{forms_over}
 use Rattle.scheme_model.specs.UnitExpansion.{Formed, LeftOf, ◌then◌, passes, finished, nodes_in, unit}
+use Rattle.macro_uses.specs.MacroUses.{total_of}
 use Rattle.form_expansion.specs.Ends.{numbers_of, Rise, IsAmong}
 
 -- ---- numbers
@@ -38,41 +39,59 @@ pub among : {X : Type 0} (front rest : List (ℕ × X)) (r : ℕ × X) → IsAmo
 among [] rest r = inl refl
 among (q ∷ front) rest r = inr (among front rest r)
 
+-- ---- what forms count together
+
+pub none_total : (u : ℕ → ℕ) → ((m : ℕ) → u m ≡ 0) → (fs : List ℕ) → total_of u fs ≡ 0
+none_total u none [] = refl
+none_total u none (f ∷ fs) = let a = none f in let b = none_total u none fs in omega (arith, a, b)
+
+same_total : (u v : ℕ → ℕ) → ((m : ℕ) → v m ≡ u m) → (fs : List ℕ) → total_of v fs ≡ total_of u fs
+same_total u v same [] = refl
+same_total u v same (f ∷ fs) = let a = same f in let b = same_total u v same fs in omega (arith, a, b)
+
+module _ (form : ℕ) (u v : ℕ → ℕ) (others : (m : ℕ) → (m ≡ form → ⊥) → v m ≡ u m) where
+  -- those behind a form
+  apart_total : (n : ℕ) (fs : List ℕ) → form < n → Rise n fs → total_of v fs ≡ total_of u fs
+  apart_total n [] low h = refl
+  apart_total n (f ∷ fs) low h =
+      let le : n ≤ f = h.0 in
+      let a = others f (λ same. omega (arith, low, le, same)) in let b = apart_total (suc f) fs (omega (arith, low, le)) h.1 in omega (arith, a, b)
+
+  -- a step of one form counts what that form counts more
+  pub step_total : (n : ℕ) (fs : List ℕ) → Rise n fs → IsAmong form fs → total_of v fs + u form ≡ total_of u fs + v form
+  step_total n [] h in_ = absurd in_
+  step_total n (f ∷ fs) h in_ = elim in_ [
+    | inl same ↦
+        let b : total_of v fs ≡ total_of u fs = apart_total (suc f) fs (omega (arith, same)) h.1 in
+        let here : v f ≡ v form = ap v same in
+        let was : u f ≡ u form = ap u same in
+        omega (arith, b, here, was)
+    | inr later ↦
+        let low = behind (suc f) fs h.1 later in
+        let a = others f (λ same. omega (arith, low, same)) in let b = step_total (suc f) fs h.1 later in omega (arith, a, b)
+  ]
+
 -- ---- nodes
 
 module _ {E A L S : Type 0} (ops : Ops E A L S) where
   abbrev pub nodes_at : ℕ → S → ℕ
   nodes_at m s = (ops.counted (ops.turn m s)).nodes
 
+  nodes_are : (s : S) (fs : List ℕ) → nodes_in ops fs s ≡ total_of (λ m. nodes_at m s) fs
+  nodes_are s [] = refl
+  nodes_are s (f ∷ fs) = ap (λ n. nodes_at f s + n) (nodes_are s fs)
+
   pub none_counted : (s : S) → ((m : ℕ) → nodes_at m s ≡ 0) → (fs : List ℕ) → nodes_in ops fs s ≡ 0
-  none_counted s none [] = refl
-  none_counted s none (f ∷ fs) = let a = none f in let b = none_counted s none fs in omega (arith, a, b)
+  none_counted s none fs = nodes_are s fs ∙ none_total (λ m. nodes_at m s) none fs
 
   pub same_counted : (s t : S) → ((m : ℕ) → nodes_at m t ≡ nodes_at m s) → (fs : List ℕ) → nodes_in ops fs t ≡ nodes_in ops fs s
-  same_counted s t same [] = refl
-  same_counted s t same (f ∷ fs) = let a = same f in let b = same_counted s t same fs in omega (arith, a, b)
+  same_counted s t same fs = nodes_are t fs ∙ same_total (λ m. nodes_at m s) (λ m. nodes_at m t) same fs ∙ sym (nodes_are s fs)
 
-  module _ (form : ℕ) (s t : S) (others : (m : ℕ) → (m ≡ form → ⊥) → nodes_at m t ≡ nodes_at m s) where
-    -- those behind a form
-    apart_counted : (n : ℕ) (fs : List ℕ) → form < n → Rise n fs → nodes_in ops fs t ≡ nodes_in ops fs s
-    apart_counted n [] low h = refl
-    apart_counted n (f ∷ fs) low h =
-        let le : n ≤ f = h.0 in
-        let a = others f (λ same. omega (arith, low, le, same)) in let b = apart_counted (suc f) fs (omega (arith, low, le)) h.1 in omega (arith, a, b)
-
-    -- a step of one form counts what that form counts more
-    pub step_counted : (n : ℕ) (fs : List ℕ) → Rise n fs → IsAmong form fs → nodes_in ops fs t + nodes_at form s ≡ nodes_in ops fs s + nodes_at form t
-    step_counted n [] h in_ = absurd in_
-    step_counted n (f ∷ fs) h in_ = elim in_ [
-      | inl same ↦
-          let b : nodes_in ops fs t ≡ nodes_in ops fs s = apart_counted (suc f) fs (omega (arith, same)) h.1 in
-          let here : nodes_at f t ≡ nodes_at form t = ap (λ m. nodes_at m t) same in
-          let was : nodes_at f s ≡ nodes_at form s = ap (λ m. nodes_at m s) same in
-          omega (arith, b, here, was)
-      | inr later ↦
-          let low = behind (suc f) fs h.1 later in
-          let a = others f (λ same. omega (arith, low, same)) in let b = step_counted (suc f) fs h.1 later in omega (arith, a, b)
-    ]
+  -- a step of one form counts what that form counts more
+  pub step_counted : (form : ℕ) (s t : S) → ((m : ℕ) → (m ≡ form → ⊥) → nodes_at m t ≡ nodes_at m s) → (n : ℕ) (fs : List ℕ) → Rise n fs → IsAmong form fs → nodes_in ops fs t + nodes_at form s ≡ nodes_in ops fs s + nodes_at form t
+  step_counted form s t others n fs h in_ =
+      let a = nodes_are s fs in let b = nodes_are t fs in
+      let c = step_total form (λ m. nodes_at m s) (λ m. nodes_at m t) others n fs h in_ in omega (arith, a, b, c)
 
   -- ---- the unit
 

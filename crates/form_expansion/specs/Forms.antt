@@ -1,6 +1,6 @@
 -- The forms of a unit as they are gone through and expanded (R7RS 5.1, 5.3): what the code holds of each, and the state of the unit
 -- that the trees and scopes stand for meanwhile.
-use Rattle.std.specs.Prelude.{◌≡◌, ◌⊎◌, ℕ, suc, ◌^◌, ◌≤◌, ◌<◌, nat_lt, List, [], ◌∷◌, length, reverse, slice_get, false, Option, Some, None, Result, Ok, Err, String}
+use Rattle.std.specs.Prelude.{◌≡◌, ◌⊎◌, ℕ, suc, ◌+◌, ◌^◌, ◌≤◌, ◌<◌, nat_lt, List, [], ◌∷◌, length, reverse, slice_get, false, Option, Some, None, Result, Ok, Err, String}
 use Rattle.std.specs.declared.alloc.Global.{Global}
 use Rattle.std.specs.BTreeSet.{BTreeSet, contains_text}
 use Rattle.scheme_model.specs.Ident.{Ident as Identifier}
@@ -13,6 +13,7 @@ use Rattle.scheme_model.specs.Expression.{expand}
 use Rattle.scheme_model.specs.Program.{Prepared, enough_turns}
 use Rattle.scheme_model.specs.Requirements.{Known}
 use Rattle.scheme_model.specs.Substitution.{Defined}
+use Rattle.macro_uses.specs.MacroUses.{total_of}
 use Rattle.scheme_model.specs.Trees.{Tree}
 use Rattle.scheme_model.specs.ScopedExpansion.{Frames, FramedIdent, ScopedState}
 use Rattle.syntax_tree.specs.declared.trees.Work.{Work}
@@ -94,6 +95,11 @@ pub record IsUntouched (d : code.Declared) : Type 0 where
   pub waiting : d.uses.items ≡ []
   pub aside : d.aside ≡ []
   pub fault : d.fault ≡ None
+
+-- the macro uses that forms have counted
+abbrev pub used_by : List code.Declared → ℕ
+used_by [] = 0
+used_by (d ∷ ds) = d.budget.uses + used_by ds
 
 -- what is left of a form, or its fault
 abbrev pub IsSetAside : Work → Region → (unit form : ℕ) → code.Declared → Option FormFault → Passing → Type 0
@@ -185,17 +191,19 @@ pub record FinishesTo (old new : Bench) (unit form : ℕ) (s : ScopedState) (c :
   pub stands : UnitStands new.work new.scope layout state notes
   pub number : state.unit ≡ unit
   pub kept : KeepsOthers old new unit form s state
+  pub uses : (m : ℕ) → (m ≡ form → ⊥) → state.uses m ≡ s.uses m
   pub table : state.table ≡ s.table
   pub result : Result Parts Broken
   pub met : Counted
   pub result_is : IsResult new.work unit form c result met
   pub definitions : AllMatch (IsNumbered new.work.symbols form) (reverse c.trace.definitions) (numbered_in unit form state.table)
 
--- all that a form set aside is expanded, or as much as it takes to count too many nodes
-pub record FinishesForm (old new : Bench) (known : Known) (unit form : ℕ) (r : Passing) (s : ScopedState) (before after : ℕ) (c : code_form.UnitForm) : Type 0 where
+-- all that a form set aside is expanded, or as much as it takes to count too many nodes; each macro use that it begins is a step
+pub record FinishesForm (old new : Bench) (known : Known) (unit form : ℕ) (r : Passing) (s : ScopedState) (before after : ℕ) (from to : ℕ) (c : code_form.UnitForm) : Type 0 where
   pub finishes : FinishesTo old new unit form s c
   pub goes : GoesTo known form r s before after finishes.state finishes.result
   pub counted : finishes.met ≡ (searched known).counted finishes.state
+  pub steps : to + s.uses form ≡ from + finishes.state.uses form
 
 -- ---- all forms
 
@@ -234,6 +242,7 @@ AreDeclared work region unit form s (d ∷ ds) (r ∷ rs) =
 pub record Passes (b : Bench) (unit : ℕ) (known : Known) (ts : List (ℕ × Tree Identifier)) (s : ScopedState) (total : ℕ) (ds : List code.Declared) : Type 0 where
   pub held : FormsHeld b unit 0 ds
   pub comes : Comes (searched known) (numbers_of ts) (passes (searched known) enough_turns [] (numbers_of ts) ts [] s) total held.state (AreDeclared b.work b.region unit 0 held.state ds)
+  pub used : total_of held.state.uses (numbers_of ts) ≡ used_by ds
 
 -- forms that were gone through stand with what each set aside, by numbers that rise, and have counted so many nodes, which aren't too many
 pub record CanFinishAll (b : Bench) (unit : ℕ) (known : Known) (rs : List (LeftOf Identifier)) (s : ScopedState) (total : ℕ) (ds : List code.Declared) : Type 0 where
@@ -242,14 +251,15 @@ pub record CanFinishAll (b : Bench) (unit : ℕ) (known : Known) (rs : List (Lef
   pub counted : nodes_in (searched known) (numbers_of rs) s ≡ total
   pub forms : AreDeclared b.work b.region unit 0 s ds rs
 
--- what they set aside is expanded: all of it, or as much as it takes to count too many nodes
-pub record Finishes (b : Bench) (unit : ℕ) (known : Known) (rs : List (LeftOf Identifier)) (s : ScopedState) (total : ℕ) (cs : List code_form.UnitForm) : Type 0 where
+-- what they set aside is expanded: all of it, or as much as it takes to count too many nodes; each macro use that they begin is a step
+pub record Finishes (b : Bench) (unit : ℕ) (known : Known) (rs : List (LeftOf Identifier)) (s : ScopedState) (total : ℕ) (from to : ℕ) (cs : List code_form.UnitForm) : Type 0 where
   pub layout : List Frames
   pub last : ScopedState
   pub notes : List (Note FramedIdent)
   pub stands : UnitStands b.work b.scope layout last notes
   pub comes : Comes (searched known) (numbers_of rs) (finished (searched known) (expand (searched known) enough_turns) [] (numbers_of rs) rs s) total last (FormsStand b.work unit 0 cs)
   pub definitions : nat_lt max_total total ≡ false → AreDefinitions b.work.symbols (reverse (definitions_from 0 cs)) (defined_by unit last.table)
+  pub steps : to + total_of s.uses (numbers_of rs) ≡ from + total_of last.uses (numbers_of rs)
 
 -- ---- the unit
 

@@ -1,9 +1,11 @@
 //! The forms of a unit (R7RS 5.1): all are gone through in order, and then what they set aside is expanded in order.
-ghost use Rattle.std.specs.Prelude.{◌≡◌, ℕ, ◌^◌, ◌≤◌, List, [], length, vec_len, nat_lt, true, false, None, OnOk, IfOk, IfSome};
+ghost use Rattle.std.specs.Prelude.{◌≡◌, ℕ, ◌+◌, ◌^◌, ◌≤◌, List, [], length, vec_len, nat_lt, true, false, None, OnOk, IfOk, IfSome};
 ghost use Rattle.scheme_model.specs.Ident.{Ident as Identifier, Written};
 ghost use Rattle.scheme_model.specs.Trees.{Tree as ModelTree};
 ghost use Rattle.scheme_model.specs.UnitExpansion.{max_total};
 ghost use Rattle.scheme_model.specs.Requirements.{Known};
+ghost use Rattle.macro_uses.specs.MacroUses.{total_of};
+ghost use Rattle.macro_uses.specs.ScopedUses.{form_numbers};
 ghost use Rattle.scheme_model.specs.Program.{Prepared};
 ghost use Rattle.scheme_model.specs.ScopedProgram.{forms_over};
 ghost use Rattle.scheme_model.specs.Order.{Note, Item as ModelItem};
@@ -17,8 +19,9 @@ ghost use Rattle.core_tree.specs.Units.{IsBlank};
 ghost use Rattle.feature_requirements.specs.Judged.{Knows};
 ghost use Rattle.unit_scopes.specs.Stepped.{IsFresh};
 ghost use Rattle.unit_scopes.specs.Outcomes.{IsAtWork};
+ghost use Rattle.unit_scopes.specs.Searched.{searched_unit_over};
 ghost use Rattle.unit_scopes.specs.Units.{UnitStands, CountsFor, HasSpace, ItemFor, CanDeclare, Expands, declared, expanded};
-ghost use Rattle.form_expansion.specs.Forms.{IsBench, IsBegun, IsUntouched, IsDeclared, Passing, PassesTo, PassesForm, FinishesForm, CanPass, CanFinish, CanFinishAll, FormsHeld, Passes, Finishes, AreFormed, Unfolds, Stays, IsTurned};
+ghost use Rattle.form_expansion.specs.Forms.{IsBench, IsBegun, IsUntouched, IsDeclared, used_by, Passing, PassesTo, PassesForm, FinishesForm, CanPass, CanFinish, CanFinishAll, FormsHeld, Passes, Finishes, AreFormed, Unfolds, Stays, IsTurned};
 ghost use Rattle.document_units.specs.WereRead.{WereRead};
 
 use core_tree::traces::{FormFault, Trace};
@@ -72,6 +75,10 @@ pub fn expand_forms<L: Ledger>(
     ensures unfolds { (known : Known) (ls : List Frames) (s : ScopedState) (p : Prepared) → Knows bench.old.scope.libraries known → UnitStands bench.old.work bench.old.scope ls s [] → s.unit ≡ unit →
         ((form : ℕ) → IsFresh s form) → p.number ≡ unit → p.forms ≡ forms_of forms.now → IfOk result (Unfolds bench.new known p s) }
     ensures count { IfOk result (λ expanded. IfSome expanded (λ expanded. length expanded ≡ length forms.now)) }
+    // Each macro use that the definition counts is a step.
+    ensures steps { (known : Known) (ls : List Frames) (s : ScopedState) (p : Prepared) → Knows bench.old.scope.libraries known → UnitStands bench.old.work bench.old.scope ls s [] → s.unit ≡ unit →
+        ((form : ℕ) → IsFresh s form) → p.number ≡ unit → p.forms ≡ forms_of forms.now →
+        OnOk result (steps.new ≡ steps.old + total_of (searched_unit_over known p s).1.uses (form_numbers p)) }
 {
     let mut total = 0;
     let declared = declare_all(alloc, bench, unit, forms, &mut total, steps)?;
@@ -109,6 +116,7 @@ fn declare_all<L: Ledger>(
     ensures stays { OnOk result (Stays bench.old bench.new) }
     ensures passes { (known : Known) (ls : List Frames) (s : ScopedState) → Knows bench.old.scope.libraries known → UnitStands bench.old.work bench.old.scope ls s [] → s.unit ≡ unit → ((form : ℕ) → IsFresh s form) →
         IfOk result (λ all. Passes bench.new unit known (forms_over (Written unit) unit 0 (forms_of forms.now)) s total.new all.items) }
+    ensures steps { IfOk result (λ all. steps.new ≡ steps.old + used_by all.items) }
 {
     let mut all = Vec::new(alloc);
     for (place, form) in forms.iter().enumerate() {
@@ -141,6 +149,7 @@ fn declare<L: Ledger>(
         UnitStands bench.old.work bench.old.scope ls s notes → s.unit ≡ unit → IsFresh s number →
         IfOk result (PassesForm bench.old bench.new known unit number (datum_of form.now.datum) notes s) }
     ensures few { IfOk result (λ form. form.budget.nodes ≤ 200000) }
+    ensures steps { IfOk result (λ form. steps.new ≡ steps.old + form.budget.uses) }
     ensures stays { OnOk result (Stays bench.old bench.new) }
 {
     let blank = blank(alloc);
@@ -203,6 +212,7 @@ fn declare_tree<L: Ledger>(
     ensures passes { (known : Known) (ls : List Frames) (s : ScopedState) (notes : List (Note FramedIdent)) (t : ModelTree Identifier) → Knows bench.old.scope.libraries known →
         UnitStands bench.old.work bench.old.scope ls s notes → CountsFor bench.old.work s number blank.budget blank.trace → StandsFor bench.old.work tree t →
         IfOk result (PassesTo bench.old bench.new s.unit number s (declared known number t notes s)) }
+    ensures steps { IfOk result (λ form. steps.new ≡ steps.old + form.budget.uses) }
     ensures stays { OnOk result (Stays bench.old bench.new) }
 {
     let Bench {
@@ -261,7 +271,7 @@ fn finish_all<L: Ledger>(
     ensures bench { OnOk result (IsBench bench.new) }
     ensures stays { OnOk result (Stays bench.old bench.new) }
     ensures finishes { (known : Known) (h : FormsHeld bench.old unit 0 declared.items) (rs : List (ℕ × Passing)) → Knows bench.old.scope.libraries known →
-        CanFinishAll bench.old unit known rs h.state total.old declared.items → IfOk result (Finishes bench.new unit known rs h.state total.new) }
+        CanFinishAll bench.old unit known rs h.state total.old declared.items → IfOk result (Finishes bench.new unit known rs h.state total.new steps.old steps.new) }
 {
     let mut forms = Items::new(alloc);
     for (place, form) in declared.into_iter().enumerate() {
@@ -288,10 +298,10 @@ fn finish<L: Ledger>(
     requires stands { CanFinish bench.old unit number form }
     requires few { total.old ≤ max_total }
     ensures blank { IsUntouched form → IfOk result IsBlank }
-    ensures same { IsUntouched form → OnOk result (IsTurned bench.old bench.new × (total.new ≡ total.old)) }
+    ensures same { IsUntouched form → OnOk result (IsTurned bench.old bench.new × (total.new ≡ total.old) × (steps.new ≡ steps.old)) }
     ensures finishes { (known : Known) (ls : List Frames) (s : ScopedState) (notes : List (Note FramedIdent)) (r : Passing) → Knows bench.old.scope.libraries known →
         UnitStands bench.old.work bench.old.scope ls s notes → s.unit ≡ unit → IsDeclared bench.old.work bench.old.region unit number s form r →
-        IfOk result (FinishesForm bench.old bench.new known unit number r s total.old total.new) }
+        IfOk result (FinishesForm bench.old bench.new known unit number r s total.old total.new steps.old steps.new) }
     ensures stays { OnOk result (Stays bench.old bench.new) }
 {
     let Declared {
@@ -369,6 +379,7 @@ fn expand<L: Ledger>(
         UnitStands bench.old.work bench.old.scope ls s notes → CountsFor bench.old.work s number budget.old trace.old → ItemFor bench.old.work bench.old.region bench.old.scope.unit number item.now i →
         Expands bench.old.work bench.new.work bench.old.region bench.old.scope bench.new.scope budget.old budget.new ls number trace.new notes result (expanded known number i s) }
     ensures space { OnOk result (HasSpace (2 ^ 43) budget.new) }
+    ensures steps { steps.new + budget.old.uses ≡ steps.old + budget.new.uses }
     ensures keeps { KeepsTrees bench.old.work bench.new.work }
     ensures names { KeepsNames bench.old.work.symbols bench.new.work.symbols }
     ensures added { AddsIn bench.old.work bench.new.work bench.old.region }

@@ -7,6 +7,7 @@ pub mod KnownLaws  -- Which libraries there are, by the texts of their names tha
 pub mod TurnSteps  -- One turn more
 pub mod TurnWork  -- Work in turns
 pub mod TurnedLaws  -- The turns of units where some are broken are the order in which the definition of a program works on them, and those that are too many come last and change nothing
+pub mod TurnUses  -- The macro uses that are counted while units are expanded in their turns are those of the program (R7RS 4.3, 5.6)
 pub mod TurnResults  -- What the program has of each unit, where they come in turns
 pub mod TurnCited  -- One turn more, as what expands the units goes through their places
 pub mod UnitGoes  -- The forms of a unit define nothing of other units, and leave what units import

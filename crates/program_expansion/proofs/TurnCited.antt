@@ -17,6 +17,7 @@ use Rattle.program_expansion.proofs.TurnedLaws.{scoped_after, scoped_done_after,
 pub record TurnOf (all : List Placed) (known : Known) (x : List ℕ) (n : ℕ) : Type 0 where
   pub unit : Placed
   pub there : slice_get all n ≡ Some unit
+  pub place : slice_get (prepare all 0 all) n ≡ Some (prepared all n unit)
   pub reached : scoped_work all (prepare all 0 all) known (length x) scoped_before ≡ scoped_at all known x
   pub ready : is_ready all (prepare all 0 all) (scoped_at all known x).results (prepared all n unit) ≡ true
   pub fresh : is_some (result_at (scoped_at all known x).results n) ≡ false
@@ -30,6 +31,7 @@ turn_of all known x y n h =
     record {
       unit = at.0;
       there = at.1.0;
+      place = turn.1.place ∙ ap Some (sym own);
       reached = scoped_after all known x (n ∷ y) h;
       ready = ap (is_ready all (prepare all 0 all) (scoped_at all known x).results) own ∙ turn.1.ready;
       fresh =

@@ -35,7 +35,7 @@ fault_numbers all ps known p None g =
     let q = unit_over known (form_trees p.number 0 p.forms) (start_of p g.table g.macros (with_entries p.number imports.0 g.entry)) in
     ap (λ (u : Prepared). u.number ∷ numbers g.results) (unit_of_result p imports q.1.table q.0)
 
-scoped_numbers : (all : List Placed) (known : Known) (p : Prepared) (f : Option WholeFault) (g : ScopedProgress) → numbers (scoped_by_fault all known p f g).results ≡ p.number ∷ numbers g.results
+pub scoped_numbers : (all : List Placed) (known : Known) (p : Prepared) (f : Option WholeFault) (g : ScopedProgress) → numbers (scoped_by_fault all known p f g).results ≡ p.number ∷ numbers g.results
 scoped_numbers all known p (Some fault) g = refl
 scoped_numbers all known p None g =
     let imports = unit_entries all g.results p in
@@ -120,7 +120,7 @@ module _ {S : Type 0} (all : List Placed) (results : S → List UnitResult) (ste
   all_done : reverse (numbers (results (fold by start (turns all)))) ≡ turns all
   all_done = (after (turns all) [] (sym (append-nil (turns all)))).done ∙ ap (λ (rs : List UnitResult). reverse (numbers rs) ++ turns all) none
 
-  in_all : work (length ps) start ≡ fold (λ s p. step (Some p) s) (fold by start (turns all)) (drop 128 ps)
+  pub in_all : work (length ps) start ≡ fold (λ s p. step (Some p) s) (fold by start (turns all)) (drop 128 ps)
   in_all =
       ap (λ n. work n start) (sym count.1.0) ∙ works_on all (at_numbers all) results step work is (length (turns all)) count.0 start
       ∙ ap (work count.0) (after (turns all) [] (sym (append-nil (turns all)))).same
@@ -169,7 +169,7 @@ scoped_behind all known (p ∷ ps) g broken =
     ∙ scoped_behind all known ps (record g { results = broken_result p TooMany ∷ g.results }) (λ n q at. broken (suc n) q at)
     ∙ ap (λ (rs : List UnitResult). record g { results = rs }) (one_before (broken_result p TooMany) (map (λ (p : Prepared). broken_result p TooMany) ps) g.results)
 
-left_broken : (all : List Placed) (n : ℕ) (p : Prepared) → slice_get (drop 128 (prepare all 0 all)) n ≡ Some p → fault_before all (prepare all 0 all) p ≡ Some TooMany
+pub left_broken : (all : List Placed) (n : ℕ) (p : Prepared) → slice_get (drop 128 (prepare all 0 all)) n ≡ Some p → fault_before all (prepare all 0 all) p ≡ Some TooMany
 left_broken all n p at =
     let ps : List Prepared = prepare all 0 all in
     let here : slice_get ps (length (take 128 ps) + n) ≡ Some p = stands 128 ps n ∙ at in

@@ -1,5 +1,5 @@
 -- A unit is begun on a bench that goes on with what is expanded so far, and what its forms come to is the definition's.
-use Rattle.std.proofs.Common.{◌≡◌, ℕ, List, [], ◌∷◌, ◌++◌, Bool, true, false, cond, Option, Some, None, refl, sym, ap, ◌∙◌, subst}
+use Rattle.std.proofs.Common.{◌≡◌, ℕ, ◌+◌, List, [], ◌∷◌, ◌++◌, Bool, true, false, cond, Option, Some, None, refl, sym, ap, ◌∙◌, subst}
 use Rattle.std.specs.Prelude.{reverse}
 use Rattle.std.specs.Str.{bytes_eq}
 use Rattle.scheme_model.specs.Meaning.{Meaning}
@@ -11,6 +11,8 @@ use Rattle.scheme_model.specs.UnitExpansion.{Formed}
 use Rattle.scheme_model.specs.ScopedExpansion.{Frames, FramedIdent, ScopedState}
 use Rattle.scheme_model.specs.Program.{Placed, Prepared, SetResult, TooLarge, entry_meaning, with_entries, is_program, unit_result}
 use Rattle.scheme_model.specs.ScopedProgram.{ScopedProgress, scoped_start_of, after_unit}
+use Rattle.macro_uses.specs.MacroUses.{total_of}
+use Rattle.macro_uses.specs.ScopedUses.{form_numbers}
 use Rattle.syntax_tree.specs.Names.{Names, KeepsNames, AreToldApart}
 use Rattle.syntax_tree.specs.Meant.{AreEntries}
 use Rattle.syntax_tree.specs.declared.trees.Work.{Work}
@@ -113,8 +115,8 @@ module _ (all : List Placed) (known : Known) (b : Bench) (g : ScopedProgress) (p
   ended None h = (TooLarge, refl)
   ended (Some fs) h = absurd h
 
-  pub none_expands : Unfolds b known p start None → Expands all known b g p imports None
-  none_expands h = record { goes = goes_behind b h.stands; comes = ended gone.0 h.forms }
+  pub none_expands : (from to : ℕ) → Unfolds b known p start None → to ≡ from + total_of gone.1.uses (form_numbers p) → Expands all known b g p imports from to None
+  none_expands from to h steps = record { goes = goes_behind b h.stands; comes = ended gone.0 h.forms; steps = steps }
 
   -- the forms are the definition's
   pub record AreItsForms (cs : List UnitForm) : Type 0 where
@@ -131,10 +133,11 @@ module _ (all : List Placed) (known : Known) (b : Bench) (g : ScopedProgress) (p
   its_forms cs h = some_forms cs gone.0 refl h.forms
 
   pub some_expands : (c : Bench) (came : Expanded) (cs : List UnitForm) → StandsAt c gone.1 → (f : AreItsForms cs) → ComesTo all (with_unit g gone.1) c.work (Some came) (unit_result p imports gone.1.table (Some f.formed)) →
-      Expands all known c g p imports (Some came)
-  some_expands c came cs stands f came_to = record {
+      (from to : ℕ) → to ≡ from + total_of gone.1.uses (form_numbers p) → Expands all known c g p imports from to (Some came)
+  some_expands c came cs stands f came_to from to steps = record {
     goes = goes_behind c stands;
     comes = subst (λ (o : Option (List Formed)). ComesTo all (with_unit g gone.1) c.work (Some came) (unit_result p imports gone.1.table o)) (sym f.is) came_to;
+    steps = steps;
   }
 
 -- ---- names alone were added

@@ -1,5 +1,5 @@
 -- The unit whose turn it is, broken or expanded: all units up to it are what the definition has of them.
-use Rattle.std.proofs.Common.{◌≡◌, ℕ, zero, suc, ◌<◌, ◌⊎◌, inl, inr, List, [], ◌∷◌, ◌++◌, Bool, true, false, cond, length, slice_get, slice_set, Option, Some, None, refl, sym, ap, ◌∙◌, subst, arith}
+use Rattle.std.proofs.Common.{◌≡◌, ℕ, zero, suc, ◌+◌, ◌<◌, ◌⊎◌, inl, inr, List, [], ◌∷◌, ◌++◌, Bool, true, false, cond, length, slice_get, slice_set, Option, Some, None, refl, sym, ap, ◌∙◌, subst, arith}
 use Rattle.std.specs.Prelude.{◌==◌}
 use Rattle.std.specs.Option.{option_map, is_some as is_there, is_none}
 use Rattle.std.proofs.lemmas.List.{length-set}
@@ -13,6 +13,8 @@ use Rattle.scheme_model.specs.UnitExpansion.{Formed}
 use Rattle.scheme_model.specs.Program as model
 use Rattle.scheme_model.specs.Program.{Placed, Prepared, prepared, prepare, SetResult, UnitResult, result_at, is_ready, broken_result, unit_result, unit_entries, with_entries, fault_before}
 use Rattle.scheme_model.specs.ScopedProgram.{ScopedProgress, scoped_start_of, scoped_start_after, scoped_unit_over, after_unit, scoped_expanded, scoped_work, scoped_before}
+use Rattle.macro_uses.specs.MacroUses.{total_of}
+use Rattle.macro_uses.specs.ScopedUses.{form_numbers, scoped_uses_by_fault, scoped_worked_uses}
 use Rattle.syntax_tree.specs.declared.trees.Work.{Work}
 use Rattle.feature_requirements.specs.Judged.{Knows}
 use Rattle.unit_scopes.specs.Others.{InFront}
@@ -31,6 +33,8 @@ use Rattle.unit_imports.specs.declared.expanded.Expanded.{Expanded}
 use Rattle.form_expansion.specs.declared.forms.Bench.{Bench}
 use Rattle.document_units.specs.declared.listing.Head.{Head}
 use Rattle.document_units.specs.declared.listing.Units.{Units}
+use Rattle.program_expansion.specs.UsesInTurn.{uses_at}
+use Rattle.program_expansion.proofs.TurnUses.{uses_push}
 use Rattle.document_units.proofs.ChangedLaws.{set_cases}
 use Rattle.program_expansion.proofs.TurnCited.{TurnOf, turn_of, turn_broken, turn_expanded}
 use Rattle.program_expansion.proofs.UnitGoes.{IsOfUnit, searched_goes}
@@ -166,6 +170,18 @@ module _ (spelled : LibraryName → List ℕ) (us : List Placed) (known : Known)
         count = up.count;
       }
 
+  -- a broken unit begins no macro use
+  pub broken_uses : is_there hd.fault ≡ true → uses_at us known (x ++ n ∷ []) ≡ uses_at us known x
+  broken_uses h =
+      let e = told_some (fault_before us (prepare us 0 us) p) hd.fault before h in
+      uses_push us known x n
+      ∙ (ap (λ (o : Option Prepared). uses_at us known x + scoped_worked_uses us (prepare us 0 us) known o g) turn.place
+      ∙ (ap (λ (f : Option model.WholeFault). uses_at us known x + scoped_uses_by_fault us known p f g) e.1
+      ∙ none_more (uses_at us known x)))
+    where
+      none_more : (m : ℕ) → m + 0 ≡ m
+      none_more m = omega arith
+
   module _ (whole : is_there hd.fault ≡ false) where
     pub none_before : fault_before us (prepare us 0 us) p ≡ None
     none_before = told_none (fault_before us (prepare us 0 us) p) hd.fault before whole
@@ -181,6 +197,14 @@ module _ (spelled : LibraryName → List ℕ) (us : List Placed) (known : Known)
     searched =
         sym (subst (λ (q : ScopedProgress). is_ready us (prepare us 0 us) q.results p ≡ true → searched_unit_over known p (scoped_start_after us p q) ≡ scoped_unit_over known p (scoped_start_after us p q)) turn.reached
         (unit_law us (prepare us 0 us) known (length x) p) turn.ready)
+
+    -- it counts what its forms do
+    pub expanded_uses : uses_at us known (x ++ n ∷ []) ≡ uses_at us known x + total_of gone.1.uses (form_numbers p)
+    expanded_uses =
+        uses_push us known x n
+        ∙ (ap (λ (o : Option Prepared). uses_at us known x + scoped_worked_uses us (prepare us 0 us) known o g) turn.place
+        ∙ (ap (λ (f : Option model.WholeFault). uses_at us known x + scoped_uses_by_fault us known p f g) none_before
+        ∙ ap (λ (q : Option (List Formed) × ScopedState). uses_at us known x + total_of q.1.uses (form_numbers p)) searched))
 
     abbrev entry : Entries
     entry = with_entries p.number imports.0 g.entry
@@ -210,9 +234,9 @@ module _ (spelled : LibraryName → List ℕ) (us : List Placed) (known : Known)
     pub front : InFront (IsOfUnit n) g.table gone.1.table
     front = (searched_goes known p (scoped_start_of p g entry)).table
 
-    pub expanded_next : (c : Bench) (v : Units) (came : Option Expanded) → Knows c.scope.libraries known → HaveCome us g c.work es → Expands us known c g p imports came → v.sources ≡ units.sources →
+    pub expanded_next : (c : Bench) (v : Units) (from to : ℕ) (came : Option Expanded) → Knows c.scope.libraries known → HaveCome us g c.work es → Expands us known c g p imports from to came → v.sources ≡ units.sources →
         v.heads.items ≡ slice_set units.heads.items n (broken_if (is_none came) fault.TooLarge hd) → IsUpTo spelled us known (x ++ n ∷ []) c v (slice_set es n came)
-    expanded_next c v came knows come expands sources heads =
+    expanded_next c v from to came knows come expands sources heads =
         let done = done_at us known x (n ∷ y) order in
         let fresh : is_some (result_at g.results r.unit.number) ≡ false = ap (λ m. is_some (result_at g.results m)) own ∙ turn.fresh in
         let here : ComesTo us (so_far k) c.work came r = comes_own us g.results n turn.unit turn.there r is turn.fresh ready done c.work (with_unit g gone.1) (so_far k) refl refl refl came expands.comes in

@@ -1,5 +1,5 @@
 -- What units come to by the definition of a program, and what the bench stands for between two of them (R7RS 5.1, 5.6).
-use Rattle.std.specs.Prelude.{◌≡◌, ℕ, List, length, reverse, slice_get, Option, Some, None, String}
+use Rattle.std.specs.Prelude.{◌≡◌, ℕ, ◌+◌, List, length, reverse, slice_get, Option, Some, None, String}
 use Rattle.std.specs.declared.alloc.Global.{Global}
 use Rattle.std.specs.List.{flat_map}
 use Rattle.std.specs.BTreeMap.{BTreeMap, get_by_text}
@@ -12,6 +12,8 @@ use Rattle.scheme_model.specs.Program.{Placed, Prepared, prepared, prepare, unit
 use Rattle.scheme_model.specs.ProgramArrows.{unit_names}
 use Rattle.scheme_model.specs.Spelling.{second_places}
 use Rattle.scheme_model.specs.ScopedProgram.{ScopedProgress, scoped_start_of, after_unit}
+use Rattle.macro_uses.specs.MacroUses.{total_of}
+use Rattle.macro_uses.specs.ScopedUses.{form_numbers}
 use Rattle.syntax_tree.specs.Meant.{AreEntries}
 use Rattle.syntax_tree.specs.declared.trees.Work.{Work}
 use Rattle.core_tree.specs.Units.{FormsStand, AreDefinitions, definitions_from, defined_by, AreNames, externals}
@@ -90,10 +92,11 @@ expanded_after known g p es = searched_unit_over known p (scoped_start_of p g (w
 abbrev pub with_unit : ScopedProgress → ScopedState → Program
 with_unit g s = record { units = g.results; table = s.table; entry = s.entry }
 
--- a unit was expanded, or work on it ended: what came of it, and the bench goes on behind it
-pub record Expands (all : List Placed) (known : Known) (b : Bench) (g : ScopedProgress) (p : Prepared) (imports : List Entry × List SetResult) (came : Option Expanded) : Type 0 where
+-- a unit was expanded, or work on it ended: what came of it, and the bench goes on behind it; each macro use was a step
+pub record Expands (all : List Placed) (known : Known) (b : Bench) (g : ScopedProgress) (p : Prepared) (imports : List Entry × List SetResult) (from to : ℕ) (came : Option Expanded) : Type 0 where
   pub goes : GoesOn b (after_unit p imports (with_entries p.number imports.0 g.entry) g.results (expanded_after known g p imports.0))
   pub comes : ComesTo all (with_unit g (expanded_after known g p imports.0).1) b.work came (unit_result p imports (expanded_after known g p imports.0).1.table (expanded_after known g p imports.0).0)
+  pub steps : to ≡ from + total_of (expanded_after known g p imports.0).1.uses (form_numbers p)
 
 -- the units at these places are done
 pub record IsUpTo (spelled : LibraryName → List ℕ) (all : List Placed) (known : Known) (x : List ℕ) (b : Bench) (u : Units) (es : List (Option Expanded)) : Type 0 where

@@ -1,5 +1,5 @@
 //! Units one after another (R7RS 5.6), each after what it imports.
-ghost use Rattle.std.specs.Prelude.{◌≡◌, ℕ, ◌<◌, List, [], ◌∷◌, ◌++◌, All, length, replicate, reverse, vec_len, Some, None, IfOk, OnOk, IfSome, true, if◌then◌else◌};
+ghost use Rattle.std.specs.Prelude.{◌≡◌, ℕ, ◌+◌, ◌<◌, List, [], ◌∷◌, ◌++◌, All, length, replicate, reverse, vec_len, Some, None, IfOk, OnOk, IfSome, true, if◌then◌else◌};
 ghost use Rattle.scheme_model.specs.Entries.{Entry as ModelEntry};
 ghost use Rattle.scheme_model.specs.Diagnostics.{bytes_of, unbound_diagnostics};
 ghost use Rattle.scheme_model.specs.Live.{unit_leaves};
@@ -34,6 +34,7 @@ ghost use Rattle.unit_imports.specs.SetsGiven.{AreLibraries, ImportsAs};
 ghost use Rattle.program_findings.specs.StandIn.{StandIn};
 ghost use Rattle.document_units.specs.Turned.{scoped_at, turns};
 ghost use Rattle.program_expansion.specs.UnitsExpanded.{AreAllFound};
+ghost use Rattle.program_expansion.specs.UsesInTurn.{uses_at};
 ghost use Rattle.program_expansion.specs.UnitsFound.{AreResultsOf, AreSetsFound, HaveFound, in_the_end, no_import_diagnostics};
 ghost use Rattle.document_units.specs.UnitFindings.{IsFoundOf};
 ghost use Rattle.document_units.specs.WereRead.{WereRead};
@@ -93,6 +94,10 @@ pub fn expand_all<L: Ledger>(
         Knows bench.old.scope.libraries known → GoesOn bench.old scoped_before → HeadsBy us scoped_before units.old.heads.items → AreSourcesOf spelled us units.old.sources.items →
         (reads : List Read) (ends : List UnitResult) → AreHeads reads 0 units.old.heads.items ends → HaveTokens documents.now reads → AreResultsOf us ends →
         IfOk result (λ all. HaveFound reads ends (scoped_at us known (turns us)) all.items) }
+    // Each macro use that the definition counts for them is a step.
+    ensures steps { (spelled : LibraryName → List ℕ) (us : List Placed) (known : Known) → order.now ≡ turns us → vec_len units.old.heads ≡ length us → FindsLibraries spelled us firsts.now →
+        Knows bench.old.scope.libraries known → GoesOn bench.old scoped_before → HeadsBy us scoped_before units.old.heads.items → AreSourcesOf spelled us units.old.sources.items →
+        OnOk result (steps.new ≡ steps.old + uses_at us known (turns us)) }
 {
     let mut all = nothing(alloc, units.heads.len())?;
     for place in order {
@@ -138,6 +143,9 @@ fn expand_at<L: Ledger>(
     ensures finds { (spelled : LibraryName → List ℕ) (us : List Placed) (known : Known) (x y : List ℕ) → turns us ≡ x ++ place ∷ y → FindsLibraries spelled us firsts.now →
         IsUpTo spelled us known x bench.old units.old all.old.items → (reads : List Read) (ends : List UnitResult) → AreHeads reads 0 units.old.heads.items ends → HaveTokens documents.now reads → AreResultsOf us ends →
         HaveFound reads ends (scoped_at us known x) all.old.items → OnOk result (HaveFound reads ends (scoped_at us known (x ++ place ∷ [])) all.new.items) }
+    // Each macro use that the definition counts for it is a step.
+    ensures steps { (spelled : LibraryName → List ℕ) (us : List Placed) (known : Known) (x y : List ℕ) → turns us ≡ x ++ place ∷ y → FindsLibraries spelled us firsts.now →
+        IsUpTo spelled us known x bench.old units.old all.old.items → OnOk result (steps.new + uses_at us known x ≡ steps.old + uses_at us known (x ++ place ∷ [])) }
 {
     let unit = place as usize;
     if units.heads[unit].fault.is_some() {
@@ -198,7 +206,7 @@ fn expand_unit<L: Ledger>(
     // The unit comes to what the definition gives, and the bench goes on behind it.
     ensures expands { (spelled : LibraryName → List ℕ) (us : List Placed) (known : Known) (g : ScopedProgress) (p : Prepared) (given_entries : List ModelEntry × List SetResult) → Knows bench.old.scope.libraries known →
         GoesOn bench.old g → p.number ≡ unit → IsSourceOf spelled p None source.now → AreLibraries bench.old.work.symbols libraries.entry spelled us g.results →
-        AreEntries bench.old.work.symbols given.joined.entries.items given_entries.0 → IfOk result (Expands us known bench.new g p given_entries) }
+        AreEntries bench.old.work.symbols given.joined.entries.items given_entries.0 → IfOk result (Expands us known bench.new g p given_entries steps.old steps.new) }
     // What is found of it is what the definition has of it, where the program comes to have these units.
     ensures finds { (spelled : LibraryName → List ℕ) (known : Known) (g : ScopedProgress) (p : Prepared) (given_entries : List ModelEntry × List SetResult) → Knows bench.old.scope.libraries known →
         GoesOn bench.old g → p.number ≡ unit → IsSourceOf spelled p None source.now → AreEntries bench.old.work.symbols given.joined.entries.items given_entries.0 →

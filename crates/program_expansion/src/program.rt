@@ -1,5 +1,5 @@
 //! The program of the open documents (R7RS 5), and all that is wrong in it.
-ghost use Rattle.std.specs.Prelude.{◌≡◌, ℕ, ◌<◌, ◌≤◌, List, length, map, slice_get, vec_len, Some, None, IfOk, IfSome, OnOk};
+ghost use Rattle.std.specs.Prelude.{◌≡◌, ℕ, ◌+◌, ◌<◌, ◌≤◌, List, length, map, slice_get, vec_len, Some, None, IfOk, IfSome, OnOk};
 ghost use Rattle.std.specs.FinMap.{entries};
 ghost use Rattle.ls_base.specs.Limits.{max_documents};
 ghost use Rattle.scheme_model.specs.Program.{Document as ModelDocument, Program as Model, UnitResult, WholeFault as Whole, known_in, units_of, result_at};
@@ -26,6 +26,7 @@ ghost use Rattle.document_units.specs.Readings.{AreDocuments, AreReadAs, Read, p
 ghost use Rattle.document_units.specs.Sound.{IsSound};
 ghost use Rattle.document_units.specs.Turned.{turns};
 ghost use Rattle.program_expansion.specs.UnitsExpanded.{AreAllFound};
+ghost use Rattle.program_expansion.specs.UsesInTurn.{uses_at, uses_in};
 ghost use Rattle.program_expansion.specs.UnitsFound.{AreTold, IsTold};
 ghost use Rattle.document_units.specs.UnitsListed.{WritesProper};
 
@@ -76,6 +77,8 @@ struct Worked {
 pub fn read_program<L: Ledger>(alloc: Global, store: &Store, steps: &mut Steps<L>) -> Mem<Reading>
     ensures reading { IfOk result (IsReading store.now) }
     ensures few { IfOk result (λ reading. length (entries store.now) ≤ max_documents) }
+    // Each macro use that the definition counts for the texts is a step.
+    ensures steps { (rs : List Read) → AreReadAs (entries store.now) rs → OnOk result (steps.new ≡ steps.old + uses_in rs) }
 {
     let documents = read(alloc, store)?;
     let worked = work_on(alloc, documents.as_slice(), steps)?;
@@ -97,6 +100,9 @@ fn work_on<L: Ledger>(alloc: Global, documents: &[Document], steps: &mut Steps<L
     // The units are those of the documents' data, and in their turns they came to what the definition has of them.
     ensures up { (ds : List ModelDocument) → HaveData ds documents.now → (spelled : LibraryName → List ℕ) → SpellsStandard spelled → WritesProper spelled →
         IfOk result (λ worked. IsUpTo spelled (units_of ds) (known_in ds) (turns (units_of ds)) worked.bench worked.units worked.expanded.items) }
+    // Each macro use that the definition counts for them is a step.
+    ensures steps { (ds : List ModelDocument) → HaveData ds documents.now → (spelled : LibraryName → List ℕ) → SpellsStandard spelled → WritesProper spelled →
+        OnOk result (steps.new ≡ steps.old + uses_at (units_of ds) (known_in ds) (turns (units_of ds))) }
     // Their heads have what they do.
     ensures heads { (ds : List ModelDocument) → HaveData ds documents.now → (spelled : LibraryName → List ℕ) → SpellsStandard spelled → WritesProper spelled →
         IfOk result (λ worked. AreHeadsOf library_text (units_of ds) worked.units.heads.items) }

@@ -34,7 +34,7 @@ encoding_of-said_encoding encodings.Utf32 = refl
 
 -- ---- which events are left
 
-leaves_agree : (event : store.Event) (r : Option store.Refusal) → session.leaves (said_event event) (option_map said_refusal r) ≡ leaves event r
+pub leaves_agree : (event : store.Event) (r : Option store.Refusal) → session.leaves (said_event event) (option_map said_refusal r) ≡ leaves event r
 leaves_agree (store.Added uri v t) None = refl
 leaves_agree (store.Added uri v t) (Some store.NotOpen) = refl
 leaves_agree (store.Added uri v t) (Some store.BadRange) = refl

@@ -1,7 +1,14 @@
 //! Documents are opened, changed and closed; refusals are logged, and diagnostics published (LSP 3.17, text synchronisation).
-ghost use Rattle.std.specs.Prelude.{◌≡◌, ◌+◌, ◌≤◌, ◌++◌, length, map, vec_len, vec_capacity, None, IfOk, OnErr};
+ghost use Rattle.std.specs.Prelude.{◌≡◌, ◌+◌, ◌≤◌, ◌++◌, length, map, vec_len, vec_capacity, None, IfOk, OnOk, OnErr};
 ghost use Rattle.workspace_state.specs.Events.{event_of};
+ghost use Rattle.scheme_model.specs.Session.{evented};
+ghost use Rattle.session_core.specs.Agreement.{said_event};
+ghost use Rattle.session_core.specs.Asked.{questions};
+ghost use Rattle.session_core.specs.Counted.{AreCounted};
 ghost use Rattle.session_core.specs.Events.{IsEvented, LogsFault};
+ghost use Rattle.session_core.specs.FromWire.{offsets};
+ghost use Rattle.session_core.specs.States.{state_of};
+ghost use Rattle.session_core.specs.declared.mode.Mode.{Mode};
 ghost use Rattle.session_core.specs.ToWire.{sent_list};
 
 use crate::Out;
@@ -30,6 +37,7 @@ pub fn on_event<L: Ledger>(
     ensures event { IfOk result (λ out. IsEvented workspace.old.encoding workspace.old.texts (event_of event.now) out workspace.new.texts) }
     ensures encoding { workspace.new.encoding ≡ workspace.old.encoding }
     ensures kept { OnErr result (workspace.new ≡ workspace.old) }
+    ensures counted { (mode : Mode) → OnOk result (AreCounted (evented offsets questions (state_of mode workspace.old.encoding workspace.old.texts) (said_event (event_of event.now))).replies steps.old steps.new) }
 {
     let too_long = refusal(alloc, StoreFault::TooLong, event.uri())?;
     let mut messages = Vec::with_capacity(alloc, MAX_MESSAGES)?;

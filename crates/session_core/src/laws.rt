@@ -12,6 +12,7 @@ ghost use Rattle.session_core.specs.ToWire.{AreReplies};
 ghost use Rattle.program_answers.specs.declared.publications.Published.{Published};
 ghost use Rattle.session_core.specs.Asked.{Question, IsAnswerTo, ArePublishedFor};
 ghost use Rattle.session_core.specs.Agreement.{said_event, said_after};
+ghost use Rattle.session_core.specs.Counted.{AreCounted};
 
 /// Events make the same of the texts by the store's definition as by a session's, in each encoding.
 pub fn events_agree()
@@ -23,6 +24,12 @@ pub fn events_agree()
 /// No body is refused for want of memory by the definition of what it says.
 pub fn no_body_wants_memory()
     ensures { (body : List ℕ) → message_of body ≢ Err rejects.Memory }
+{}
+
+/// Replies have one count of macro uses at most, and so has the program that texts are.
+pub fn one_count()
+    ensures { (replies : List (session.Reply Question)) (from one other : ℕ) →
+        AreCounted replies from one → AreCounted replies from other → one ≡ other }
 {}
 
 /// A question has one answer at most, and one row of lists that are published for it; and a reply of a session has one row of

@@ -6,7 +6,9 @@ ghost use Rattle.scheme_model.specs.Session as spec;
 ghost use Rattle.workspace_state.specs.Events.{event_of};
 ghost use Rattle.session_core.specs.Agreement.{said_event};
 ghost use Rattle.session_core.specs.Asked.{questions};
-ghost use Rattle.session_core.specs.FromWire.{offsets, said_id, said_call, said_note, said_message, said_reject};
+ghost use Rattle.lsp_messages.specs.Messages.{message_of};
+ghost use Rattle.session_core.specs.Counted.{AreCounted};
+ghost use Rattle.session_core.specs.FromWire.{offsets, said_by, said_id, said_call, said_note, said_message, said_reject};
 ghost use Rattle.session_core.specs.Stepped.{IsOutcome, IsStep, IsQuiet, is_event, tells_event};
 
 use crate::Out;
@@ -60,12 +62,13 @@ impl Session {
     }
 
     /// Takes the body of a message. Its shape is judged first, then the mode, then the method, then the parameters.
-    /// The steps of macro uses are counted: a body that tells no document event works none. Where memory runs out nothing has
-    /// changed.
+    /// Each macro use that the definition counts is a step: those of the texts after each event that changes them, and no others. Where
+    /// memory runs out nothing has changed.
     pub fn on_body<L: Ledger>(&mut self, body: &[u8], steps: &mut Steps<L>) -> Mem<Out>
         ensures step { IfOk result (λ out. IsStep self.old body.now out self.new) }
         ensures kept { OnErr result (self.new ≡ self.old) }
         ensures steps { IsQuiet body.now → steps.new ≡ steps.old }
+        ensures counted { OnOk result (AreCounted (step offsets questions self.old (said_by (message_of body.now))).replies steps.old steps.new) }
     {
         match read_message(self.alloc, body) {
             Ok(message) => Ok(self.on_message(message, steps)?),
@@ -79,6 +82,7 @@ impl Session {
             (step offsets questions self.old (said_message message)) out self.new) }
         ensures kept { OnErr result (self.new ≡ self.old) }
         ensures steps { tells_event (said_message message) ≡ false → steps.new ≡ steps.old }
+        ensures counted { OnOk result (AreCounted (step offsets questions self.old (said_message message)).replies steps.old steps.new) }
     {
         match message {
             Message::Request { id, call } => Ok(self.on_request(id, call)?),
@@ -194,6 +198,7 @@ impl Session {
             (step offsets questions self.old (spec.Notice (said_note note))) out self.new) }
         ensures kept { OnErr result (self.new ≡ self.old) }
         ensures steps { is_event (said_note note) ≡ false → steps.new ≡ steps.old }
+        ensures counted { OnOk result (AreCounted (step offsets questions self.old (spec.Notice (said_note note))).replies steps.old steps.new) }
     {
         match self.mode {
             Mode::Fresh | Mode::Shut => Ok(self.on_dropped(&note)),
@@ -222,6 +227,7 @@ impl Session {
             (spec.noticed offsets questions self.old (said_note note)) out self.new) }
         ensures kept { OnErr result (self.new ≡ self.old) }
         ensures steps { is_event (said_note note) ≡ false → steps.new ≡ steps.old }
+        ensures counted { OnOk result (AreCounted (spec.noticed offsets questions self.old (said_note note)).replies steps.old steps.new) }
     {
         match note {
             Note::Exit => Ok(ended(self.alloc, self.mode.exit_code())),
@@ -252,6 +258,7 @@ impl Session {
         ensures step { IfOk result (λ out. IsOutcome
             (evented offsets questions self.old (said_event (event_of event.now))) out self.new) }
         ensures kept { OnErr result (self.new ≡ self.old) }
+        ensures counted { OnOk result (AreCounted (evented offsets questions self.old (said_event (event_of event.now))).replies steps.old steps.new) }
     {
         Ok(on_event(self.alloc, &mut self.workspace, event, steps)?)
     }

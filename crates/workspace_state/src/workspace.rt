@@ -1,5 +1,5 @@
 //! The workspace: the open documents and the program that they are. Each event reads and expands all of them anew.
-ghost use Rattle.std.specs.Prelude.{◌≡◌, ◌+◌, ◌<◌, ◌≤◌, ◌==◌, List, length, slice_get, true, IfOk, IfSome, OnOk, OnErr};
+ghost use Rattle.std.specs.Prelude.{◌≡◌, ◌+◌, ◌<◌, ◌≤◌, ◌==◌, List, length, slice_get, true, false, IfOk, IfSome, OnOk, OnErr};
 ghost use Rattle.std.specs.Option.{option_map};
 ghost use Rattle.std.specs.FinMap.{empty, entries};
 ghost use Rattle.std.specs.List.Sorted.{IsStrictlySortedBy};
@@ -21,6 +21,7 @@ ghost use Rattle.document_units.specs.Places.{spans_of};
 ghost use Rattle.document_units.specs.UnitFindings.{first_error_at};
 ghost use Rattle.workspace_state.specs.Events.{leaves, event_of, fault_of, uri_of};
 ghost use Rattle.program_answers.specs.Updates.{Publishes};
+ghost use Rattle.program_expansion.specs.UsesInTurn.{uses_in};
 
 use crate::events::{DocEvent, Updated};
 use crate::expansion::{Expansion, Indexed};
@@ -110,6 +111,11 @@ impl Workspace {
         // The refusal is the store's.
         ensures refused { IfOk result (λ updated. updated.refused
             ≡ option_map fault_of (store.after self.old.encoding self.old.texts (event_of event.now)).1) }
+
+        // Each macro use that the definition counts for the texts is a step. After a refusal that leaves the texts there is none.
+        ensures steps { leaves (event_of event.now) (store.after self.old.encoding self.old.texts (event_of event.now)).1 ≡ false →
+            (rs : List Read) → AreReadAs (entries self.new.texts) rs → OnOk result (steps.new ≡ steps.old + uses_in rs) }
+        ensures quiet { leaves (event_of event.now) (store.after self.old.encoding self.old.texts (event_of event.now)).1 ≡ true → OnOk result (steps.new ≡ steps.old) }
     {
         let alloc = self.alloc;
         let encoding = self.encoding;
@@ -279,6 +285,7 @@ fn read_all<L: Ledger>(alloc: Global, store: Store, steps: &mut Steps<L>) -> Mem
     ensures few { IfOk result (λ read. length (entries store) ≤ max_documents) }
     ensures program { IfOk result (λ read. IsProgramOfTexts store read.1.expansion.work read.1.expansion.program) }
     ensures found { (rs : List Read) → AreReadAs (entries store) rs → IfOk result (λ read. AreFoundOf rs read.1.findings.items) }
+    ensures steps { (rs : List Read) → AreReadAs (entries store) rs → OnOk result (steps.new ≡ steps.old + uses_in rs) }
 {
     let reading = read_program(alloc, &store, steps)?;
     let Reading {

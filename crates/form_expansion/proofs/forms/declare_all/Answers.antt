@@ -5,7 +5,8 @@ use Rattle.scheme_model.specs.ScopedProgram.{forms_over}
 use Rattle.library_table.specs.UnitsRead.{forms_of}
 use Rattle.form_expansion.specs.declared.forms.Declared as code
 use Rattle.form_expansion.proofs.BenchLaws.{stays_itself, stays_on}
-use Rattle.form_expansion.proofs.FormsHold.{Holds, PassedFrom, none_held, next_form, none_from, next_from, all_passed, dropped_all, can_pass, read_here, few_more}
+use Rattle.form_expansion.specs.Forms.{used_by}
+use Rattle.form_expansion.proofs.FormsHold.{used_more, Holds, PassedFrom, none_held, next_form, none_from, next_from, all_passed, dropped_all, can_pass, read_here, few_more}
 use Rattle.form_expansion.proofs.forms.declare_all.Goals as goal
 use Rattle.form_expansion.proofs.forms.declare_all.Goals.{else-loop-place-test, then-loop-place-test+then-is_large}
 
@@ -20,6 +21,7 @@ loop-place-init g c = record {
       subst (λ (n : ℕ). PassedFrom c.args.bench.now c.args.bench.now c.args.unit n 0 c.args.forms.now c.new-all.result.items) (sym c.requires.nothing)
       (subst (λ (ds : List code.Declared). PassedFrom c.args.bench.now c.args.bench.now c.args.unit 0 0 c.args.forms.now ds) (sym c.new-all.ensures.items)
       (none_from c.args.bench.now c.args.unit c.args.forms.now c.requires.begun.region));
+  steps = subst (λ (ds : List code.Declared). c.args.steps.now ≡ c.args.steps.now + used_by ds) (sym c.new-all.ensures.items) (omega arith);
 }
 
 pub declare-requires-clause-read : goal.declare-requires-clause-read
@@ -46,6 +48,9 @@ loop-place-preserved g c =
           (subst (λ (ds : List code.Declared). PassedFrom c.args.bench.now c.declare.new.bench c.args.unit (l.total + d.budget.nodes) (suc l.place) c.args.forms.now ds) (sym items)
           (next_from c.args.bench.now l.bench c.declare.new.bench c.args.unit l.total l.place c.args.forms.now l.all.items i.so i.stays (sym i.count) (sym c.is_large.ensures ∙ c.if-is_large.false) d
           c.in_ok-number.number c.in_ok-number.ensures c.index-forms-place.result c.loop-place-test.true c.index-forms-place.is e.blank e.same e.passes));
+      steps =
+          let more = e.steps in let was = i.steps in let one = used_more l.all.items d in
+          subst (λ (ds : List code.Declared). c.declare.new.steps ≡ c.args.steps.now + used_by ds) (sym items) (omega (arith, more, was, one));
     }
 
 pub declare-requires-clause-region : goal.declare-requires-clause-region

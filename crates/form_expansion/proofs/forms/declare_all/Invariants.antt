@@ -1,5 +1,5 @@
-use Rattle.std.proofs.Common.{◌≡◌, ◌≤◌, length}
-use Rattle.form_expansion.specs.Forms.{Stays}
+use Rattle.std.proofs.Common.{◌≡◌, ◌+◌, ◌≤◌, length}
+use Rattle.form_expansion.specs.Forms.{used_by, Stays}
 use Rattle.form_expansion.proofs.FormsHold.{Holds, PassedFrom}
 use Rattle.form_expansion.proofs.forms.declare_all.Given as goal
 
@@ -11,4 +11,5 @@ invariant-loop-place g l = record {
   few : l.total ≤ 700000;
   stays : Stays l.fn.bench l.bench;
   so : PassedFrom l.fn.bench l.bench l.unit l.total l.place l.forms l.all.items;
+  steps : l.steps ≡ l.fn.steps + used_by l.all.items;
 }

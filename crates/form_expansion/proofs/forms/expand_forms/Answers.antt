@@ -2,7 +2,7 @@
 use Rattle.std.proofs.Common.{sym, ◌∙◌}
 use Rattle.form_expansion.proofs.BenchLaws.{stays_on}
 use Rattle.form_expansion.proofs.FormsHold.{held_bench}
-use Rattle.form_expansion.proofs.FormsUnfold.{passing_unfolds, can_finish_all, finishing_unfolds, all_unfolds}
+use Rattle.form_expansion.proofs.FormsUnfold.{passing_unfolds, passing_steps, can_finish_all, finishing_unfolds, all_unfolds, all_steps}
 use Rattle.library_table.specs.UnitsRead.{forms_of}
 use Rattle.form_expansion.proofs.forms.expand_forms.Goals as goal
 
@@ -43,7 +43,7 @@ returns-then-is_large-2-clause-unfolds g c = λ known ls s p knows stands own fr
     let h = c.in_ok-declared.ensures.passes known ls s knows stands own fresh in let few = sym c.is_large.ensures ∙ c.if-is_large.false in
     let b = c.declare_all.new.bench in let ds = c.in_ok-declared.declared.items in let fs = forms_of c.args.forms.now in
     let can = can_finish_all known p s c.args.unit number fs forms b c.declare_all.new.total ds h few in
-    finishing_unfolds known p s c.args.unit number fs forms b c.declare_all.new.total ds h few c.finish_all.new.bench c.finish_all.new.total c.in_ok-expanded.expanded
+    finishing_unfolds known p s c.args.unit number fs forms b c.declare_all.new.total ds h few c.finish_all.new.bench c.finish_all.new.total c.declare_all.new.steps c.finish_all.new.steps c.in_ok-expanded.expanded
     (c.in_ok-expanded.ensures.finishes known h.held _ (c.in_ok-declared.ensures.stays.libraries known knows) can) (sym c.is_large-2.ensures ∙ c.if-is_large-2.true)
 
 pub returns-clause-unfolds : goal.returns-clause-unfolds
@@ -51,9 +51,30 @@ returns-clause-unfolds g c = λ known ls s p knows stands own fresh number forms
     let h = c.in_ok-declared.ensures.passes known ls s knows stands own fresh in let few = sym c.is_large.ensures ∙ c.if-is_large.false in
     let b = c.declare_all.new.bench in let ds = c.in_ok-declared.declared.items in let fs = forms_of c.args.forms.now in
     let can = can_finish_all known p s c.args.unit number fs forms b c.declare_all.new.total ds h few in
-    all_unfolds known p s c.args.unit number fs forms b c.declare_all.new.total ds h few c.finish_all.new.bench c.finish_all.new.total c.in_ok-expanded.expanded
+    all_unfolds known p s c.args.unit number fs forms b c.declare_all.new.total ds h few c.finish_all.new.bench c.finish_all.new.total c.declare_all.new.steps c.finish_all.new.steps c.in_ok-expanded.expanded
     (c.in_ok-expanded.ensures.finishes known h.held _ (c.in_ok-declared.ensures.stays.libraries known knows) can) (sym c.is_large-2.ensures ∙ c.if-is_large-2.false)
 
 pub returns-clause-count : goal.returns-clause-count
 returns-clause-count g c =
     c.in_ok-expanded.ensures.count (sym c.is_large-2.ensures ∙ c.if-is_large-2.false) ∙ c.in_ok-declared.ensures.count (sym c.is_large.ensures ∙ c.if-is_large.false)
+
+pub returns-then-is_large-clause-steps : goal.returns-then-is_large-clause-steps
+returns-then-is_large-clause-steps g c = λ known ls s p knows stands own fresh number forms.
+    passing_steps known p s c.args.unit number (forms_of c.args.forms.now) forms c.declare_all.new.bench c.declare_all.new.total c.in_ok-declared.declared.items
+    (c.in_ok-declared.ensures.passes known ls s knows stands own fresh) (sym c.is_large.ensures ∙ c.if-is_large.true) c.args.steps.now c.declare_all.new.steps c.in_ok-declared.ensures.steps
+
+pub returns-then-is_large-2-clause-steps : goal.returns-then-is_large-2-clause-steps
+returns-then-is_large-2-clause-steps g c = λ known ls s p knows stands own fresh number forms.
+    let h = c.in_ok-declared.ensures.passes known ls s knows stands own fresh in let few = sym c.is_large.ensures ∙ c.if-is_large.false in
+    let b = c.declare_all.new.bench in let ds = c.in_ok-declared.declared.items in let fs = forms_of c.args.forms.now in
+    let can = can_finish_all known p s c.args.unit number fs forms b c.declare_all.new.total ds h few in
+    all_steps known p s c.args.unit number fs forms b c.declare_all.new.total ds h few c.finish_all.new.bench c.finish_all.new.total c.declare_all.new.steps c.finish_all.new.steps c.in_ok-expanded.expanded
+    (c.in_ok-expanded.ensures.finishes known h.held _ (c.in_ok-declared.ensures.stays.libraries known knows) can) c.args.steps.now c.in_ok-declared.ensures.steps
+
+pub returns-clause-steps : goal.returns-clause-steps
+returns-clause-steps g c = λ known ls s p knows stands own fresh number forms.
+    let h = c.in_ok-declared.ensures.passes known ls s knows stands own fresh in let few = sym c.is_large.ensures ∙ c.if-is_large.false in
+    let b = c.declare_all.new.bench in let ds = c.in_ok-declared.declared.items in let fs = forms_of c.args.forms.now in
+    let can = can_finish_all known p s c.args.unit number fs forms b c.declare_all.new.total ds h few in
+    all_steps known p s c.args.unit number fs forms b c.declare_all.new.total ds h few c.finish_all.new.bench c.finish_all.new.total c.declare_all.new.steps c.finish_all.new.steps c.in_ok-expanded.expanded
+    (c.in_ok-expanded.ensures.finishes known h.held _ (c.in_ok-declared.ensures.stays.libraries known knows) can) c.args.steps.now c.in_ok-declared.ensures.steps

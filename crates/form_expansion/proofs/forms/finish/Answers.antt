@@ -21,7 +21,7 @@ use Rattle.form_expansion.proofs.forms.finish.Goals.{else-loop-item-test, then-l
 
 pub returns-then-is_some-clause-finishes : goal.returns-then-is_some-clause-finishes
 returns-then-is_some-clause-finishes g c = λ known ls s notes r knows stands own h.
-    broken_first c.args.bench.now known c.args.unit c.args.number ls s notes c.args.form r c.args.total.now c.broken.result stands own h c.requires.few (sym c.is_some.ensures ∙ c.if-is_some.true) c.broken.ensures.fault c.broken.ensures.definitions
+    broken_first c.args.bench.now known c.args.unit c.args.number ls s notes c.args.form r c.args.total.now c.broken.result stands own h c.requires.few (sym c.is_some.ensures ∙ c.if-is_some.true) c.broken.ensures.fault c.broken.ensures.definitions c.args.steps.now
 
 pub returns-then-is_some-clause-stays : goal.returns-then-is_some-clause-stays
 returns-then-is_some-clause-stays g c = stays_itself c.args.bench.now c.requires.region
@@ -30,7 +30,7 @@ pub returns-then-is_some-clause-blank : goal.returns-then-is_some-clause-blank
 returns-then-is_some-clause-blank g c = λ un. absurd (true≢false (sym c.if-is_some.true ∙ c.is_some.ensures ∙ ap (λ f. is_some f) un.fault))
 
 pub returns-then-is_some-clause-same : goal.returns-then-is_some-clause-same
-returns-then-is_some-clause-same g c = λ un. (refl, refl)
+returns-then-is_some-clause-same g c = λ un. (refl, refl, refl)
 
 pub meet_uses-requires-clause-stands : goal.meet_uses-requires-clause-stands
 meet_uses-requires-clause-stands g c =
@@ -54,7 +54,8 @@ loop-item-init g c =
       stays = uses_stay b u c.requires.region c.in_ok-meet_uses.ensures.scope;
       so = subst (λ (xs : List ExpandedItem). Continues b (with_scope b u) c.args.unit c.args.number c.args.form 0 c.args.total.now c.args.total.now c.args.form.budget c.meet_uses.new.trace xs) (sym c.new-items.ensures)
           (uses_continue b c.args.unit c.args.number c.args.form none u c.meet_uses.new.trace call c.args.total.now c.requires.few);
-      none = λ un. (c.new-items.ensures, still_blank b c.args.unit c.args.number c.args.form none u c.meet_uses.new.trace call un c.requires.stands, ap (λ (v : UnitScope). with_scope b v) c.in_ok-meet_uses.ensures.scope, refl);
+      none = λ un. (c.new-items.ensures, still_blank b c.args.unit c.args.number c.args.form none u c.meet_uses.new.trace call un c.requires.stands, ap (λ (v : UnitScope). with_scope b v) c.in_ok-meet_uses.ensures.scope, refl, refl);
+      steps = refl;
     }
 
 pub expand-requires-clause-item : goal.expand-requires-clause-item
@@ -81,6 +82,7 @@ loop-item-preserved g c =
           (ok_finishes c.args.bench.now l.bench c.args.unit c.args.number c.args.form none l.invariant.stays l.item-index c.args.total.now l.total l.budget l.trace l.items l.invariant.so c.as_slice-item-items.result.now c.as_slice-item-items.ensures c.item-item.result c.loop-item-test.true c.item-item.is
           e.new.bench e.new.budget e.new.trace e.ensures.keeps e.ensures.names e.ensures.added e.ensures.regions e.ensures.region c.in-Ok.expanded few c.in-Ok.ensures.expanded));
       none = λ un. none_there c.as_slice-item-items.result.now c.args.form.aside c.as_slice-item-items.ensures un.aside l.item-index c.loop-item-test.true;
+      steps = let more = e.ensures.steps in let was = l.invariant.steps in omega (arith, more, was);
     }
 
 pub overflow_sub-total : goal.overflow_sub-total
@@ -100,6 +102,7 @@ returns-in-Err-At-clause-finishes g c =
     at_finishes c.args.bench.now l.bench c.args.unit c.args.number c.args.form none l.invariant.stays l.item-index c.args.total.now l.total l.budget l.trace l.items l.invariant.so c.as_slice-item-items.result.now c.as_slice-item-items.ensures c.item-item.result c.loop-item-test.true c.item-item.is
     e.new.bench e.new.budget e.new.trace e.ensures.keeps e.ensures.names e.ensures.added e.ensures.regions e.ensures.region c.in-Err-At.fault (l.total + (e.new.budget.nodes - l.budget.nodes)) (omega (arith, more)) few step
     c.broken-in-Err-At.result (c.broken-in-Err-At.ensures.fault ∙ ap (λ (f : FormFault). Some f) c.in-Err-At.fault-is) c.broken-in-Err-At.ensures.definitions
+    c.args.steps.now e.new.steps (let one = e.ensures.steps in let was = l.invariant.steps in omega (arith, one, was))
 
 pub returns-in-Err-At-clause-stays : goal.returns-in-Err-At-clause-stays
 returns-in-Err-At-clause-stays g c =
@@ -123,13 +126,14 @@ returns-clause-finishes g c =
       | else-loop-item-test w ↦ subst (λ (xs : List code_item.Item). length xs ≤ l.item-index) c.as_slice-item-items.ensures w.loop-item-test.false
       | then-loop-item-test+then-is_large w ↦ absurd (true≢false (sym w.if-is_large.true ∙ w.is_large.ensures ∙ few))
     ])
+    c.args.steps.now l.steps l.invariant.steps
 
 pub returns-clause-blank : goal.returns-clause-blank
 returns-clause-blank g c = λ un.
     let h = c.loop-item.invariant.none un in record { items = h.0; definitions = h.1.definitions; keywords = h.1.keywords; uses = h.1.uses; fault = refl }
 
 pub returns-clause-same : goal.returns-clause-same
-returns-clause-same g c = λ un. let h = c.loop-item.invariant.none un in (h.2, h.3)
+returns-clause-same g c = λ un. let h = c.loop-item.invariant.none un in (h.2, h.3, h.4)
 
 pub overflow_add-total : goal.overflow_add-total
 overflow_add-total g c =

@@ -28,8 +28,8 @@ loop-place-init g c = record {
   count = ap (λ (cs : List UnitForm). length cs) c.new-forms.ensures;
   stays = stays_itself c.args.bench.now c.requires.region;
   so =
-      subst (λ (cs : List UnitForm). AllFrom c.args.bench.now c.args.bench.now c.args.unit c.args.declared.items c.args.total.now c.args.total.now 0 cs) (sym c.new-forms.ensures)
-      (none_from c.args.bench.now c.args.unit c.args.declared.items c.args.total.now);
+      subst (λ (cs : List UnitForm). AllFrom c.args.bench.now c.args.bench.now c.args.unit c.args.declared.items c.args.total.now c.args.total.now 0 c.args.steps.now c.args.steps.now cs) (sym c.new-forms.ensures)
+      (none_from c.args.bench.now c.args.unit c.args.declared.items c.args.total.now c.args.steps.now);
 }
 
 pub finish-requires-clause-stands : goal.finish-requires-clause-stands
@@ -42,9 +42,9 @@ pub loop-place-preserved : goal.loop-place-preserved
 loop-place-preserved g c =
     let l = c.loop-place in let ds = c.args.declared.items in let e = c.in_ok-finish.ensures in let k = c.in_ok-finish.field-0 in
     let p = turn g (goal.at.loop-place-preserved g c).In-Some in
-    let done : Finished l.bench c.finish.new.bench c.args.unit (length l.yielded) c.in-Some.form l.total c.finish.new.total k =
-    subst (λ (m : ℕ). Finished l.bench c.finish.new.bench c.args.unit m c.in-Some.form l.total c.finish.new.total k) (c.in_ok-number.ensures ∙ p.0) e.finishes in
-    let x = finished_at l.bench c.finish.new.bench c.args.unit (length l.yielded) ds l.forms k l.invariant.finished e.stays.trees e.stays.names c.in-Some.form p.1 l.total c.finish.new.total done in
+    let done : Finished l.bench c.finish.new.bench c.args.unit (length l.yielded) c.in-Some.form l.total c.finish.new.total l.steps c.finish.new.steps k =
+    subst (λ (m : ℕ). Finished l.bench c.finish.new.bench c.args.unit m c.in-Some.form l.total c.finish.new.total l.steps c.finish.new.steps k) (c.in_ok-number.ensures ∙ p.0) e.finishes in
+    let x = finished_at l.bench c.finish.new.bench c.args.unit (length l.yielded) ds l.forms k l.invariant.finished e.stays.trees e.stays.names c.in-Some.form p.1 l.total c.finish.new.total l.steps c.finish.new.steps done in
     let next : suc (length l.yielded) ≡ length (l.yielded ++ (c.in-Some.place, c.in-Some.form) ∷ []) = let long = length_push l.yielded (c.in-Some.place, c.in-Some.form) in omega (arith, long) in
     record {
       finished =
@@ -53,10 +53,10 @@ loop-place-preserved g c =
       count = ap (λ (cs : List UnitForm). length cs) c.in_ok-push.ensures.ok ∙ (let one = length_push l.forms k in let at = l.invariant.count in omega (arith, one, at, next));
       stays = stays_on c.args.bench.now l.bench c.finish.new.bench l.invariant.stays e.stays;
       so =
-          subst (λ (cs : List UnitForm). AllFrom c.args.bench.now c.finish.new.bench c.args.unit ds c.args.total.now c.finish.new.total (length (l.yielded ++ (c.in-Some.place, c.in-Some.form) ∷ [])) cs) (sym c.in_ok-push.ensures.ok)
-          (subst (λ (n : ℕ). AllFrom c.args.bench.now c.finish.new.bench c.args.unit ds c.args.total.now c.finish.new.total n (l.forms ++ k ∷ [])) next
-          (next_from c.args.bench.now l.bench c.finish.new.bench c.args.unit ds c.args.total.now l.total (length l.yielded) l.forms l.invariant.so l.invariant.stays e.stays (sym c.is_large.ensures ∙ c.if-is_large.false)
-          c.in-Some.form p.1 k c.finish.new.total e.blank e.same done));
+          subst (λ (cs : List UnitForm). AllFrom c.args.bench.now c.finish.new.bench c.args.unit ds c.args.total.now c.finish.new.total (length (l.yielded ++ (c.in-Some.place, c.in-Some.form) ∷ [])) c.args.steps.now c.finish.new.steps cs) (sym c.in_ok-push.ensures.ok)
+          (subst (λ (n : ℕ). AllFrom c.args.bench.now c.finish.new.bench c.args.unit ds c.args.total.now c.finish.new.total n c.args.steps.now c.finish.new.steps (l.forms ++ k ∷ [])) next
+          (next_from c.args.bench.now l.bench c.finish.new.bench c.args.unit ds c.args.total.now l.total (length l.yielded) c.args.steps.now l.steps l.forms l.invariant.so l.invariant.stays e.stays (sym c.is_large.ensures ∙ c.if-is_large.false)
+          c.in-Some.form p.1 k c.finish.new.total c.finish.new.steps e.blank e.same done));
     }
 
 pub finish-requires-clause-few : goal.finish-requires-clause-few
@@ -84,7 +84,7 @@ finish-requires-clause-region g c = c.loop-place.invariant.stays.opened
 pub returns-clause-finishes : goal.returns-clause-finishes
 returns-clause-finishes g c =
     let l = c.loop-place in let ds = c.args.declared.items in
-    all_from c.args.bench.now l.bench c.args.unit ds c.args.total.now l.total (length l.yielded) l.forms l.invariant.so
+    all_from c.args.bench.now l.bench c.args.unit ds c.args.total.now l.total (length l.yielded) c.args.steps.now l.steps l.forms l.invariant.so
     (λ few.
     elim c.match-next.branch [
       | in-None w ↦

@@ -1,5 +1,5 @@
 -- Each unit is new when its turn comes, since each stands once in the order.
-use Rattle.std.proofs.Common.{◌≡◌, ℕ, zero, suc, ◌<◌, [], ◌∷◌, ◌++◌, take, drop, length, refl, sym, ap, ◌∙◌, subst, arith, get_or, List, None}
+use Rattle.std.proofs.Common.{◌≡◌, ℕ, zero, suc, ◌+◌, ◌<◌, [], ◌∷◌, ◌++◌, take, drop, length, refl, sym, ap, ◌∙◌, subst, arith, get_or, List, None}
 use Rattle.std.specs.Prelude.{Option}
 use Rattle.std.proofs.lemmas.List.{length-replicate, take_all, take_more}
 use Rattle.std.proofs.lemmas.Option.{slice_get-get_or}
@@ -12,6 +12,7 @@ use Rattle.program_expansion.specs.Formed.{CameFormed}
 use Rattle.unit_imports.specs.EntriesMeant.{ExportsMean}
 use Rattle.document_units.specs.Turned.{scoped_at}
 use Rattle.program_expansion.specs.UnitsExpanded.{AreAllFound}
+use Rattle.program_expansion.specs.UsesInTurn.{uses_at}
 use Rattle.program_expansion.specs.UnitsFound.{HaveFound}
 use Rattle.document_units.proofs.BrokenLaws.{heads_itself, heads_on, names_itself, names_then}
 use Rattle.document_units.proofs.HeadsKept.{heads_kept}
@@ -26,6 +27,9 @@ split_at : (xs : List ℕ) (i p : ℕ) → i < length xs → xs ≡ take i xs ++
 split_at [] i p lt = absurd (omega arith)
 split_at (x ∷ xs) zero p lt = refl
 split_at (x ∷ xs) (suc i) p lt = ap (λ (l : List ℕ). x ∷ l) (split_at xs i p (omega arith))
+
+none_more : (n : ℕ) → n ≡ n + 0
+none_more n = omega arith
 
 pub loop-place-init : goal.loop-place-init
 loop-place-init g c =
@@ -42,6 +46,7 @@ loop-place-init g c =
       formed = subst (λ (xs : List (Option Expanded)). CameFormed c.args.bench.now.work xs) (sym is) (none_formed c.args.bench.now.work c.len.result);
       up = λ spelled us known order many finds knows goes heads sources.
           record { knows = knows; goes = goes; come = subst (λ (xs : List (Option Expanded)). HaveCome us scoped_before c.args.bench.now.work xs) (sym is) (none_come us scoped_before refl c.args.bench.now.work c.len.result); heads = heads; sources = sources; count = ap (λ (xs : List (Option Expanded)). length xs) is ∙ (length-replicate c.len.result none ∙ (c.len.ensures ∙ many)) };
+      steps = λ spelled us known order many finds knows goes heads sources. none_more c.args.steps.now;
       finds = λ spelled us known order many finds knows goes heads sources reads ends are tokens results. λ n e r at there. none_some r there;
       new = λ k u le at. c.requires.new u (in_at c.args.order.now k u at);
     }
@@ -87,6 +92,12 @@ loop-place-preserved g c =
           subst (λ (done : List ℕ). IsUpTo spelled us known done c.expand_at.new.bench c.expand_at.new.units c.expand_at.new.all.items) (sym (take_more c.args.order.now i 0 lt))
           (c.in_ok-expand_at.ensures.next spelled us known (take i c.args.order.now) (drop (suc i) c.args.order.now) (sym order ∙ split_at c.args.order.now i 0 lt) finds
           (c.loop-place.invariant.up spelled us known order many finds knows goes heads sources));
+      steps = λ spelled us known order many finds knows goes heads sources.
+          let one = c.in_ok-expand_at.ensures.steps spelled us known (take i c.args.order.now) (drop (suc i) c.args.order.now) (sym order ∙ split_at c.args.order.now i 0 lt) finds
+          (c.loop-place.invariant.up spelled us known order many finds knows goes heads sources) in
+          let was = c.loop-place.invariant.steps spelled us known order many finds knows goes heads sources in
+          let whole = ap (uses_at us known) (take_more c.args.order.now i 0 lt) in
+          omega (arith, one, was, whole);
       finds = λ spelled us known order many finds knows goes heads sources reads ends are tokens results.
           subst (λ (done : List ℕ). HaveFound reads ends (scoped_at us known done) c.expand_at.new.all.items) (sym (take_more c.args.order.now i 0 lt))
           (c.in_ok-expand_at.ensures.finds spelled us known (take i c.args.order.now) (drop (suc i) c.args.order.now) (sym order ∙ split_at c.args.order.now i 0 lt) finds
@@ -100,6 +111,11 @@ pub returns-clause-up : goal.returns-clause-up
 returns-clause-up g c = λ spelled us known order many finds knows goes heads sources.
     subst (λ (done : List ℕ). IsUpTo spelled us known done c.loop-place.bench c.loop-place.units c.loop-place.all.items) (take_all c.loop-place.place-index c.args.order.now (omega arith) ∙ order)
     (c.loop-place.invariant.up spelled us known order many finds knows goes heads sources)
+
+pub returns-clause-steps : goal.returns-clause-steps
+returns-clause-steps g c = λ spelled us known order many finds knows goes heads sources.
+    c.loop-place.invariant.steps spelled us known order many finds knows goes heads sources
+    ∙ ap (λ (done : List ℕ). c.args.steps.now + uses_at us known done) (take_all c.loop-place.place-index c.args.order.now (omega arith) ∙ order)
 
 pub returns-clause-finds : goal.returns-clause-finds
 returns-clause-finds g c = λ spelled us known order many finds knows goes heads sources reads ends are tokens results.

@@ -1,4 +1,4 @@
-use Rattle.std.proofs.Common.{◌≡◌, ℕ, ◌≤◌, List, length, take, vec_len, slice_get, Some}
+use Rattle.std.proofs.Common.{◌≡◌, ℕ, ◌+◌, ◌≤◌, List, length, take, vec_len, slice_get, Some}
 use Rattle.scheme_model.specs.Program.{Placed, UnitResult}
 use Rattle.scheme_model.specs.Requirements.{Known, LibraryName}
 use Rattle.scheme_model.specs.ScopedProgram.{scoped_before}
@@ -13,6 +13,7 @@ use Rattle.unit_imports.specs.EntriesMeant.{ExportsMean}
 use Rattle.document_units.specs.Places.{AreHeads, HeadsStay, NamesKept, HaveTokens}
 use Rattle.document_units.specs.Readings.{Read}
 use Rattle.program_expansion.specs.UnitsExpanded.{AreAllFound}
+use Rattle.program_expansion.specs.UsesInTurn.{uses_at}
 use Rattle.program_expansion.specs.UnitsFound.{AreResultsOf, HaveFound}
 use Rattle.program_expansion.proofs.expanding.expand_all.Given as goal
 
@@ -29,6 +30,8 @@ invariant-loop-place g l = record {
   formed : CameFormed l.bench.work l.all.items;
   up : (spelled : LibraryName → List ℕ) (us : List Placed) (known : Known) → l.order ≡ turns us → vec_len l.fn.units.heads ≡ length us → FindsLibraries spelled us l.firsts → Knows l.fn.bench.scope.libraries known → GoesOn l.fn.bench scoped_before → HeadsBy us scoped_before l.fn.units.heads.items →
       AreSourcesOf spelled us l.fn.units.sources.items → IsUpTo spelled us known (take l.place-index l.order) l.bench l.units l.all.items;
+  steps : (spelled : LibraryName → List ℕ) (us : List Placed) (known : Known) → l.order ≡ turns us → vec_len l.fn.units.heads ≡ length us → FindsLibraries spelled us l.firsts → Knows l.fn.bench.scope.libraries known → GoesOn l.fn.bench scoped_before → HeadsBy us scoped_before l.fn.units.heads.items →
+      AreSourcesOf spelled us l.fn.units.sources.items → l.steps ≡ l.fn.steps + uses_at us known (take l.place-index l.order);
   finds : (spelled : LibraryName → List ℕ) (us : List Placed) (known : Known) → l.order ≡ turns us → vec_len l.fn.units.heads ≡ length us → FindsLibraries spelled us l.firsts → Knows l.fn.bench.scope.libraries known → GoesOn l.fn.bench scoped_before → HeadsBy us scoped_before l.fn.units.heads.items →
       AreSourcesOf spelled us l.fn.units.sources.items → (reads : List Read) (ends : List UnitResult) → AreHeads reads 0 l.fn.units.heads.items ends → HaveTokens l.documents reads → AreResultsOf us ends →
       HaveFound reads ends (scoped_at us known (take l.place-index l.order)) l.all.items;

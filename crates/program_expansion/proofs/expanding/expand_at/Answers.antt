@@ -1,5 +1,5 @@
 -- The unit's head and source are there, and so is its document.
-use Rattle.std.proofs.Common.{◌≡◌, List, ◌∷◌, length, slice_set, true, false, refl, sym, ap, ◌∙◌, subst, arith, Bool, Option}
+use Rattle.std.proofs.Common.{◌≡◌, ℕ, ◌+◌, List, ◌∷◌, length, slice_set, true, false, refl, sym, ap, ◌∙◌, subst, arith, Bool, Option}
 use Rattle.std.specs.Prelude.{not}
 use Rattle.std.specs.Option.{is_some as is_there}
 use Rattle.std.proofs.lemmas.Option.{slice_get_read, same_Some}
@@ -26,7 +26,7 @@ use Rattle.program_expansion.proofs.CameKept.{have_kept, libraries_kept}
 use Rattle.program_expansion.proofs.TurnCited.{turn_of}
 use Rattle.program_expansion.proofs.UnitCame.{goes_in}
 use Rattle.program_expansion.proofs.UpTo.{done_at}
-use Rattle.program_expansion.proofs.UpToNext.{libraries_of, broken_next, none_before, expanded_next}
+use Rattle.program_expansion.proofs.UpToNext.{libraries_of, broken_next, broken_uses, expanded_uses, none_before, expanded_next}
 use Rattle.document_units.proofs.BrokenLaws.{heads_itself, head_set, head_broken, names_broken, names_itself}
 use Rattle.program_expansion.proofs.FoundNext.{broken_found, expanded_found}
 use Rattle.unit_imports.proofs.MeaningLaws.{names_on}
@@ -144,9 +144,47 @@ returns-clause-next g c = λ spelled us known x y order finds up.
     let given = c.in_ok-given.ensures.exact spelled us gp.results libraries p (record { kind = source.kind; forms = source.forms; specs = source.imports refl }) in
     let goes = goes_in b mid gp c.in_ok-given.ensures.trees c.in_ok-given.ensures.names c.told_apart.ensures.idents c.told_apart.ensures.symbols up.goes in
     let expands = c.in_ok-came.ensures.expands spelled us known gp p (unit_entries us gp.results p) up.knows goes refl source (libraries_kept b.work.symbols mid.symbols c.in_ok-given.ensures.names lib spelled us gp.results libraries) given in
-    expanded_next spelled us known x y n order b c.args.units.now es up h at whole now _ c.in_ok-came.came (c.in_ok-came.ensures.libraries known up.knows)
+    expanded_next spelled us known x y n order b c.args.units.now es up h at whole now _ c.args.steps.now c.expand_unit.new.steps c.in_ok-came.came (c.in_ok-came.ensures.libraries known up.knows)
     (have_kept b.work now.work (trees_on b.work mid now.work trees c.in_ok-came.ensures.trees) (names_on b.work.symbols mid.symbols now.work.symbols c.in_ok-given.ensures.names c.in_ok-came.ensures.names) us gp es up.come)
     expands refl (ap (λ (k : Head). slice_set hs n k) (c.break_if.ensures ∙ ap (λ (q : Bool). broken_if q fault.TooLarge h) (flipped (is_there c.in_ok-came.came) c.is_none.result c.is_none.ensures)))
+
+pub returns-then-is_some-clause-steps : goal.returns-then-is_some-clause-steps
+returns-then-is_some-clause-steps g c = λ spelled us known x y order finds up.
+    let hs = c.args.units.now.heads.items in
+    let h = c.index.result.now in
+    let at = slice_get_read hs (length hs) c.args.place h refl (omega (arith, c.args.units.now.heads.ok.0, c.requires.place)) c.index.ensures in
+    ap (λ (n : ℕ). c.args.steps.now + n) (sym (broken_uses spelled us known x y c.args.place order c.args.bench.now c.args.units.now c.args.all.now.items up h at (sym c.is_some.ensures ∙ c.if-is_some.true)))
+
+pub returns-clause-steps : goal.returns-clause-steps
+returns-clause-steps g c = λ spelled us known x y order finds up.
+    let b = c.args.bench.now in
+    let mid = c.given_to.new.work in
+    let es = c.args.all.now.items in
+    let n = c.args.place in
+    let hs = c.args.units.now.heads.items in
+    let h = c.index_mut.result.now in
+    let at = slice_get_read hs (length hs) n h refl (omega (arith, c.args.units.now.heads.ok.0, c.requires.place)) c.index_mut.ensures.value in
+    let first = c.index.result.now in
+    let first_at = slice_get_read hs (length hs) n first refl (omega (arith, c.args.units.now.heads.ok.0, c.requires.place)) c.index.ensures in
+    let same : first ≡ h = same_Some first h (sym first_at ∙ at) in
+    let whole : is_there h.fault ≡ false = ap (λ (k : Head). is_there k.fault) (sym same) ∙ (sym c.is_some.ensures ∙ c.if-is_some.false) in
+    let turn = turn_of us known x y n order in
+    let gp = scoped_at us known x in
+    let p = prepared us n turn.unit in
+    let none = none_before spelled us known x y n order b c.args.units.now es up h at whole in
+    let ss = c.args.units.now.sources.items in
+    let source = subst (λ (f : Option model.WholeFault). IsSourceOf spelled p f c.index-source.result.now) none
+    (up.sources n turn.unit c.index-source.result.now turn.there
+    (slice_get_read ss (length ss) n c.index-source.result.now refl (omega (arith, c.requires.place, c.requires.units.sources, c.args.units.now.sources.ok.0, c.args.units.now.heads.ok.0)) c.index-source.ensures)) in
+    let ls = c.as_slice-expanded.result.now in
+    let come : HaveCome us gp b.work ls = subst (λ (xs : List (Option Expanded)). HaveCome us gp b.work xs) (sym c.as_slice-expanded.ensures.value) up.come in
+    let long : length ls ≡ length us = ap (λ (xs : List (Option Expanded)). length xs) c.as_slice-expanded.ensures.value ∙ up.count in
+    let lib : Libraries = record { firsts = c.args.firsts; expanded = c.as_slice-expanded.result } in
+    let libraries : AreLibraries b.work.symbols lib spelled us gp.results = libraries_of spelled us gp b.work lib finds come long (done_at us known x (n ∷ y) order) in
+    let given = c.in_ok-given.ensures.exact spelled us gp.results libraries p (record { kind = source.kind; forms = source.forms; specs = source.imports refl }) in
+    let goes = goes_in b mid gp c.in_ok-given.ensures.trees c.in_ok-given.ensures.names c.told_apart.ensures.idents c.told_apart.ensures.symbols up.goes in
+    let expands = c.in_ok-came.ensures.expands spelled us known gp p (unit_entries us gp.results p) up.knows goes refl source (libraries_kept b.work.symbols mid.symbols c.in_ok-given.ensures.names lib spelled us gp.results libraries) given in
+    let more = expanded_uses spelled us known x y n order b c.args.units.now es up h at whole in let here = expands.steps in omega (arith, more, here)
 
 pub returns-clause-finds : goal.returns-clause-finds
 returns-clause-finds g c = λ spelled us known x y order finds up reads ends heads tokens results found.

@@ -145,8 +145,10 @@ returns-in-None-clause-expands g c = λ spelled all known gp p imports knows goe
     c.in_ok-imports.ensures.names c.told_apart.ensures.idents c.told_apart.ensures.symbols matched are c.requires.once c.in_ok-begin_unit.ensures.rests c.in_ok-begin_unit.ensures.fresh in
     let unfolds = c.in_ok-expanded.ensures.unfolds known begins.layout (scoped_start_of p gp (with_entries p.number imports.0 gp.entry)) p (c.in_ok-begin_unit.ensures.knows known knows) begins.stands own begins.fresh own
     (source.forms ∙ ap (λ (fs : List UnitForm). forms_of fs) (sym c.as_slice-3.ensures)) in
-    none_expands all known c.expand_forms.new.bench gp p imports
+    none_expands all known c.expand_forms.new.bench gp p imports c.args.steps.now c.expand_forms.new.steps
     (subst (λ (cs : Option (List core.UnitForm)). Unfolds c.expand_forms.new.bench known p (scoped_start_of p gp (with_entries p.number imports.0 gp.entry)) cs) c.in-None.is unfolds)
+    (c.in_ok-expanded.ensures.steps known begins.layout (scoped_start_of p gp (with_entries p.number imports.0 gp.entry)) p (c.in_ok-begin_unit.ensures.knows known knows) begins.stands own begins.fresh own
+    (source.forms ∙ ap (λ (fs : List UnitForm). forms_of fs) (sym c.as_slice-3.ensures)))
 
 pub returns-in_ok-came-in-Some-clause-expands : goal.returns-in_ok-came-in-Some-clause-expands
 returns-in_ok-came-in-Some-clause-expands g c = λ spelled all known gp p imports knows goes own source libraries are.
@@ -182,6 +184,9 @@ returns-in_ok-came-in-Some-clause-expands g c = λ spelled all known gp p import
     (subst (λ (n : ℕ). AreDefinitions mid.work.symbols (reverse (definitions_from 0 forms)) (defined_by n gone.1.table)) own f.definitions)) in
     some_expands all known mid gp p imports (record mid { work = c.finished.new.work }) c.in_ok-came-in-Some.came forms
     (stands_at mid c.finished.new.work gone.1 c.in_ok-came-in-Some.ensures.trees c.in_ok-came-in-Some.ensures.names c.told_apart-in-Some.ensures.idents c.told_apart-in-Some.ensures.symbols unfolds.stands) f came
+    c.args.steps.now c.expand_forms.new.steps
+    (c.in_ok-expanded.ensures.steps known begins.layout start p (c.in_ok-begin_unit.ensures.knows known knows) begins.stands own begins.fresh own
+    (source.forms ∙ ap (λ (fs : List UnitForm). forms_of fs) (sym c.as_slice-3.ensures)))
 
 pub returns-in_ok-came-in-Some-clause-finds : goal.returns-in_ok-came-in-Some-clause-finds
 returns-in_ok-came-in-Some-clause-finds g c = λ spelled known gp p imports knows goes own source are reads ends r places at unit_is sets.

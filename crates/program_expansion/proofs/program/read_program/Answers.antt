@@ -1,5 +1,5 @@
 -- What belongs to the documents, as they were worked on.
-use Rattle.std.proofs.Common.{◌≡◌, ℕ, List, length, map, vec_len, sym, ap, ◌∙◌, subst, arith}
+use Rattle.std.proofs.Common.{◌≡◌, ℕ, ◌+◌, List, length, map, vec_len, sym, ap, ◌∙◌, subst, arith}
 use Rattle.std.specs.FinMap.{entries}
 use Rattle.scheme_model.specs.Program.{Program, known_in, units_of}
 use Rattle.scheme_model.proofs.FramePrograms.{program_law}
@@ -20,6 +20,8 @@ use Rattle.program_expansion.proofs.CollectLaws.{program_stands}
 use Rattle.program_expansion.proofs.DocumentsData.{documents_data}
 use Rattle.document_units.proofs.HeadsKept.{heads_kept}
 use Rattle.program_expansion.proofs.TokensAlike.{have_tokens, uris_are}
+use Rattle.macro_uses.proofs.ProgramUses.{program_counts}
+use Rattle.program_expansion.proofs.TurnUses.{uses_by_turns}
 use Rattle.program_expansion.proofs.program.read_program.Goals as goal
 
 pub work_on-requires : goal.work_on-requires
@@ -75,3 +77,12 @@ returns-clause-reading g c =
           subst (λ (vs : List (List ℕ)). ProgramStands r.work library_text vs us r.program (program_in rs)) (uris_are (entries texts) docs c.in_ok-documents.ensures.documents)
           (subst (λ (w : Work). ProgramStands w library_text uris us r.program (program_in rs)) (sym c.in_ok-collect.ensures.work) (subst (λ (p : Program). ProgramStands ws.bench.work library_text uris us r.program p) law stands));
     }
+
+pub returns-clause-steps : goal.returns-clause-steps
+returns-clause-steps g c = λ rs are.
+    let ds = map data_in rs in
+    let us = units_of ds in
+    let known = known_in ds in
+    let written = standard.told in
+    let have : HaveData ds c.as_slice.result.now = subst (λ (xs : List Document). HaveData ds xs) (sym c.as_slice.ensures.value) (documents_data (entries c.args.store.now) c.in_ok-documents.documents.items rs c.in_ok-documents.ensures.documents are) in
+    c.in_ok-worked.ensures.steps ds have written.0 written.1 written.2 ∙ ap (λ (n : ℕ). c.args.steps.now + n) (sym (uses_by_turns us known) ∙ program_counts ds)

@@ -110,6 +110,26 @@ returns-clause-up g c = λ ds have spelled spells written.
     } in
     c.in_ok-expanded.ensures.up spelled us (known_in ds) (c.as_slice-2.ensures ∙ c.in_ok-order.ensures.turns spelled spells us listed.units listed.listed) many finds knows goes heads sources
 
+pub returns-clause-steps : goal.returns-clause-steps
+returns-clause-steps g c = λ ds have spelled spells written.
+    let us = units_of ds in
+    let u = c.in_ok-units.units in
+    let v = c.judge.new.units in
+    let told = known_listed ds c.in_ok-known.known (c.in_ok-known.ensures ds have) in
+    let listed = c.in_ok-units.ensures.listed ds have (c.in_ok-libraries.ensures.knows (known_in ds) told) spelled written in
+    let knows = c.know.ensures.knows (known_in ds) (c.in_ok-of.ensures.knows (known_in ds) told) in
+    let many : vec_len v.heads ≡ length us = omega (arith, listed.listed.count, c.in_ok-order.ensures.heads.size, u.heads.ok.0, v.heads.ok.0) in
+    let finds : FindsLibraries spelled us c.in_ok-firsts.firsts =
+    record { spells = spells; units = unit_found spelled spells us (take max_units u.sources.items) listed.units _ (λ s. c.in_ok-firsts.ensures.named s ∙ ap (λ (cs : List UnitSource). place_named s 0 (take max_units cs)) c.as_slice.ensures.value) } in
+    let heads : HeadsBy us scoped_before v.heads.items = judged_heads us u.heads.items v.heads.items (c.in_ok-order.ensures.judged spelled spells us listed.units listed.listed) in
+    let sources : AreSourcesOf spelled us v.sources.items = forgotten_sources spelled us v.heads.items u.sources.items v.sources.items listed.read heads c.in_ok-order.ensures.forgotten in
+    let goes : GoesOn _ scoped_before = record {
+      state = prelude_state prelude;
+      stands = record { layout = [] ∷ []; notes = []; stands = c.know.ensures.rests c.in_ok-bench.bench.work ([] ∷ []) (prelude_state prelude) [] c.in_ok-bench.ensures.stands };
+      continues = prelude_continues;
+    } in
+    c.in_ok-expanded.ensures.steps spelled us (known_in ds) (c.as_slice-2.ensures ∙ c.in_ok-order.ensures.turns spelled spells us listed.units listed.listed) many finds knows goes heads sources
+
 pub returns-clause-told : goal.returns-clause-told
 returns-clause-told g c = λ texts reads documents read.
     let ds = map data_in reads in

@@ -1,5 +1,5 @@
 -- What the event leaves, and what is published of it.
-use Rattle.std.proofs.Common.{◌≡◌, ℕ, List, length, Bool, ap, sym, ◌∙◌, subst, arith}
+use Rattle.std.proofs.Common.{◌≡◌, ℕ, List, length, Bool, ap, sym, ◌∙◌, subst, arith, true≢false}
 use Rattle.std.specs.Option.{option_map}
 use Rattle.std.specs.FinMap.{entries}
 use Rattle.ls_base.specs.declared.encoding.Encoding.{Encoding}
@@ -95,3 +95,26 @@ pub returns-clause-few : goal.returns-clause-few
 returns-clause-few g c =
     let many = as_many (entries c.in_ok-read.read.0) c.documents.result.now c.documents.ensures in
     omega (arith, c.in_ok-lists.ensures.few, c.in_ok-read.ensures.few, many, ap (λ (t : Texts). length (entries t)) c.in_ok-read.ensures.texts)
+
+-- ---- steps
+
+pub returns-then-is_left-clause-steps : goal.returns-then-is_left-clause-steps
+returns-then-is_left-clause-steps g c = λ no rs are.
+    let s = c.args.self.now in
+    let m = c.store.result.now in
+    let event = event_of c.args.event.now in
+    let told = is_left_so s.encoding s.texts m event c.in_ok-after.after.refused c.is_left.result (c.store.ensures ∙ same_texts _ _ c.self.view_is)
+    (c.in_ok-after.ensures.refused ∙ ap (λ (e : Encoding). option_map fault_of (after e m event).1) (same_encoding _ _ c.self.view_is)) c.is_left.ensures in
+    absurd (true≢false (sym c.if-is_left.true ∙ told ∙ no))
+
+pub returns-clause-quiet : goal.returns-clause-quiet
+returns-clause-quiet g c = λ yes.
+    let s = c.args.self.now in
+    let m = c.store.result.now in
+    let event = event_of c.args.event.now in
+    let told = is_left_so s.encoding s.texts m event c.in_ok-after.after.refused c.is_left.result (c.store.ensures ∙ same_texts _ _ c.self.view_is)
+    (c.in_ok-after.ensures.refused ∙ ap (λ (e : Encoding). option_map fault_of (after e m event).1) (same_encoding _ _ c.self.view_is)) c.is_left.ensures in
+    absurd (true≢false (sym yes ∙ sym told ∙ c.if-is_left.false))
+
+pub returns-clause-steps : goal.returns-clause-steps
+returns-clause-steps g c = λ no rs are. c.in_ok-read.ensures.steps rs (subst (λ (t : Texts). AreReadAs (entries t) rs) c.in_ok-read.ensures.texts are)
