@@ -126,7 +126,7 @@ pub edited_text : (new : ℕ → Option (List ℕ)) (text : List ℕ) (ds : List
 edited_text new text ds r named = text_edited new text ds r (tokens_named new text ds r named)
 
 -- a text has these tokens alone
-same_tokens : (text : List ℕ) (ts : List kinds.Token) (us : List Token) → IsSpelled us text → TextReads text ts None → ts ≡ map token_seen us
+pub same_tokens : (text : List ℕ) (ts : List kinds.Token) (us : List Token) → IsSpelled us text → TextReads text ts None → ts ≡ map token_seen us
 same_tokens text ts us h read =
     let spelled = subst (λ (fin : Option FaultAt). IsRead read.0 fin text) (none_seen read.1 read.4) read.2 in
     read.3 ∙ ap (map token_seen) (one_reading read.0 us None None text spelled h).0
