@@ -13,14 +13,15 @@ use serde_json::Value;
 use std::alloc::Global;
 use std::collections::BTreeMap;
 use text_edits::{
-    Edit, Members, TokenNames, add_member, edited_text, edits_of, is_too_long, note_names, placed,
-    stem_of,
+    Edit, Members, TokenNames, add_member, edited_text, edits_of, is_too_long, new_symbol,
+    note_names, placed, stem_of,
 };
 use text_positions::Lines;
 
 pub fn answer(out: &mut Shown, call: &str, argument: &Value) -> Row<()> {
     match call {
         "of" | "long" | "placed" => edit(out, call, argument)?,
+        "symbol" => symbol(out, argument)?,
         "stem" => stem(out, argument)?,
         "names" => names(out, argument)?,
         _ => return Err(RowFault::NoCall),
@@ -50,7 +51,12 @@ fn edit(out: &mut Shown, call: &str, argument: &Value) -> Row<()> {
             match call {
                 "of" => show_edited(out, text, edits.as_slice())?,
                 "long" => out.flag(is_too_long(text, edits.as_slice())),
-                _ => show_placed(out, text, edits, encoding(item(argument, 2)?)?)?,
+                _ => show_placed(
+                    out,
+                    text,
+                    edits.as_slice(),
+                    encoding(item(argument, 2)?)?,
+                )?,
             }
         }
         Err(fault) => show_fault(out, fault),
@@ -83,7 +89,7 @@ fn show_edits(out: &mut Shown, edits: &[Edit]) {
 }
 
 /// Edits at positions of an encoding.
-fn show_placed(out: &mut Shown, text: &str, edits: Items<Edit>, encoding: Encoding) -> Row<()>
+fn show_placed(out: &mut Shown, text: &str, edits: &[Edit], encoding: Encoding) -> Row<()>
     requires { length text.now < 2 ^ 32 }
 {
     let alloc = out.alloc();
@@ -105,6 +111,15 @@ fn show_range(out: &mut Shown, range: Range) {
     out.numbers(&[range.start.line, range.start.character]);
     out.numbers(&[range.end.line, range.end.character]);
     out.close();
+}
+
+/// The symbol of a new name.
+fn symbol(out: &mut Shown, argument: &Value) -> Row<()> {
+    match new_symbol(out.alloc(), text(argument)?)? {
+        Some(symbol) => out.string(symbol.as_str()),
+        None => out.null(),
+    }
+    Ok(())
 }
 
 /// The stem of a new name behind a prefix.

@@ -43,6 +43,8 @@
 //!         ["(a)",[[1,"b c"]]]     -> false
 //!     edits/placed [TEXT,[[TOKEN,NAME],..],ENCODING]   the edits at positions of an encoding, `[RANGE,STRING]`
 //!         ["(a)",[[1,"b"]],"utf-16"]   -> [[[[0,1],[0,2]],"b"]]
+//!     edits/symbol TEXT           the symbol of a new name, or null where the text is none
+//!         "|b c|"                 -> "b c"
 //!     edits/stem [PREFIX,NAME]    what is left of a name behind a prefix, or null
 //!         ["s:","s:b"]            -> "b"
 //!     edits/names [[[OCC,PREFIX],..],STEM,[OCC,..],[TOKEN,..]]   the tokens that get new names, `[TOKEN,NAME]`: of members of a class

@@ -11,5 +11,7 @@ pub mod EditRuns  -- Edits one behind another
 pub mod SpellLaws  -- A name is written in one way only (R7RS 7.1.1), so what spells it is what the edits have
 pub mod CutLaws  -- The edits of a text are for its tokens, which stand one behind another, and a text can be cut where tokens begin and end (R7RS 7.1.1)
 pub mod Shown  -- What a rename of the identifier at an offset of a document edits, in the notation of rows
+pub mod SymbolLaws  -- A text is one identifier in one way at most (R7RS 7.1.1)
 pub mod OwnLaws  -- A token that is written anew as it stands keeps its name (R7RS 7.1.1)
 pub mod BackLaws  -- Where identifiers get their old names back the old text comes back (R7RS 7.1.1)
+pub mod rows
