@@ -83,16 +83,16 @@ two_more o p ps t = record { one = t.one; other = t.other; one_in = inr t.one_in
 two_from : (o : Occ) (p : ClassPart) (ps : List ClassPart) → AllBehind p ps → IsStrictlySortedBy part_cmp ps → IsIn o (repeated_bare (Some p.occ) ps) → AreTwo o (p ∷ ps)
 unfolding IsStrictlySortedBy
 two_from o p [] h s i = absurd i
-two_from o p (q ∷ ps) h s i = by_case (in_either o (cond (same_occ p.occ q.occ) (q.occ ∷ []) []) (repeated_bare (Some q.occ) ps) i)
+two_from o p (q ∷ ps) h s i = by_case (two_from o q ps s.0 s.1) (in_either o (cond (same_occ p.occ q.occ) (q.occ ∷ []) []) (repeated_bare (Some q.occ) ps) i)
   where
     here : (b : Bool) → same_occ p.occ q.occ ≡ b → IsIn o (cond b (q.occ ∷ []) []) → AreTwo o (p ∷ q ∷ ps)
     here true e (inl f) = record { one = p; other = q; one_in = inl refl; other_in = inr (inl refl); one_of = one_occ p.occ q.occ e ∙ f; other_of = f; rises = h.0 }
     here true e (inr j) = absurd j
     here false e j = absurd j
 
-    by_case : IsIn o (cond (same_occ p.occ q.occ) (q.occ ∷ []) []) ⊎ IsIn o (repeated_bare (Some q.occ) ps) → AreTwo o (p ∷ q ∷ ps)
-    by_case (inl j) = here (same_occ p.occ q.occ) refl j
-    by_case (inr j) = two_more o p (q ∷ ps) (two_from o q ps s.0 s.1 j)
+    by_case : (IsIn o (repeated_bare (Some q.occ) ps) → AreTwo o (q ∷ ps)) → IsIn o (cond (same_occ p.occ q.occ) (q.occ ∷ []) []) ⊎ IsIn o (repeated_bare (Some q.occ) ps) → AreTwo o (p ∷ q ∷ ps)
+    by_case more (inl j) = here (same_occ p.occ q.occ) refl j
+    by_case more (inr j) = two_more o p (q ∷ ps) (more j)
 
 two_in : (o : Occ) (ps : List ClassPart) → IsStrictlySortedBy part_cmp ps → IsIn o (repeated_bare None ps) → AreTwo o ps
 unfolding IsStrictlySortedBy

@@ -25,28 +25,21 @@ use Rattle.class_edits.specs.Named.{edits_by}
 
 -- ---- made one by one
 
-pub next_edits : (name : Occ → Option (List ℕ)) (us : List UnitResult) (n i : ℕ) (ds : List (List ℕ × Document)) (rs : List Read) → AreReadAs ds rs → i < length ds →
-    edits_by name us n (drop i ds) (drop i rs) ≡ edits_of (name_at name (identifiers_of n us)) (text_of ds i) (spans_at (spans_of rs) i) ∷ edits_by name us (suc n) (drop (i + 1) ds) (drop (i + 1) rs)
+next_edits : (name : Occ → Option (List ℕ)) (us : List UnitResult) (n i : ℕ) (ds : List (List ℕ × Document)) (rs : List Read) → AreReadAs ds rs → i < length ds →
+    edits_by name us n (drop i ds) (drop i rs) ≡ edits_of (name_at name (identifiers_of n us)) (text_of ds i) (spans_at (spans_of rs) i) ∷ edits_by name us (suc n) (drop (suc i) ds) (drop (suc i) rs)
 next_edits name us n i [] rs are lt = absurd (omega (arith, lt))
 next_edits name us n i (d ∷ ds) [] are lt = absurd are
 next_edits name us n zero (d ∷ ds) (r ∷ rs) are lt = refl
 next_edits name us n (suc i) (d ∷ ds) (r ∷ rs) are lt = next_edits name us n i ds rs are.1 (omega (arith, lt))
 
 pub no_edits : (name : Occ → Option (List ℕ)) (us : List UnitResult) (n i : ℕ) (ds : List (List ℕ × Document)) (rs : List Read) → length ds ≤ i → edits_by name us n (drop i ds) (drop i rs) ≡ []
-no_edits name us n i [] rs le = none i
+no_edits name us n i ds rs le = ap (λ (es : List (List ℕ × Document)). edits_by name us n es (drop i rs)) (gone i ds le)
   where
-    none : (i : ℕ) → edits_by name us n (drop i []) (drop i rs) ≡ []
-    none zero = refl
-    none (suc i) = refl
-no_edits name us n zero (d ∷ ds) rs le = absurd (omega (arith, le))
-no_edits name us n (suc i) (d ∷ ds) [] le = none i ds
-  where
-    none : (i : ℕ) (es : List (List ℕ × Document)) → edits_by name us n (drop i es) [] ≡ []
-    none zero [] = refl
-    none zero (e ∷ es) = refl
-    none (suc i) [] = refl
-    none (suc i) (e ∷ es) = none i es
-no_edits name us n (suc i) (d ∷ ds) (r ∷ rs) le = no_edits name us n i ds rs (omega (arith, le))
+    gone : (i : ℕ) (ds : List (List ℕ × Document)) → length ds ≤ i → drop i ds ≡ []
+    gone zero [] le = refl
+    gone (suc i) [] le = refl
+    gone zero (d ∷ ds) le = absurd (omega (arith, le))
+    gone (suc i) (d ∷ ds) le = gone i ds (omega (arith, le))
 
 -- those of one more document
 pub made_more : (name : Occ → Option (List ℕ)) (us : List UnitResult) (i : ℕ) (ds : List (List ℕ × Document)) (rs : List Read) (all : List (List Edit)) (old new : List (List code.Edit)) (es : List code.Edit) → AreReadAs ds rs → i < length ds →
@@ -57,12 +50,14 @@ made_more name us i ds rs all old new es are lt was is e =
     let count : suc i ≡ i + 1 = omega arith in
     ap (λ (q : List (List code.Edit)). seen q ++ rest) is ∙ ap (λ (q : List (List Edit)). q ++ rest) (map-append (map edit_of) old (es ∷ [])) ∙ append_assoc (seen old) (map edit_of es ∷ []) rest
     ∙ (λ j. seen old ++ e j ∷ rest) ∙ sym (ap (λ (q : List (List Edit)). seen old ++ q) (next_edits name us i i ds rs are lt
-        ∙ ap (λ (n : ℕ). edits_of (name_at name (identifiers_of i us)) (text_of ds i) (spans_at (spans_of rs) i) ∷ edits_by name us n (drop (i + 1) ds) (drop (i + 1) rs)) count)) ∙ was
+        ∙ ap (λ (n : ℕ). edits_of (name_at name (identifiers_of i us)) (text_of ds i) (spans_at (spans_of rs) i) ∷ edits_by name us n (drop n ds) (drop n rs)) count)) ∙ was
 
 pub can_more : (i : ℕ) (ds : List (List ℕ × Document)) (old new : List (List code.Edit)) (es : List code.Edit) → i < length ds → CanEditAll (take i ds) old → new ≡ old ++ es ∷ [] → CanEdit (text_of ds i) es → CanEditAll (take (i + 1) ds) new
-can_more i ds old new es lt can is e = subst (CanEditAll (take (i + 1) ds)) (sym is) (go i ds old lt can e)
+can_more i ds old new es lt can is e =
+    let count : suc i ≡ i + 1 = omega arith in
+    subst (CanEditAll (take (i + 1) ds)) (sym is) (subst (λ (n : ℕ). CanEditAll (take n ds) (old ++ es ∷ [])) count (go i ds old lt can e))
   where
-    go : (i : ℕ) (ds : List (List ℕ × Document)) (old : List (List code.Edit)) → i < length ds → CanEditAll (take i ds) old → CanEdit (text_of ds i) es → CanEditAll (take (i + 1) ds) (old ++ es ∷ [])
+    go : (i : ℕ) (ds : List (List ℕ × Document)) (old : List (List code.Edit)) → i < length ds → CanEditAll (take i ds) old → CanEdit (text_of ds i) es → CanEditAll (take (suc i) ds) (old ++ es ∷ [])
     go i [] old lt can e = absurd (omega (arith, lt))
     go zero (d ∷ ds) [] lt can e = (e, tt)
     go zero (d ∷ ds) (o ∷ old) lt can e = absurd can
@@ -86,10 +81,12 @@ can_one (d ∷ ds) (fs ∷ all) (suc i) es can lt is = can_one ds all i es can.1
 module _ (ds : List (List ℕ × Document)) (all : List (List code.Edit)) where
   pub next_long : (i : ℕ) (es : List code.Edit) → CanEditAll ds all → i < length all → es ≡ get_or all i es →
       too_long (drop i ds) (seen (drop i all)) ≡ cond (nat_lt max_text (length (edited (map edit_of es) (text_of ds i)))) (Some (document_at ds i).0) (too_long (drop (i + 1) ds) (seen (drop (i + 1) all)))
-  next_long i es can lt is = go ds all i can lt is
+  next_long i es can lt is =
+      let count : suc i ≡ i + 1 = omega arith in
+      go ds all i can lt is ∙ ap (λ (n : ℕ). cond (nat_lt max_text (length (edited (map edit_of es) (text_of ds i)))) (Some (document_at ds i).0) (too_long (drop n ds) (seen (drop n all)))) count
     where
       go : (ds : List (List ℕ × Document)) (all : List (List code.Edit)) (i : ℕ) → CanEditAll ds all → i < length all → es ≡ get_or all i es →
-          too_long (drop i ds) (seen (drop i all)) ≡ cond (nat_lt max_text (length (edited (map edit_of es) (text_of ds i)))) (Some (document_at ds i).0) (too_long (drop (i + 1) ds) (seen (drop (i + 1) all)))
+          too_long (drop i ds) (seen (drop i all)) ≡ cond (nat_lt max_text (length (edited (map edit_of es) (text_of ds i)))) (Some (document_at ds i).0) (too_long (drop (suc i) ds) (seen (drop (suc i) all)))
       go ds [] i can lt is = absurd (omega (arith, lt))
       go [] (fs ∷ all) i can lt is = absurd can
       go (d ∷ ds) (fs ∷ all) zero can lt is = ap (λ (x : List code.Edit). cond (nat_lt max_text (length (edited (map edit_of x) d.1.1))) (Some d.0) (too_long ds (seen all))) (sym is)
@@ -97,10 +94,12 @@ module _ (ds : List (List ℕ × Document)) (all : List (List code.Edit)) where
 
   pub next_edited : (i : ℕ) (es : List code.Edit) → CanEditAll ds all → i < length all → es ≡ get_or all i es →
       all_edited (drop i ds) (seen (drop i all)) ≡ edited (map edit_of es) (text_of ds i) ∷ all_edited (drop (i + 1) ds) (seen (drop (i + 1) all))
-  next_edited i es can lt is = go ds all i can lt is
+  next_edited i es can lt is =
+      let count : suc i ≡ i + 1 = omega arith in
+      go ds all i can lt is ∙ ap (λ (n : ℕ). edited (map edit_of es) (text_of ds i) ∷ all_edited (drop n ds) (seen (drop n all))) count
     where
       go : (ds : List (List ℕ × Document)) (all : List (List code.Edit)) (i : ℕ) → CanEditAll ds all → i < length all → es ≡ get_or all i es →
-          all_edited (drop i ds) (seen (drop i all)) ≡ edited (map edit_of es) (text_of ds i) ∷ all_edited (drop (i + 1) ds) (seen (drop (i + 1) all))
+          all_edited (drop i ds) (seen (drop i all)) ≡ edited (map edit_of es) (text_of ds i) ∷ all_edited (drop (suc i) ds) (seen (drop (suc i) all))
       go ds [] i can lt is = absurd (omega (arith, lt))
       go [] (fs ∷ all) i can lt is = absurd can
       go (d ∷ ds) (fs ∷ all) zero can lt is = λ j. edited (map edit_of (sym is j)) d.1.1 ∷ all_edited ds (seen all)
@@ -109,22 +108,21 @@ module _ (ds : List (List ℕ × Document)) (all : List (List code.Edit)) where
   pub next_told : (encoding : Encoding) (i : ℕ) (es : List code.Edit) → CanEditAll ds all → i < length all → es ≡ get_or all i es →
       told.told encoding (drop i ds) (seen (drop i all))
       ≡ told_of (document_at ds i).0 (map (edit_told encoding (text_of ds i)) (map edit_of es)) ++ told.told encoding (drop (i + 1) ds) (seen (drop (i + 1) all))
-  next_told encoding i es can lt is = go ds all i can lt is
+  next_told encoding i es can lt is =
+      let count : suc i ≡ i + 1 = omega arith in
+      go ds all i can lt is ∙ ap (λ (n : ℕ). told_of (document_at ds i).0 (map (edit_told encoding (text_of ds i)) (map edit_of es)) ++ told.told encoding (drop n ds) (seen (drop n all))) count
     where
       go : (ds : List (List ℕ × Document)) (all : List (List code.Edit)) (i : ℕ) → CanEditAll ds all → i < length all → es ≡ get_or all i es →
           told.told encoding (drop i ds) (seen (drop i all))
-          ≡ told_of (document_at ds i).0 (map (edit_told encoding (text_of ds i)) (map edit_of es)) ++ told.told encoding (drop (i + 1) ds) (seen (drop (i + 1) all))
+          ≡ told_of (document_at ds i).0 (map (edit_told encoding (text_of ds i)) (map edit_of es)) ++ told.told encoding (drop (suc i) ds) (seen (drop (suc i) all))
       go ds [] i can lt is = absurd (omega (arith, lt))
       go [] (fs ∷ all) i can lt is = absurd can
       go (d ∷ ds) (fs ∷ all) zero can lt is = λ j. told_of d.0 (map (edit_told encoding d.1.1) (map edit_of (sym is j))) ++ told.told encoding ds (seen all)
       go (d ∷ ds) (fs ∷ all) (suc i) can lt is = go ds all i can.1 (omega (arith, lt)) is
 
   none_left : {A : Type 0} (i : ℕ) (xs : List A) → length xs ≤ i → drop i xs ≡ []
-  none_left i [] le = none i
-    where
-      none : (i : ℕ) → drop i [] ≡ []
-      none zero = refl
-      none (suc i) = refl
+  none_left zero [] le = refl
+  none_left (suc i) [] le = refl
   none_left zero (x ∷ xs) le = absurd (omega (arith, le))
   none_left (suc i) (x ∷ xs) le = none_left i xs (omega (arith, le))
 

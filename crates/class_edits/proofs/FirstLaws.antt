@@ -86,10 +86,13 @@ none_clashing f at h = none_first f (clashing f.links at) h
 
 -- ---- part by part
 
+drop_one : {A : Type 0} (xs : List A) (i : ℕ) (x : A) → i < length xs → x ≡ get_or xs i x → drop i xs ≡ x ∷ drop (suc i) xs
+drop_one [] i x lt is = absurd (omega (arith, lt))
+drop_one (y ∷ xs) zero x lt is = λ j. sym is j ∷ xs
+drop_one (y ∷ xs) (suc i) x lt is = drop_one xs i x (omega (arith, lt)) is
+
 drop_next : {A : Type 0} (xs : List A) (i : ℕ) (x : A) → i < length xs → x ≡ get_or xs i x → drop i xs ≡ x ∷ drop (i + 1) xs
-drop_next [] i x lt is = absurd (omega (arith, lt))
-drop_next (y ∷ xs) zero x lt is = λ j. sym is j ∷ xs
-drop_next (y ∷ xs) (suc i) x lt is = drop_next xs i x (omega (arith, lt)) is
+drop_next xs i x lt is = let count : suc i ≡ i + 1 = omega arith in drop_one xs i x lt is ∙ ap (λ (n : ℕ). x ∷ drop n xs) count
 
 module _ (f : Occ → Bytes) (parts : List ClassPart) (i : ℕ) (p : ClassPart) (last : Option Occ) (first : Option Bytes) where
   left : i < length parts → p ≡ get_or parts i p → (b : Bool) → is_same last p.occ ≡ b → repeated last (drop i parts) ≡ cond b (p.occ ∷ []) [] ++ repeated (Some p.occ) (drop (i + 1) parts)

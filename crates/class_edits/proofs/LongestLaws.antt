@@ -31,11 +31,12 @@ shorter_is s t =
 
 longest_from : (seen ts : List (List ℕ)) (s : List ℕ) → IsLongest seen s → IsLongest (seen ++ ts) (longest s ts)
 longest_from seen [] s h = subst (λ (us : List (List ℕ)). IsLongest us s) (sym (append-nil seen)) h
-longest_from seen (t ∷ ts) s h = subst (λ (us : List (List ℕ)). IsLongest us (longest s (t ∷ ts))) (append_assoc seen (t ∷ []) ts) (go (is_shorter s t) refl)
+longest_from seen (t ∷ ts) s h = subst (λ (us : List (List ℕ)). IsLongest us (longest s (t ∷ ts))) (append_assoc seen (t ∷ []) ts) (go (longest_from (seen ++ t ∷ []) ts t) (longest_from (seen ++ t ∷ []) ts s) (is_shorter s t) refl)
   where
-    go : (b : Bool) → is_shorter s t ≡ b → IsLongest ((seen ++ t ∷ []) ++ ts) (longest (cond b t s) ts)
-    go true e = longest_from (seen ++ t ∷ []) ts t (longest_new seen s t h (sym (shorter_is s t) ∙ e))
-    go false e = longest_from (seen ++ t ∷ []) ts s (longest_still seen s t h (sym (shorter_is s t) ∙ e))
+    go : (IsLongest (seen ++ t ∷ []) t → IsLongest ((seen ++ t ∷ []) ++ ts) (longest t ts)) → (IsLongest (seen ++ t ∷ []) s → IsLongest ((seen ++ t ∷ []) ++ ts) (longest s ts)) →
+        (b : Bool) → is_shorter s t ≡ b → IsLongest ((seen ++ t ∷ []) ++ ts) (longest (cond b t s) ts)
+    go new still true e = new (longest_new seen s t h (sym (shorter_is s t) ∙ e))
+    go new still false e = still (longest_still seen s t h (sym (shorter_is s t) ∙ e))
 
 -- ---- there is one alone
 

@@ -1,6 +1,7 @@
 -- The members of a class with their new names are those that its parts are told with, where none has two prefixes.
-use Rattle.std.proofs.Common.{◌≡◌, ◌⊎◌, inl, inr, ℕ, ◌+◌, ◌<◌, List, [], ◌∷◌, ◌++◌, map, filter, take, get_or, length, Bool, true, false, cond, Option, Some, None, refl, sym, ap, ◌∙◌, subst}
+use Rattle.std.proofs.Common.{◌≡◌, ◌⊎◌, inl, inr, ℕ, ◌+◌, ◌<◌, arith, List, [], ◌∷◌, ◌++◌, map, filter, take, get_or, length, Bool, true, false, cond, Option, Some, None, refl, sym, ap, ◌∙◌, subst}
 use Rattle.std.specs.Prelude.{nat_lt}
+use Rattle.std.proofs.lemmas.Bool.Decides.{nat_tests}
 use Rattle.std.proofs.lemmas.List.{map-append, take_more}
 use Rattle.scheme_model.specs.declared.Occ.{Occ}
 use Rattle.scheme_model.specs.Entries.{same_occ}
@@ -47,23 +48,23 @@ named_next stem parts i p o old new lt is was e =
 
 found : (ms : List Member) (o : Occ) (name : List ℕ) → name_of ms o ≡ Some name → IsIn (record { occ = o; name = name }) ms
 found [] o name h = absurd cc
-found (m ∷ ms) o name h = go (same_occ m.occ o) refl h
+found (m ∷ ms) o name h = go (found ms o name) (same_occ m.occ o) refl h
   where
-    go : (b : Bool) → same_occ m.occ o ≡ b → cond b (Some m.name) (name_of ms o) ≡ Some name → IsIn (record { occ = o; name = name }) (m ∷ ms)
-    go true e k = inl (λ j. record { occ = one_occ m.occ o e j; name = some k j })
+    go : (name_of ms o ≡ Some name → IsIn (record { occ = o; name = name }) ms) → (b : Bool) → same_occ m.occ o ≡ b → cond b (Some m.name) (name_of ms o) ≡ Some name → IsIn (record { occ = o; name = name }) (m ∷ ms)
+    go more true e k = inl (λ j. record { occ = one_occ m.occ o e j; name = some k j })
       where
         some : Some m.name ≡ Some name → m.name ≡ name
         some q = cc
-    go false e k = inr (found ms o name k)
+    go more false e k = inr (more k)
 
 never : (ms : List Member) (o : Occ) (name : List ℕ) → IsIn (record { occ = o; name = name }) ms → name_of ms o ≡ None → ⊥
 never [] o name i h = i
-never (m ∷ ms) o name i h = go (same_occ m.occ o) refl h i
+never (m ∷ ms) o name i h = go (never ms o name) (same_occ m.occ o) refl h i
   where
-    go : (b : Bool) → same_occ m.occ o ≡ b → cond b (Some m.name) (name_of ms o) ≡ None → (m ≡ record { occ = o; name = name }) ⊎ IsIn (record { occ = o; name = name }) ms → ⊥
-    go true e k j = cc
-    go false e k (inl j) = let t = sym e ∙ ap (λ (q : Member). same_occ q.occ o) j ∙ itself o in cc
-    go false e k (inr j) = never ms o name j k
+    go : (IsIn (record { occ = o; name = name }) ms → name_of ms o ≡ None → ⊥) → (b : Bool) → same_occ m.occ o ≡ b → cond b (Some m.name) (name_of ms o) ≡ None → (m ≡ record { occ = o; name = name }) ⊎ IsIn (record { occ = o; name = name }) ms → ⊥
+    go more true e k j = cc
+    go more false e k (inl j) = let t = sym e ∙ ap (λ (q : Member). same_occ q.occ o) j ∙ itself o in cc
+    go more false e k (inr j) = more j k
 
 -- two lists with the same members, of which none has two names
 same_names : (ms ns : List Member) (o : Occ) → ((m : Member) → IsIn m ms → IsIn m ns) → ((m : Member) → IsIn m ns → IsIn m ms) →
@@ -87,7 +88,7 @@ not_two q os o none i = go (q o) refl
 
 first_one : (ts : List (List ℕ)) (s : List ℕ) → nat_lt 1 (length ts) ≡ false → IsIn s ts → (nat_lt 0 (length ts) ≡ true) × (first_prefix ts ≡ s)
 first_one [] s h i = absurd i
-first_one (t ∷ ts) s h i = (refl, one_of_one (t ∷ ts) t s h (inl refl) i)
+first_one (t ∷ ts) s h i = (grind (arith, nat_tests), one_of_one (t ∷ ts) t s h (inl refl) i)
 
 first_in : (ts : List (List ℕ)) → nat_lt 0 (length ts) ≡ true → IsIn (first_prefix ts) ts
 first_in [] h = absurd cc

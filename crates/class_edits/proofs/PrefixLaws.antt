@@ -44,12 +44,13 @@ one_more (t ∷ ts) s d h = (λ i. by_case (in_either t ts (s ∷ []) i), one_mo
 
 distinct_from : (ls : List Link) (o : Occ) (seen : List (List ℕ)) → AreDistinct seen → AreDistinct (prefixes_of ls o seen)
 distinct_from [] o seen d = d
-distinct_from (l ∷ ls) o seen d = by_test (same_occ l.target o) (has_prefix seen l.prefix) refl
+distinct_from (l ∷ ls) o seen d = by_test (λ more. distinct_from ls o (seen ++ l.prefix ∷ []) more) (distinct_from ls o seen d) (same_occ l.target o) (has_prefix seen l.prefix) refl
   where
-    by_test : (a b : Bool) → has_prefix seen l.prefix ≡ b → AreDistinct (cond (a && not b) (prefixes_of ls o (seen ++ l.prefix ∷ [])) (prefixes_of ls o seen))
-    by_test false b e = distinct_from ls o seen d
-    by_test true true e = distinct_from ls o seen d
-    by_test true false e = distinct_from ls o (seen ++ l.prefix ∷ []) (one_more seen l.prefix d e)
+    by_test : (AreDistinct (seen ++ l.prefix ∷ []) → AreDistinct (prefixes_of ls o (seen ++ l.prefix ∷ []))) → AreDistinct (prefixes_of ls o seen) → (a b : Bool) → has_prefix seen l.prefix ≡ b →
+        AreDistinct (cond (a && not b) (prefixes_of ls o (seen ++ l.prefix ∷ [])) (prefixes_of ls o seen))
+    by_test with_it without false b e = without
+    by_test with_it without true true e = without
+    by_test with_it without true false e = with_it (one_more seen l.prefix d e)
 
 distinct : (ls : List Link) (o : Occ) → AreDistinct (prefixes_of ls o [])
 distinct ls o = distinct_from ls o [] tt

@@ -1,5 +1,5 @@
 //! Laws of the edits of a class.
-ghost use Rattle.std.specs.Prelude.{◌≡◌, ℕ, List};
+ghost use Rattle.std.specs.Prelude.{◌≡◌, [], ℕ, List};
 ghost use Rattle.scheme_model.specs.declared.Occ.{Occ};
 ghost use Rattle.scheme_model.specs.Spelling.{Link, prefixes_of};
 ghost use Rattle.program_answers.specs.Classed.{IsLongest};
