@@ -1,5 +1,5 @@
 -- Where identifiers get their old names back the old text comes back (R7RS 7.1.1).
-use Rattle.std.proofs.Common.{◌≡◌, ℕ, suc, ◌+◌, arith, length, List, [], ◌∷◌, ◌++◌, map, drop, slice_get, Bool, refl, sym, ap, ◌∙◌, subst, Option, Some, None, IfSome}
+use Rattle.std.proofs.Common.{◌≡◌, ℕ, suc, ◌+◌, arith, length, List, [], ◌∷◌, ◌++◌, map, drop, slice_get, Bool, sym, ap, ◌∙◌, subst, Option, Some, None, IfSome}
 use Rattle.std.specs.Str.{chars, encode_utf8_all, IsUtf8}
 use Rattle.std.proofs.lemmas.Str.{encodes-chars, chars_from_encodes}
 use Rattle.scheme_model.specs.Kinds as kinds
@@ -13,7 +13,7 @@ use Rattle.text_edits.specs.NewNames.{begins_with_bar, edits_of, span_of, writte
 use Rattle.text_edits.proofs.GlyphLaws.{all_before, length_before}
 use Rattle.text_edits.proofs.MemberLaws.{AreNames, bars_told, edits_are, mark_front}
 use Rattle.text_edits.proofs.NameLaws.{edited_text, same_tokens}
-use Rattle.text_edits.proofs.TokenEdits.{KindAs, AreRetold, BackAs, GoBack, bars_in, edits, new_if, news_from}
+use Rattle.text_edits.proofs.TokenEdits.{KindAs, AreRetold, BackAs, GoBack, bars_in, new_if, news_from}
 
 -- ---- one token
 
@@ -59,10 +59,11 @@ go_back bytes new back number at to front rest (t ∷ ts) (u ∷ us) e same h a 
     let f = h.0 in
     let whole : front ++ encode_utf8_all (f.gap ++ (f.glyphs ++ f.rest)) ≡ bytes = ap (λ (q : List ℕ). front ++ encode_utf8_all q) (sym f.whole) ∙ same in
     let bars = subst (λ (q : List ℕ). IfSome (new number) (λ name. begins_with_bar (drop t.start q) ≡ bars_in t.kind)) whole
-        (bars_told (new number) front t f.gap f.glyphs f.rest a.0 f.token (omega (arith, f.starts, e))) in
-    (one_back bytes (new number) (back number) t u bars g.0 r.0,
-        go_back bytes new back (suc number) t.end u.end (front ++ encode_utf8_all (f.gap ++ f.glyphs)) f.rest ts us (length_before front f.gap f.glyphs at t.start t.end e f.starts f.ends)
-        (all_before front f.gap f.glyphs f.rest ∙ whole) h.1 a.1 g.1 r.3)
+    (bars_told (new number) front t f.gap f.glyphs f.rest a.0 f.token (omega (arith, f.starts, e))) in (
+      one_back bytes (new number) (back number) t u bars g.0 r.0,
+      go_back bytes new back (suc number) t.end u.end (front ++ encode_utf8_all (f.gap ++ f.glyphs)) f.rest ts us (length_before front f.gap f.glyphs at t.start t.end e f.starts f.ends)
+          (all_before front f.gap f.glyphs f.rest ∙ whole) h.1 a.1 g.1 r.3,
+    )
 
 -- ---- a text
 

@@ -1,14 +1,13 @@
 -- An edited text has the same tokens, but for the new names.
-use Rattle.std.proofs.Common.{◌≡◌, ℕ, ◌+◌, ◌-◌, ◌<◌, ◌≤◌, arith, length, List, [], ◌∷◌, ◌++◌, take, drop, Bool, true, false, cond, refl, sym, ap, ◌∙◌, subst, append_assoc, append-nil, inl, inr, Option, Some, None, ◌==◌}
+use Rattle.std.proofs.Common.{◌≡◌, ℕ, ◌+◌, ◌-◌, ◌≤◌, arith, length, List, [], ◌∷◌, ◌++◌, take, drop, Bool, true, false, refl, sym, ap, ◌∙◌, subst, append_assoc, append-nil, inl, inr, Option, Some, None, ◌==◌}
 use Rattle.std.specs.List.{slice_range}
 use Rattle.std.specs.Str.{encode_utf8_all}
-use Rattle.std.specs.Char.{len_utf8, encode_utf8}
+use Rattle.std.specs.Char.{encode_utf8}
 use Rattle.std.proofs.lemmas.Bool.{cond-false, eqb-true}
 use Rattle.std.proofs.Math.Seq.{take-append-add, drop-append-add, take-append_seam, drop-append_seam}
 use Rattle.std.proofs.lemmas.Str.{encodes-append, length-encode}
 use Rattle.std.proofs.lemmas.List.{length-append}
-use Rattle.std.proofs.lemmas.List.Sums.{sum_by-append}
-use Rattle.scheme_tokens.specs.Lexical.{byte_count, TokenKind, Atomic, Name, IsToken, Token, First, IsSpelledFrom, IsSpelled, Ends, mark_bytes, behind_mark}
+use Rattle.scheme_tokens.specs.Lexical.{byte_count, TokenKind, Atomic, Name, IsToken, Token, IsSpelledFrom, IsSpelled, Ends, mark_bytes, behind_mark}
 use Rattle.scheme_tokens.specs.Spelling.{IsSpelling}
 use Rattle.scheme_tokens.proofs.Fronts.{byte_count-encodes}
 use Rattle.scheme_tokens.proofs.Apart.{spelled_before}

@@ -1,18 +1,13 @@
 -- The edits of a text are those of its tokens, and the edited text reads.
-use Rattle.std.proofs.Common.{◌≡◌, ℕ, suc, ◌+◌, arith, length, List, [], ◌∷◌, ◌++◌, map, drop, Bool, true, false, cond, refl, sym, ap, ◌∙◌, subst, append_assoc, Option, Some, None, IfSome, ◌==◌}
+use Rattle.std.proofs.Common.{◌≡◌, ℕ, suc, ◌+◌, arith, length, List, [], ◌∷◌, ◌++◌, map, drop, Bool, true, false, cond, refl, sym, ap, ◌∙◌, subst, Option, Some, None, IfSome, ◌==◌}
 use Rattle.std.specs.Str.{chars, encode_utf8_all}
 use Rattle.std.specs.Char.{encode_utf8}
-use Rattle.std.proofs.Math.Seq.{drop-append_seam}
-use Rattle.std.proofs.lemmas.Bool.{eqb-true, and_parts}
-use Rattle.std.proofs.lemmas.List.{length-append}
-use Rattle.std.proofs.lemmas.Str.{encodes-append, encode_ascii, encode_same, length-encode}
+use Rattle.std.proofs.lemmas.Bool.{eqb-true}
+use Rattle.std.proofs.lemmas.Str.{length-encode}
 use Rattle.scheme_model.specs.Data.{Datum}
-use Rattle.scheme_model.specs.Diagnostics.{Span}
-use Rattle.std.specs.List.{list_all}
-use Rattle.scheme_tokens.specs.Lexical.{byte_count, is_delimiter, is_inside, TokenKind, Atomic, Name, IsToken, Token, IsSpelledFrom, IsSpelled, mark_bytes, behind_mark}
+use Rattle.scheme_tokens.specs.Lexical.{byte_count, TokenKind, Atomic, Name, IsToken, Token, IsSpelledFrom, IsSpelled, mark_bytes, behind_mark}
 use Rattle.scheme_tokens.specs.Spelling.{IsSpelling}
 use Rattle.scheme_tokens.specs.Mirror.Spelled.{spelled}
-use Rattle.scheme_tokens.proofs.Fronts.{byte_count-encodes}
 use Rattle.scheme_tokens.proofs.Same.Spelling.{spelling}
 use Rattle.datum_reader.specs.Texts.{token_seen, IsReading}
 use Rattle.text_edits.specs.Edits.{Edit, edited}

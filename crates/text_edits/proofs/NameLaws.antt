@@ -1,21 +1,19 @@
 -- The identifiers of what was read are name tokens, so an edited document reads.
-use Rattle.std.proofs.Common.{◌≡◌, ℕ, suc, ◌+◌, arith, List, [], ◌∷◌, ◌++◌, map, slice_get, Bool, true, false, cond, refl, sym, ap, ◌∙◌, subst, inl, inr, ◌⊎◌, Option, Some, None, IfSome, ◌==◌}
+use Rattle.std.proofs.Common.{◌≡◌, ℕ, suc, ◌+◌, arith, List, [], ◌∷◌, ◌++◌, map, slice_get, Bool, true, false, refl, sym, ap, ◌∙◌, subst, inl, inr, ◌⊎◌, Option, Some, None, IfSome, ◌==◌}
 use Rattle.std.specs.List.{flat_map}
 use Rattle.std.specs.Str.{chars, encode_utf8_all, IsUtf8}
 use Rattle.std.proofs.lemmas.Str.{encodes-chars, chars_from_encodes}
 use Rattle.std.proofs.lemmas.Bool.{or_cases, or_left, or_right, eqb-true}
 use Rattle.scheme_model.specs.Kinds as kinds
 use Rattle.scheme_model.specs.Data.{Datum, atom, list, vector, bytes, spelled, implied, Data, none, part, tail, row}
-use Rattle.scheme_model.specs.Program.{UnitResult, is_in}
+use Rattle.scheme_model.specs.Program.{is_in}
 use Rattle.scheme_model.specs.Sites.{name_tokens, name_tokens_all}
-use Rattle.scheme_model.specs.Written.{parts_meant}
-use Rattle.scheme_tokens.specs.Lexical.{TokenKind, Paren, VectorParen, BytesParen, Close, Dot, Skip, Marked, Mark, Quote, Quasi, Unquote, Splice, Atomic, Leaf, Name, Numeral, Quoted, Character, Truth, Token}
+use Rattle.scheme_tokens.specs.Lexical.{TokenKind, Paren, VectorParen, BytesParen, Close, Dot, Skip, Marked, Atomic, Name, Numeral, Quoted, Character, Truth, Token}
 use Rattle.scheme_tokens.specs.Lexical.{IsSpelled}
 use Rattle.scheme_tokens.specs.Faults.{FaultAt}
 use Rattle.scheme_tokens.specs.Stopping.{IsRead}
 use Rattle.scheme_tokens.proofs.Readings.{one_reading}
 use Rattle.datum_reader.specs.Texts.{kind_seen, token_seen, TextReads, IsReading}
-use Rattle.datum_reader.specs.NameTokens.{IsNameToken}
 use Rattle.datum_reader.proofs.NamePlaces.{From, Placed, AllPlaced, parts_placed}
 use Rattle.text_edits.specs.Edits.{edited}
 use Rattle.text_edits.specs.NewNames.{edits_of, span_of, NamesIdentifiers}

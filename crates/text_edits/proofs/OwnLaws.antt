@@ -1,10 +1,9 @@
 -- A token that is written anew as it stands keeps its name (R7RS 7.1.1).
-use Rattle.std.proofs.Common.{◌≡◌, ℕ, zero, suc, ◌+◌, ◌-◌, arith, length, List, [], ◌∷◌, ◌++◌, map, take, drop, slice_get, Bool, true, false, refl, sym, ap, ◌∙◌, subst, append_assoc, inl, inr, Option, Some, None}
+use Rattle.std.proofs.Common.{◌≡◌, ℕ, zero, suc, ◌+◌, ◌-◌, arith, length, List, [], ◌∷◌, ◌++◌, map, take, drop, slice_get, Bool, true, false, refl, sym, ap, ◌∙◌, subst, inl, inr, Option, Some, None}
 use Rattle.std.specs.List.{slice_range}
 use Rattle.std.specs.Str.{chars, encode_utf8_all, IsUtf8}
 use Rattle.std.proofs.Math.Seq.{take-append_seam}
-use Rattle.std.proofs.lemmas.List.{length-append}
-use Rattle.std.proofs.lemmas.Str.{encode_same, encodes-append, encodes-chars, length-le-encodes}
+use Rattle.std.proofs.lemmas.Str.{encodes-chars}
 use Rattle.scheme_model.specs.Kinds as kinds
 use Rattle.scheme_tokens.specs.Lexical.{byte_count, TokenKind, Atomic, Name, IsToken, Token, IsSpelledFrom, mark_bytes, behind_mark}
 use Rattle.scheme_tokens.specs.Faults.{FaultAt}

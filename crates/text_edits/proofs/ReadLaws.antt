@@ -1,20 +1,18 @@
 -- An edited text reads, and its data are the old ones with the new names.
-use Rattle.std.proofs.Common.{◌≡◌, ℕ, zero, suc, ◌+◌, arith, List, [], ◌∷◌, map, Bool, true, false, refl, sym, ap, ◌∙◌, subst, Option, Some, None}
+use Rattle.std.proofs.Common.{◌≡◌, ℕ, zero, suc, ◌+◌, arith, List, [], ◌∷◌, map, Bool, false, refl, sym, ap, ◌∙◌, subst, Option, Some, None}
 use Rattle.std.specs.Option.{option_map}
 use Rattle.std.specs.Str.{chars, encode_utf8_all}
 use Rattle.scheme_tokens.specs.Lexical as told
 use Rattle.scheme_tokens.specs.Lexical.{IsSpelled, mark_bytes}
 use Rattle.scheme_tokens.specs.Faults as faulty
 use Rattle.scheme_tokens.specs.Stopping as stopping
-use Rattle.scheme_model.specs.Kinds.{Leaf, Name, Numeral, Quoted, Character, Truth, TokenKind, Paren, VectorParen, BytesParen, Close, Dot, Skip, Marked, Atomic, Token}
+use Rattle.scheme_model.specs.Kinds.{Name, Numeral, Quoted, Character, Truth, TokenKind, Paren, VectorParen, BytesParen, Close, Dot, Skip, Marked, Atomic, Token}
 use Rattle.scheme_model.specs.Data.{Datum}
-use Rattle.scheme_model.specs.Faults.{Stop}
-use Rattle.scheme_model.specs.Stopping as model
 use Rattle.datum_reader.specs.Texts.{kind_seen, token_seen, stop_seen, TextReads, IsReading}
 use Rattle.text_edits.specs.Edits.{edited}
 use Rattle.text_edits.specs.Renamed.{datum_now}
 use Rattle.text_edits.proofs.TokenEdits.{New, Fits, AllFit, edits, KindAs, AreRetold, GoBack, bars_in, new_if, news_from}
-use Rattle.text_edits.proofs.EditLaws.{IsEdited, edited_reads}
+use Rattle.text_edits.proofs.EditLaws.{edited_reads}
 use Rattle.text_edits.proofs.DataLaws.{kind_with, AreAlike, now_of, reading_now, told_now}
 
 -- a kind without a new name
