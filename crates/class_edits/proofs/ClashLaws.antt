@@ -1,6 +1,5 @@
 -- Parts in order: the members with several parts are those with two prefixes.
-use Rattle.std.proofs.Common.{◌≡◌, ◌⊎◌, inl, inr, ◌↔◌, ℕ, List, [], ◌∷◌, ◌++◌, map, filter, length, Bool, true, false, cond, Option, Some, None, refl, sym, ap, ◌∙◌, subst}
-use Rattle.std.specs.Prelude.{nat_lt}
+use Rattle.std.proofs.Common.{◌≡◌, ◌⊎◌, inl, inr, ◌↔◌, ℕ, List, [], ◌∷◌, ◌++◌, map, Bool, true, false, cond, Option, Some, None, refl, sym, ap, ◌∙◌, subst}
 use Rattle.std.specs.Cmp.{tied_itself}
 use Rattle.std.specs.Cmp.Lexicographic.{slice_cmp}
 use Rattle.std.specs.List.{AllByRecursion}
@@ -25,7 +24,7 @@ use Rattle.program_answers.specs.Classed.{bare_part}
 use Rattle.program_answers.specs.declared.classes.ClassPart as placed
 use Rattle.class_edits.specs.Clashes.{clashing, has_two}
 use Rattle.class_edits.specs.FirstBytes.{is_same, repeated}
-use Rattle.class_edits.proofs.PrefixLaws.{HasTwo, has_two_of, more_than_one}
+use Rattle.class_edits.proofs.PrefixLaws.{has_two_of, more_than_one}
 
 -- ---- parts without their bars
 

@@ -1,13 +1,11 @@
 -- The edits of documents one by one: what is made of those gone through, and what is left.
-use Rattle.std.proofs.Common.{◌≡◌, ℕ, zero, suc, ◌+◌, ◌<◌, ◌≤◌, arith, List, [], ◌∷◌, ◌++◌, map, take, drop, get_or, length, slice_get, Bool, true, false, cond, Option, Some, None, refl, sym, ap, ◌∙◌, subst, append_assoc}
+use Rattle.std.proofs.Common.{◌≡◌, ℕ, zero, suc, ◌+◌, ◌<◌, ◌≤◌, arith, List, [], ◌∷◌, ◌++◌, map, take, drop, get_or, length, cond, Option, Some, refl, sym, ap, ◌∙◌, subst, append_assoc}
 use Rattle.std.specs.Prelude.{nat_lt}
 use Rattle.std.proofs.lemmas.List.{map-append}
 use Rattle.ls_base.specs.Limits.{max_text}
-use Rattle.ls_base.specs.declared.answers.DocEdits.{DocEdits}
-use Rattle.ls_base.specs.declared.answers.TextEdit.{TextEdit}
 use Rattle.ls_base.specs.declared.encoding.Encoding.{Encoding}
 use Rattle.scheme_model.specs.declared.Occ.{Occ}
-use Rattle.scheme_model.specs.Diagnostics.{Span, spans_at}
+use Rattle.scheme_model.specs.Diagnostics.{spans_at}
 use Rattle.scheme_model.specs.Program.{UnitResult}
 use Rattle.scheme_model.specs.Spelling.{Link}
 use Rattle.document_store.specs.Texts.{Document}
@@ -50,7 +48,7 @@ made_more name us i ds rs all old new es are lt was is e =
     let count : suc i ≡ i + 1 = omega arith in
     ap (λ (q : List (List code.Edit)). seen q ++ rest) is ∙ ap (λ (q : List (List Edit)). q ++ rest) (map-append (map edit_of) old (es ∷ [])) ∙ append_assoc (seen old) (map edit_of es ∷ []) rest
     ∙ (λ j. seen old ++ e j ∷ rest) ∙ sym (ap (λ (q : List (List Edit)). seen old ++ q) (next_edits name us i i ds rs are lt
-        ∙ ap (λ (n : ℕ). edits_of (name_at name (identifiers_of i us)) (text_of ds i) (spans_at (spans_of rs) i) ∷ edits_by name us n (drop n ds) (drop n rs)) count)) ∙ was
+    ∙ ap (λ (n : ℕ). edits_of (name_at name (identifiers_of i us)) (text_of ds i) (spans_at (spans_of rs) i) ∷ edits_by name us n (drop n ds) (drop n rs)) count)) ∙ was
 
 pub can_more : (i : ℕ) (ds : List (List ℕ × Document)) (old new : List (List code.Edit)) (es : List code.Edit) → i < length ds → CanEditAll (take i ds) old → new ≡ old ++ es ∷ [] → CanEdit (text_of ds i) es → CanEditAll (take (i + 1) ds) new
 can_more i ds old new es lt can is e =

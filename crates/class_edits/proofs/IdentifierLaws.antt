@@ -1,25 +1,22 @@
 -- The identifiers of a document as the code keeps them are those of the units of the document, and edits are decided by the names that
 -- tokens get.
-use Rattle.std.proofs.Common.{◌≡◌, ℕ, zero, suc, ◌+◌, ◌<◌, arith, List, [], ◌∷◌, ◌++◌, map, take, drop, get_or, length, Bool, true, false, cond, Option, Some, None, refl, sym, ap, ◌∙◌, append_assoc, append-nil}
+use Rattle.std.proofs.Common.{◌≡◌, ℕ, zero, suc, ◌+◌, ◌<◌, List, [], ◌∷◌, ◌++◌, map, take, get_or, length, cond, Option, None, refl, sym, ap, ◌∙◌, append_assoc, append-nil}
 use Rattle.std.specs.Prelude.{◌==◌}
 use Rattle.std.proofs.lemmas.List.{take_more}
 use Rattle.scheme_model.specs.declared.Occ.{Occ}
 use Rattle.scheme_model.specs.Data.{place_of}
 use Rattle.scheme_model.specs.Declarations.{UnitForm}
-use Rattle.scheme_model.specs.Diagnostics.{Span, first_token, spans_at}
+use Rattle.scheme_model.specs.Diagnostics.{Span, first_token}
 use Rattle.scheme_model.specs.Program.{UnitResult}
 use Rattle.scheme_model.specs.Sites.{names_in_forms, or_else}
 use Rattle.document_store.specs.Texts.{Document}
-use Rattle.document_units.specs.Places.{AreHeads, spans_of}
-use Rattle.document_units.specs.Readings.{AreReadAs, Read, spans_in}
+use Rattle.document_units.specs.Places.{AreHeads}
+use Rattle.document_units.specs.Readings.{Read, spans_in}
 use Rattle.document_units.specs.declared.listing.Head.{Head}
-use Rattle.program_answers.specs.ToldAnswers.{document_at, text_of}
-use Rattle.text_edits.specs.Edits.{Edit}
 use Rattle.text_edits.specs.Members.{Identifier, identifier_in, identifiers_of, name_at}
 use Rattle.text_edits.specs.NewNames.{edit_if, edits_from, edits_of}
 use Rattle.text_edits.specs.Views.{first_at, identifier_by}
-use Rattle.text_edits.proofs.KeyLaws.{or_again, or_none}
-use Rattle.class_edits.specs.DocumentEdits as told
+use Rattle.text_edits.proofs.KeyLaws.{or_again}
 use Rattle.class_edits.specs.Named.{edits_by, identifiers_in}
 
 -- ---- of units
@@ -63,7 +60,7 @@ noted_next name document heads i h n old new lt is was e =
     let next = cond (h.document == document) (map (identifier_by h.firsts.items) h.names.items) [] in
     e ∙ ap (λ (q : Option (List ℕ)). or_else q (name_at name next n)) was ∙ sym (both_at name (identifiers_in document (take i heads)) next n)
     ∙ sym (ap (λ (hs : List Head). name_at name (identifiers_in document hs) n) (take_more heads i h lt ∙ ap (λ (g : Head). take i heads ++ g ∷ []) (sym is))
-        ∙ ap (λ (is : List Identifier). name_at name is n) (in_more document (take i heads) h))
+    ∙ ap (λ (is : List Identifier). name_at name is n) (in_more document (take i heads) h))
 
 -- ---- edits by the names of tokens
 

@@ -17,7 +17,6 @@ use Rattle.arrow_index.proofs.ClassLaws.{itself}
 use Rattle.program_answers.specs.Classed.{bare_part}
 use Rattle.program_answers.specs.declared.classes.ClassPart.{ClassPart}
 use Rattle.text_edits.specs.Members.{Member, first_prefix, is_part, member_of, members_of, name_of}
-use Rattle.text_edits.proofs.KeyLaws.{or_none}
 use Rattle.class_edits.specs.Clashes.{clashing, has_two}
 use Rattle.class_edits.specs.Named.{named_parts}
 use Rattle.class_edits.proofs.PrefixLaws.{one_of_one}
@@ -42,7 +41,7 @@ pub named_next : (stem : List ℕ) (parts : List ClassPart) (i : ℕ) (p : Class
 named_next stem parts i p o old new lt is was e =
     e ∙ ap (λ (q : Option (List ℕ)). or_else q (cond (same_occ p.occ o) (Some (p.prefix ++ stem)) None)) was ∙ sym (name_more (named_parts stem (take i parts)) (named stem p) o)
     ∙ sym (ap (λ (ps : List ClassPart). name_of (named_parts stem ps) o) (take_more parts i p lt ∙ ap (λ (q : ClassPart). take i parts ++ q ∷ []) (sym is))
-        ∙ ap (λ (ms : List Member). name_of ms o) (map-append (named stem) (take i parts) (p ∷ [])))
+    ∙ ap (λ (ms : List Member). name_of ms o) (map-append (named stem) (take i parts) (p ∷ [])))
 
 -- ---- lists of members
 

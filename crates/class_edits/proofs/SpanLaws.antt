@@ -1,9 +1,9 @@
 -- The tokens of an open document are those of each reading of its text, and edits of them can be made.
-use Rattle.std.proofs.Common.{◌≡◌, ◌<◌, ℕ, zero, suc, arith, List, [], ◌∷◌, map, length, Option, None, refl, sym, ap, ◌∙◌, subst}
+use Rattle.std.proofs.Common.{◌≡◌, ◌<◌, ℕ, zero, suc, arith, List, [], ◌∷◌, map, length, Option, None, sym, ap, ◌∙◌, subst}
 use Rattle.std.specs.Str.{chars, IsUtf8}
 use Rattle.std.proofs.lemmas.Str.{IsCharBoundary-start}
 use Rattle.ls_base.specs.declared.places.Span as code_span
-use Rattle.scheme_model.specs.Diagnostics.{Span, spans_at}
+use Rattle.scheme_model.specs.Diagnostics.{spans_at}
 use Rattle.scheme_model.specs.Kinds.{Token}
 use Rattle.datum_reader.specs.Texts.{TextReads}
 use Rattle.datum_reader.proofs.Stops.{never_reads_and_stops}

@@ -66,9 +66,7 @@ fn earlier(first: Option<At>, at: At) -> At
     ensures inside { (count : ℕ) → at.document < count → IfSome first (λ a. a.document < count) → result.document < count }
 {
     match first {
-        Some(first) => {
-            if is_before(at, first) { at } else { first }
-        }
+        Some(first) => { if is_before(at, first) { at } else { first } }
         None => at,
     }
 }

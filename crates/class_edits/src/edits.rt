@@ -27,7 +27,12 @@ use std::collections::BTreeMap;
 use text_edits::{Edit, Members, TokenNames, edits_of, note_names};
 
 /// The edits of each open document by which a class gets a new stem.
-pub fn class_edits(alloc: Global, texts: &Open, class: &Class, stem: &str) -> Mem<Items<Items<Edit>>>
+pub fn class_edits(
+    alloc: Global,
+    texts: &Open,
+    class: &Class,
+    stem: &str,
+) -> Mem<Items<Items<Edit>>>
     ensures exact { (rs : List Read) (at : Occ) → AreReadAs (entries texts.now) rs → IsClassOf (entries texts.now) (facts_in rs) at class.now → clashing (facts_in rs).links at ≡ [] →
         IfOk result (λ all. seen all ≡ edits_of_class (entries texts.now) rs stem.now at) }
     // They can be made.
@@ -72,12 +77,7 @@ fn document_edits(
 }
 
 /// The new names of the tokens of a document.
-fn token_names(
-    alloc: Global,
-    members: &Members,
-    heads: &[Head],
-    document: usize,
-) -> Mem<TokenNames>
+fn token_names(alloc: Global, members: &Members, heads: &[Head], document: usize) -> Mem<TokenNames>
     ensures { IfOk result (λ names. (n : ℕ) → get nat_cmp names n ≡ name_at (λ o. get occ_cmp members.now o) (identifiers_in document heads.now) n) }
 {
     let mut names = BTreeMap::new(alloc);
@@ -95,5 +95,10 @@ fn note_unit(names: &mut TokenNames, members: &Members, head: &Head, document: u
     if head.document != document {
         return Ok(());
     }
-    note_names(names, members, head.names.as_slice(), head.firsts.as_slice())
+    note_names(
+        names,
+        members,
+        head.names.as_slice(),
+        head.firsts.as_slice(),
+    )
 }

@@ -1,4 +1,4 @@
-use Rattle.std.proofs.Common.{◌+◌, ◌<◌, ◌∷◌, List, Option, Some, length, IfSome, sym, ap, ◌∙◌, subst, arith, map, drop}
+use Rattle.std.proofs.Common.{◌+◌, ◌<◌, Option, Some, length, IfSome, sym, ap, ◌∙◌, subst, arith, map, drop}
 use Rattle.std.specs.FinMap.{entries}
 use Rattle.std.specs.Option.{option_map}
 use Rattle.document_units.specs.Places.{bytes_at}

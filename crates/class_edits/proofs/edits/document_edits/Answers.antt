@@ -2,14 +2,12 @@ use Rattle.std.proofs.Common.{◌≡◌, ℕ, List, Option, map, sym, ap, ◌∙
 use Rattle.std.specs.BTreeMap.{get}
 use Rattle.std.specs.FinMap.{entries}
 use Rattle.std.specs.Ordering.{nat_cmp}
-use Rattle.std.specs.Str.{IsUtf8}
 use Rattle.ls_base.specs.declared.places.Span.{Span}
 use Rattle.scheme_model.specs.declared.Occ.{Occ}
 use Rattle.document_units.specs.Readings.{IsReadAs, program_in, span_seen}
-use Rattle.program_answers.specs.ToldAnswers.{text_of}
 use Rattle.text_edits.specs.Members.{Identifier, identifiers_of, name_at}
 use Rattle.text_edits.specs.NewNames.{edits_of}
-use Rattle.text_edits.specs.Views.{CanEdit, edit_of, occ_cmp}
+use Rattle.text_edits.specs.Views.{CanEdit, occ_cmp}
 use Rattle.class_edits.proofs.IdentifierLaws.{by_names, identifiers_are}
 use Rattle.class_edits.proofs.SpanLaws.{can_make, spans_are}
 use Rattle.class_edits.proofs.edits.document_edits.Goals as goal
@@ -36,4 +34,4 @@ returns-clause-made c =
     let names : ℕ → Option (List ℕ) = λ n. get nat_cmp c.in_ok-names.names n in
     subst (λ (t : List ℕ). CanEdit t c.in_ok-edits.edits) c.text.ensures
     (can_make text document told.read (subst (λ (t : List ℕ). IsReadAs t told.read) (sym c.text.ensures) told.is_read) told.so c.text.utf8 names c.in_ok-edits.edits (c.in_ok-edits.ensures.exact ∙ ap (λ (ss : List Span). edits_of names text (map span_seen ss)) c.as_slice-spans.ensures.value)
-        (λ ts reads same. c.in_ok-edits.ensures.made ts reads (ap (map span_seen) c.as_slice-spans.ensures.value ∙ same)))
+    (λ ts reads same. c.in_ok-edits.ensures.made ts reads (ap (map span_seen) c.as_slice-spans.ensures.value ∙ same)))

@@ -1,7 +1,7 @@
 use Rattle.std.proofs.Common.{◌+◌, ◌++◌, ◌∷◌, [], List, ℕ, drop, map, sym, ap, ◌∙◌, subst, arith, append_assoc, append-nil}
 use Rattle.std.specs.FinMap.{entries}
 use Rattle.document_store.specs.Texts.{Document}
-use Rattle.program_answers.specs.ToldAnswers.{document_at, text_of}
+use Rattle.program_answers.specs.ToldAnswers.{text_of}
 use Rattle.text_edits.specs.Edits.{edited}
 use Rattle.text_edits.specs.Views.{CanEdit, edit_of}
 use Rattle.class_edits.specs.DocumentEdits.{all_edited, seen}

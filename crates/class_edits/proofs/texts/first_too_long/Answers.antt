@@ -6,7 +6,6 @@ use Rattle.program_answers.specs.ToldAnswers.{document_at, text_of}
 use Rattle.ls_base.specs.Limits.{max_text}
 use Rattle.text_edits.specs.Edits.{edited}
 use Rattle.text_edits.specs.Views.{CanEdit, edit_of}
-use Rattle.text_edits.specs.declared.edits.Edit.{Edit}
 use Rattle.class_edits.specs.DocumentEdits.{seen, too_long}
 use Rattle.class_edits.proofs.DocumentLaws.{all_gone, as_many, can_one, next_long}
 use Rattle.class_edits.proofs.texts.first_too_long.Goals as goal

@@ -1,4 +1,4 @@
-use Rattle.std.proofs.Common.{◌+◌, ◌++◌, List, ℕ, drop, map, sym, ap, ◌∙◌, subst, arith, append_assoc, append-nil}
+use Rattle.std.proofs.Common.{◌+◌, ◌++◌, List, ℕ, drop, map, sym, ap, ◌∙◌, arith, append_assoc, append-nil}
 use Rattle.std.specs.FinMap.{entries}
 use Rattle.document_store.specs.Texts.{Document}
 use Rattle.program_answers.specs.ToldAnswers.{document_at, text_of}
@@ -25,7 +25,7 @@ loop-number-preserved c =
     let rest = edits.told encoding (drop (i + 1) ds) (seen (drop (i + 1) all)) in
     let here = told_of (document_at ds i).0 (map (edit_told encoding (text_of ds i)) (map edit_of es)) in
     ap (λ (xs : List DocEdits). xs ++ rest) (c.in_ok-push_told.ensures
-        ∙ (λ j. c.loop-number.told ++ told_of (c.document-document.ensures.uri j) ((c.in_ok-placed.ensures ∙ (λ k. map (edit_told encoding (c.text-text.ensures k)) (map edit_of (c.as_slice.ensures k)))) j)))
+    ∙ (λ j. c.loop-number.told ++ told_of (c.document-document.ensures.uri j) ((c.in_ok-placed.ensures ∙ (λ k. map (edit_told encoding (c.text-text.ensures k)) (map edit_of (c.as_slice.ensures k)))) j)))
     ∙ append_assoc c.loop-number.told here rest ∙ sym (ap (λ (xs : List DocEdits). c.loop-number.told ++ xs) (next_told ds all encoding i es c.requires (omega arith) c.index-all-number.is)) ∙ c.loop-number.invariant
 
 pub returns : goal.returns
