@@ -1,0 +1,3 @@
+pub mod AcceptedLaws  -- A rename is accepted exactly where all its conditions hold
+pub mod LongestText  -- The longest text that a rename may leave, and one of a byte more
+pub mod RenameShown  -- Renames in the notation of rows
