@@ -134,7 +134,7 @@ use Rattle.scheme_model.specs.Diagnostics.{Span}
 use Rattle.scheme_tokens.specs.Lexical.{is_initial, is_subsequent}
 use Rattle.scheme_tokens.specs.Mirror.Spelled.{spelled}
 use Rattle.scheme_tokens.specs.Mirror.Words.{is_identifier, is_numeral}
-use Rattle.rename_model.specs.Difference.{IsCaptured, IsShadowed, IsQuoted, IsTemplate, IsExport, IsStructure, IsBroken}
+use Rattle.rename_model.specs.Difference as d
 use Rattle.text_edits.specs.Edits.{Edit}
 use Rattle.rename_conditions.specs.Readers.{Reading}
 use Rattle.rename_conditions.specs.Opened.{DocEdits}
@@ -216,7 +216,7 @@ es document edits = record { document = document; edits = edits }
         if number == "8":
             return f"w.TooLong {uris.index(rest.removeprefix('text too long '))}"
         kind, where, before, after = re.fullmatch(r"(\w+) (\S+) from (.*) to (.*)", rest, re.S).groups()
-        return f"w.Differs Is{kind.capitalize()} {place(where)} {end(before)} {end(after)}"
+        return f"w.Differs d.Is{kind.capitalize()} {place(where)} {end(before)} {end(after)}"
 
 
 KINDS = [Differences(), Renames(), Conditions()]

@@ -1,14 +1,12 @@
 -- A rename is accepted exactly where all its conditions hold.
-use Rattle.std.proofs.Common.{◌≡◌, ◌↔◌, ℕ, zero, suc, ◌≤◌, ◌<◌, nat_lt, List, [], ◌∷◌, ◌++◌, map, filter, length, Bool, true, false, cond, Option, Some, None, Result, Ok, Err, ok_or, slice_get, refl, sym, ap, ◌∙◌, subst, ◌==◌, arith}
-use Rattle.std.proofs.lemmas.Bool.{eqb-true, eq-eqb, cond-true, ltb-true, ltb-false, lt-ltb, le-ltb}
+use Rattle.std.proofs.Common.{◌≡◌, ◌↔◌, ℕ, zero, suc, ◌≤◌, nat_lt, List, [], ◌∷◌, ◌++◌, map, filter, length, Bool, true, false, cond, Option, Some, None, Result, Ok, Err, ok_or, slice_get, refl, sym, ap, ◌∙◌, subst, ◌==◌}
+use Rattle.std.proofs.lemmas.Bool.{eqb-true, eq-eqb, cond-true, ltb-false, le-ltb}
 use Rattle.ls_base.specs.Limits.{max_text}
 use Rattle.scheme_model.specs.declared.Occ.{Occ}
 use Rattle.scheme_model.specs.Answers.{put_by, ordered_by, bytes_before}
 use Rattle.scheme_model.specs.Diagnostics.{Bytes, Diagnostic}
 use Rattle.scheme_model.specs.Entries.{is_below}
 use Rattle.scheme_model.specs.Spelling.{Link, is_joined, prefixes_of, standard_origins}
-use Rattle.rename_model.specs.Difference.{Difference}
-use Rattle.rename_model.specs.Reach.{in_reach}
 use Rattle.rename_model.proofs.SameLaws.{none_is_same}
 use Rattle.text_edits.specs.Members.{behind, some_text, prefix_of, stem_of}
 use Rattle.rename_conditions.specs.Readers.{Reading, Reader}
@@ -148,7 +146,7 @@ told_apart : (ls : List Link) (os : List Occ) → ((n : ℕ) (o : Occ) → slice
 told_apart ls [] h = refl
 told_apart ls (p ∷ os) h =
     ap (λ (b : Bool). cond b (p ∷ filter (λ p. nat_lt 1 (length (prefixes_of ls p []))) os) (filter (λ p. nat_lt 1 (length (prefixes_of ls p []))) os))
-        (le-ltb 1 (length (prefixes_of ls p [])) (h zero p refl))
+    (le-ltb 1 (length (prefixes_of ls p [])) (h zero p refl))
     ∙ told_apart ls os (λ n o e. h (suc n) o e)
 
 fit_told : (n : ℕ) (ts : List (List ℕ)) → first_too_long n ts ≡ None → (k : ℕ) (t : List ℕ) → slice_get ts k ≡ Some t → length t ≤ max_text
@@ -218,24 +216,24 @@ accepts r w at new es h =
     let o = h.occ in
     let stem = h.first ∷ h.rest in
     then_ok (ok_or (joined_at w.links at) NotBound) o _ es
-      (told_or (joined_at w.links at) NotBound o (ap (joined_at w.links) h.here ∙ ap (λ (b : Bool). cond b (Some o) None) h.joined))
+    (told_or (joined_at w.links at) NotBound o (ap (joined_at w.links) h.here ∙ ap (λ (b : Bool). cond b (Some o) None) h.joined))
     (then_ok (unless (first_of (standard_names w o)) IsStandard) tt _ es
-      (told_unless (first_of (standard_names w o)) IsStandard (ap (λ (q : List (List ℕ)). first_of (ordered_by is_below q)) h.bound))
+    (told_unless (first_of (standard_names w o)) IsStandard (ap (λ (q : List (List ℕ)). first_of (ordered_by is_below q)) h.bound))
     (then_ok (ok_or (new_symbol (r.symbol new)) BadName) h.name _ es
-      (told_or (new_symbol (r.symbol new)) BadName h.name (ap new_symbol h.named ∙ ap (λ (b : Bool). cond b None (Some h.name)) h.free))
+    (told_or (new_symbol (r.symbol new)) BadName h.name (ap new_symbol h.named ∙ ap (λ (b : Bool). cond b None (Some h.name)) h.free))
     (then_ok (unless (first_unread 0 w.readings) Unreadable) tt _ es
-      (told_unless (first_unread 0 w.readings) Unreadable (told_unread 0 w.readings h.read))
+    (told_unless (first_unread 0 w.readings) Unreadable (told_unread 0 w.readings h.read))
     (then_ok (ok_or (stem_of (prefix_of w.links o) h.name) (PrefixLost (prefix_of w.links o))) stem _ es
-      (told_or (stem_of (prefix_of w.links o) h.name) (PrefixLost (prefix_of w.links o)) stem (ap (stem_of (prefix_of w.links o)) h.kept ∙ ap some_text (told_behind (prefix_of w.links o) stem)))
+    (told_or (stem_of (prefix_of w.links o) h.name) (PrefixLost (prefix_of w.links o)) stem (ap (stem_of (prefix_of w.links o)) h.kept ∙ ap some_text (told_behind (prefix_of w.links o) stem)))
     (then_ok (unless (first_of (clashes w o)) PrefixClash) tt _ es
-      (told_unless (first_of (clashes w o)) PrefixClash (ap (λ (q : List Occ). first_of (ordered_by bytes_before (map (place_of w) q))) (told_apart w.links (class_in w o) h.apart)))
+    (told_unless (first_of (clashes w o)) PrefixClash (ap (λ (q : List Occ). first_of (ordered_by bytes_before (map (place_of w) q))) (told_apart w.links (class_in w o) h.apart)))
     (then_ok (unless (first_of (errors_in_reach w o)) broken) tt _ es
-      (told_unless (first_of (errors_in_reach w o)) broken (ap (λ (q : List Diagnostic). first_of q) h.whole))
+    (told_unless (first_of (errors_in_reach w o)) broken (ap (λ (q : List Diagnostic). first_of q) h.whole))
     (then_ok (unless (first_too_long 0 (edited_in w o stem)) TooLong) tt _ es
-      (told_unless (first_too_long 0 (edited_in w o stem)) TooLong (told_fit 0 (edited_in w o stem) h.fit))
+    (told_unless (first_too_long 0 (edited_in w o stem)) TooLong (told_fit 0 (edited_in w o stem) h.fit))
     (then_ok (unless (difference_by r w o stem) Differs) tt _ es
-      (told_unless (difference_by r w o stem) Differs ((none_is_same w.units w.program (program_read r (edited_in w o stem)) (plan_in w o stem) (reach_in w o)).1 h.same))
-      (ap (λ (q : List DocEdits). Ok q) (sym h.edits))))))))))
+    (told_unless (difference_by r w o stem) Differs ((none_is_same w.units w.program (program_read r (edited_in w o stem)) (plan_in w o stem) (reach_in w o)).1 h.same))
+    (ap (λ (q : List DocEdits). Ok q) (sym h.edits))))))))))
 
 pub accepted_exactly : (r : Reader) (w : Opened) (at : Option Occ) (new : List ℕ) (es : List DocEdits) → rename_in r w at new ≡ Ok es ↔ IsAccepted r w at new es
 accepted_exactly r w at new es = (accepted r w at new es, accepts r w at new es)

@@ -1,5 +1,5 @@
 -- The longest text that a rename may leave, and one of a byte more.
-use Rattle.std.proofs.Common.{◌≡◌, ℕ, nat_lt, List, [], ◌∷◌, length, cond, Option, Some, None, ap}
+use Rattle.std.proofs.Common.{◌≡◌, ℕ, nat_lt, List, [], ◌∷◌, length, cond, Some, None, ap}
 use Rattle.ls_base.specs.Limits.{max_text}
 use Rattle.rename_conditions.specs.Renames.{first_too_long}
 

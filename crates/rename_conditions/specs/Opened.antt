@@ -1,15 +1,15 @@
 -- The open documents with their program, and what a rename of an identifier comes to in them: its class, the units in reach, the edits,
 -- the edited texts, and what the program is compared by.
-use Rattle.std.specs.Prelude.{ℕ, suc, List, [], ◌∷◌, ◌++◌, map, filter, Bool, true, false, Option, Some, None, if◌then◌else◌}
+use Rattle.std.specs.Prelude.{ℕ, suc, List, [], ◌∷◌, map, filter, Bool, true, false, Option, Some, None, if◌then◌else◌}
 use Rattle.std.specs.List.{flat_map}
 use Rattle.scheme_model.specs.declared.Occ.{Occ}
-use Rattle.scheme_model.specs.Diagnostics.{Span, Bytes, bytes_of}
-use Rattle.scheme_model.specs.Program.{Document, Placed, UnitResult, Program, ExportSpec, program_of, units_of}
+use Rattle.scheme_model.specs.Diagnostics.{Bytes, bytes_of}
+use Rattle.scheme_model.specs.Program.{Placed, UnitResult, Program, ExportSpec, program_of, units_of}
 use Rattle.scheme_model.specs.Spelling.{Link, links_of, class_of, is_member}
 use Rattle.rename_model.specs.Reach.{in_reach}
 use Rattle.rename_model.specs.SameProgram.{ExportChange, Plan}
 use Rattle.text_edits.specs.Edits.{Edit, edited}
-use Rattle.text_edits.specs.Members.{class_edits, member_of, members_of}
+use Rattle.text_edits.specs.Members.{class_edits, member_of}
 use Rattle.rename_conditions.specs.Readers.{Reading, Reader, document_in, spans_in}
 
 -- the texts in the order of their documents, how each reads, and their program with its links
