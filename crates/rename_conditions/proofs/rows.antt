@@ -1,1 +1,2 @@
+-- The definitions on worked rows
 pub mod ConditionRows
