@@ -51,12 +51,7 @@ fn edit(out: &mut Shown, call: &str, argument: &Value) -> Row<()> {
             match call {
                 "of" => show_edited(out, text, edits.as_slice())?,
                 "long" => out.flag(is_too_long(text, edits.as_slice())),
-                _ => show_placed(
-                    out,
-                    text,
-                    edits.as_slice(),
-                    encoding(item(argument, 2)?)?,
-                )?,
+                _ => show_placed(out, text, edits.as_slice(), encoding(item(argument, 2)?)?)?,
             }
         }
         Err(fault) => show_fault(out, fault),
