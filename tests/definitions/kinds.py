@@ -676,9 +676,9 @@ class Edits(Arrows):
     crate = "text_edits"
     module = "EditRows"
     says = "Open documents, and the edits by which an identifier gets a new name, from outside."
-    unfolding = Arrows.unfolding + " chars spelled is_numeral is_identifier is_initial is_subsequent"
+    unfolding = Arrows.unfolding + " chars spelled is_numeral is_identifier is_initial is_subsequent ucd_category"
     head = Arrows.head.replace("use Rattle.scheme_model.proofs.Shown.{ArrowRow, arrow_rows, diagnostic_rows}", "use Rattle.text_edits.proofs.Shown.{edit_rows}").replace("{Span, Bytes, Diagnostic}", "{Span}")
-    head = head[:head.index("abbrev b :")].replace("\n\nabbrev s :", "\nuse Rattle.std.specs.Str.{chars}\nuse Rattle.scheme_tokens.specs.Lexical.{is_initial, is_subsequent}\nuse Rattle.scheme_tokens.specs.Mirror.Spelled.{spelled}\nuse Rattle.scheme_tokens.specs.Mirror.Words.{is_identifier, is_numeral}\nuse Rattle.text_edits.specs.Edits.{Edit}\n\nabbrev s :", 1) + """abbrev e : ℕ → ℕ → List ℕ → Edit
+    head = head[:head.index("abbrev b :")].replace("\n\nabbrev s :", "\nuse Rattle.std.specs.Str.{chars}\nuse Rattle.scheme_tokens.specs.Lexical.{is_initial, is_subsequent}\nuse Rattle.scheme_tokens.specs.Mirror.Spelled.{spelled}\nuse Rattle.scheme_tokens.specs.Mirror.Words.{is_identifier, is_numeral}\nuse Rattle.text_edits.specs.Edits.{Edit}\nuse Rattle.unicode.proofs.CategoryComputing.{ucd_category}\n\nabbrev s :", 1) + """abbrev e : ℕ → ℕ → List ℕ → Edit
 e start end text = record { start = start; end = end; text = text }
 """
 

@@ -27,17 +27,17 @@ abbrev pub GivesRest : Option (List ℕ) → ℕ → Fetch → Type 0
 GivesRest None max answer = Unit {0}
 GivesRest (Some rest) max answer = Gives (Some rest) max answer
 
+-- the same where it is told what names hold
+abbrev pub FetchTells : Option (List ℕ → Option (List ℕ)) → List ℕ → ℕ → Fetch → Type 0
+FetchTells None name max answer = Unit {0}
+FetchTells (Some held) name max answer = Gives (held name) max answer
+
 -- what is given is what the reads of this call took: all up to the end, or more than `max` bytes
 abbrev pub GivesRead : List (List ℕ) → List (List ℕ) → ℕ → Fetch → Type 0
 GivesRead old new max (fetch.Bytes content) = LastTakesNone old new content.items
 GivesRead old new max fetch.Long = (bytes : List ℕ) × AllTake old new bytes × (max < length bytes)
 GivesRead old new max fetch.Failed = (bytes : List ℕ) × LastTakesNone old new bytes
 GivesRead old new max fetch.Memory = (bytes : List ℕ) × AllTake old new bytes
-
--- the same where it is told what names hold
-abbrev pub FetchTells : Option (List ℕ → Option (List ℕ)) → List ℕ → ℕ → Fetch → Type 0
-FetchTells None name max answer = Unit {0}
-FetchTells (Some held) name max answer = Gives (held name) max answer
 
 -- the count of faults rises with a fetch that fails, and with no other
 abbrev pub FetchCounts : ℕ → ℕ → Fetch → Type 0

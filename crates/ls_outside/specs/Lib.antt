@@ -1,6 +1,6 @@
 pub mod Counts  -- How a count of faults goes on
-pub mod Calls  -- What the calls of a stream took, one after another
 pub mod Sources  -- What a read takes and answers, and when it may say that it failed
+pub mod Calls  -- What the calls of a stream took, one after another
 pub mod Sinks  -- What a write takes and answers, and when it may say that it failed
 pub mod Files  -- What a fetch answers, and when it may say that it failed
 pub mod Plans  -- Which calls of an object in memory are to fail

@@ -65,9 +65,13 @@ module _ (all : List Placed) (known : Known) where
 
   pub uses_by_turns : scoped_work_uses all ps known (length ps) scoped_before ≡ uses_at all known (turns all)
   uses_by_turns =
-      sym (ap (λ (c : ScopedProgress × ℕ). c.1) (work_counted (length ps) scoped_before 0))
+      sym (none_before (scoped_work_uses all ps known (length ps) scoped_before))
+      ∙ sym (ap (λ (c : ScopedProgress × ℕ). c.1) (work_counted (length ps) scoped_before 0))
       ∙ (ap (λ (c : ScopedProgress × ℕ). c.1) (in_all all (λ (c : ScopedProgress × ℕ). c.0.results) (counted_worked all known) counted_work is_counted (scoped_before, 0) refl)
       ∙ behind (drop 128 ps) (fold (counted_by_number all known) (scoped_before, 0) (turns all)) (left_broken all))
+    where
+      none_before : (n : ℕ) → 0 + n ≡ n
+      none_before n = omega arith
 
   progress_so : (x : List ℕ) (c : ScopedProgress × ℕ) → (fold (counted_by_number all known) c x).0 ≡ fold (scoped_by_number all known) c.0 x
   progress_so [] c = refl

@@ -75,7 +75,7 @@ call_still Running s id (Rename uri position new_name) n = (0, refl, one_still n
 call_still Shut s id call n = (0, refl, one_still n)
 
 -- a notification in another mode
-pub dropped_still : (s : State) (note : Note) (n : ℕ) → AreCounted (session.dropped {Question} s note).replies n n
+pub dropped_still : (s : State) (note : Note) (n : ℕ) → AreCounted (session.dropped {A = Question} s note).replies n n
 dropped_still s session.Exit n = refl
 dropped_still s (session.Document event) n = refl
 dropped_still s (session.BadParams method) n = refl

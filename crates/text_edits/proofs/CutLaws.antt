@@ -7,7 +7,7 @@ use Rattle.std.proofs.lemmas.Str.{encodes-chars, scalars-chars, encodes-append, 
 use Rattle.std.specs.Char.{len_utf8}
 use Rattle.std.specs.Str.{chars, IsUtf8, IsCharBoundary, encode_utf8_all as encodes, all_scalars as scalars}
 use Rattle.text_positions.proofs.Cuts.{length-encodes}
-use Rattle.scheme_tokens.specs.Lexical.{First, Token, IsSpelled, IsSpelledFrom, behind_mark, byte_count, mark_bytes}
+use Rattle.scheme_tokens.specs.Lexical.{Token, IsSpelled, IsSpelledFrom, behind_mark, byte_count, mark_bytes}
 use Rattle.scheme_tokens.specs.Apart.{AreApart}
 use Rattle.scheme_model.specs.Diagnostics.{Span}
 use Rattle.scheme_tokens.specs.Faults.{FaultAt}

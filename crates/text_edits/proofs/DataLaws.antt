@@ -1,13 +1,13 @@
 -- Data are written by the tokens that there are now as they were by those before.
-use Rattle.std.proofs.Common.{◌≡◌, ℕ, zero, suc, ◌+◌, ◌≤◌, max, arith, List, [], ◌∷◌, map, Bool, true, refl, sym, ap, ◌∙◌, subst, Option, None}
+use Rattle.std.proofs.Common.{◌≡◌, ℕ, zero, suc, ◌+◌, ◌≤◌, max, arith, List, [], ◌∷◌, map, Bool, refl, sym, ap, ◌∙◌, subst, Option, None}
 use Rattle.scheme_model.specs.Kinds as kinds
 use Rattle.scheme_model.specs.Kinds.{Leaf, Mark, TokenKind, Token}
-use Rattle.scheme_model.specs.Data.{Datum, atom, list, vector, bytes, Data, none, part, tail, row, tail_of, place_of, spelled, implied}
-use Rattle.scheme_model.specs.Numbered.{Spot, Numbered, number_from, at, between, up_to, is_byte}
+use Rattle.scheme_model.specs.Data.{Datum, atom, list, vector, bytes, Data, none, part, row, tail_of, place_of, implied}
+use Rattle.scheme_model.specs.Numbered.{Spot, Numbered, number_from, at, between, up_to}
 use Rattle.scheme_model.specs.Faults.{Stop}
 use Rattle.scheme_model.specs.Written.{Written, alone, listed, tailed, vectored, byted, abbreviated, Gap, nothing, skipped, Parts, last, next, Bytes, last_byte, byte, token, written_tokens, gap_tokens, parts_tokens, bytes_tokens, bytes_meant, meant, parts_meant, max_open, depth, gap_depth, parts_depth, bytes_depth}
 use Rattle.scheme_model.specs.Stopping.{IsReading}
-use Rattle.text_edits.specs.Renamed.{Now, name_with, leaf_with, place_now, datum_now, data_now}
+use Rattle.text_edits.specs.Renamed.{Now, leaf_with, place_now, datum_now, data_now}
 
 -- ---- tokens as they are now
 

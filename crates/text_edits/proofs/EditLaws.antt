@@ -1,18 +1,20 @@
 -- An edited text has the same tokens, but for the new names.
-use Rattle.std.proofs.Common.{◌≡◌, ℕ, ◌+◌, ◌-◌, ◌<◌, ◌≤◌, arith, length, List, [], ◌∷◌, ◌++◌, take, drop, Bool, true, false, cond, refl, sym, ap, ◌∙◌, subst, append_assoc, append-nil, inl, inr, Option, Some, None, ◌==◌}
+use Rattle.std.proofs.Common.{◌≡◌, ℕ, ◌+◌, ◌-◌, ◌≤◌, arith, length, List, [], ◌∷◌, ◌++◌, take, drop, Bool, true, false, refl, sym, ap, ◌∙◌, subst, append_assoc, append-nil, inl, inr, Option, Some, None, ◌==◌}
+use Rattle.std.specs.List.{slice_range}
 use Rattle.std.specs.Str.{encode_utf8_all}
-use Rattle.std.specs.Char.{len_utf8, encode_utf8}
+use Rattle.std.specs.Char.{encode_utf8}
 use Rattle.std.proofs.lemmas.Bool.{cond-false, eqb-true}
 use Rattle.std.proofs.Math.Seq.{take-append-add, drop-append-add, take-append_seam, drop-append_seam}
 use Rattle.std.proofs.lemmas.Str.{encodes-append, length-encode}
 use Rattle.std.proofs.lemmas.List.{length-append}
-use Rattle.std.proofs.lemmas.List.Sums.{sum_by-append}
-use Rattle.scheme_tokens.specs.Lexical.{byte_count, TokenKind, Atomic, Name, IsToken, Token, First, IsSpelledFrom, IsSpelled, Ends, mark_bytes, behind_mark}
+use Rattle.scheme_tokens.specs.Lexical.{byte_count, TokenKind, Atomic, Name, IsToken, Token, IsSpelledFrom, IsSpelled, Ends, mark_bytes, behind_mark}
 use Rattle.scheme_tokens.specs.Spelling.{IsSpelling}
 use Rattle.scheme_tokens.proofs.Fronts.{byte_count-encodes}
 use Rattle.scheme_tokens.proofs.Apart.{spelled_before}
 use Rattle.text_edits.specs.Edits.{Edit, edited_from, edited}
-use Rattle.text_edits.proofs.TokenEdits.{New, Fits, AllFit, edits, KindAs, size_as, AreRetold}
+use Rattle.text_edits.proofs.TokenEdits.{New, Fits, AllFit, edits, KindAs, size_as, AreRetold, BackAs, GoBack}
+use Rattle.text_edits.specs.NewNames.{begins_with_bar}
+use Rattle.text_edits.proofs.GlyphLaws.{all_before, bars_begin, encodes_same, glyphs_cut, length_before}
 use Rattle.text_edits.proofs.Fronts.{Allows, allows_itself, allows_behind, space_before, token_before, allows_name, is_order_mark}
 
 -- ---- bytes that stay
@@ -50,6 +52,9 @@ glyphs_as : Option New → List ℕ → List ℕ
 glyphs_as None glyphs = glyphs
 glyphs_as (Some n) glyphs = n.text
 
+begun : (name glyphs rest : List ℕ) (bars : Bool) → IsToken (Atomic (Name name bars)) glyphs rest → begins_with_bar (encode_utf8_all glyphs) ≡ bars
+begun name glyphs rest bars h = ap begins_with_bar (sym (append-nil (encode_utf8_all glyphs))) ∙ bars_begin name glyphs rest [] bars h
+
 retold_token : (n : Option New) (t : Token) (glyphs rest behind : List ℕ) → Fits n t → IsToken t.kind glyphs rest → Allows rest behind →
     (k : TokenKind) × IsToken k (glyphs_as n glyphs) behind × KindAs n t.kind k × Allows (glyphs ++ rest) (glyphs_as n glyphs ++ behind)
 unfolding glyphs_as
@@ -57,7 +62,7 @@ retold_token None t glyphs rest behind f h a = (t.kind, token_before t.kind glyp
 retold_token (Some n) t glyphs rest behind (old, bars, e, s) h a =
     let name = subst (λ (k : TokenKind). IsToken k glyphs rest) e h in
     let new = written n old glyphs rest behind bars name s a in
-    (Atomic (Name n.name new.0), new.1, (new.0, refl), allows_name old glyphs rest n.name n.text behind bars name s)
+    (Atomic (Name n.name new.0), new.1, (new.0, refl, begun n.name n.text behind new.0 new.1), allows_name old glyphs rest n.name n.text behind bars name s)
   where
     written : (n : New) (old glyphs rest behind : List ℕ) (bars : Bool) → IsToken (Atomic (Name old bars)) glyphs rest → IsSpelling n.name bars n.text → Allows rest behind →
         (b : Bool) × IsToken (Atomic (Name n.name b)) n.text behind
@@ -98,6 +103,40 @@ bytes_told (Some n) at ns t ts gap glyphs rest behind s e l h =
     ∙ sym ((λ i. take (start i) (whole i) ++ (encode_utf8_all n.text ++ edited_from t.end es (drop (end i) ((whole ∙ same) i))))
     ∙ (λ i. take-append_seam g (x ++ r) i ++ (encode_utf8_all n.text ++ edited_from t.end es (drop-append_seam (g ++ x) r i))))
 
+-- ---- a token that is spelled as it was
+
+no_edits : (ms : List (Option New)) → edits ms [] ≡ []
+no_edits [] = refl
+no_edits (m ∷ ms) = refl
+
+glyphs_back : (bytes : List ℕ) (n m : Option New) (t : Token) (glyphs : List ℕ) → BackAs bytes n m t → slice_range bytes t.start t.end ≡ encode_utf8_all glyphs → glyphs_as m (glyphs_as n glyphs) ≡ glyphs
+unfolding glyphs_as
+glyphs_back bytes None None t glyphs b h = refl
+glyphs_back bytes None (Some m) t glyphs b h = absurd b
+glyphs_back bytes (Some n) None t glyphs b h = absurd b
+glyphs_back bytes (Some n) (Some m) t glyphs b h = encodes_same m.text glyphs (b ∙ h)
+
+-- the edits of the tokens as they are now give the bytes back that were there
+abbrev GivesBack : (at to : ℕ) → List (Option New) → List Token → (text : List ℕ) → List Token → (other : List ℕ) → Type 0
+GivesBack at to ns ts text us other =
+    (front : List ℕ) (ms : List (Option New)) → at ≡ length front → GoBack (front ++ encode_utf8_all text) ns ms ts → edited_from to (edits ms us) (encode_utf8_all other) ≡ encode_utf8_all text
+
+back_told : (n : Option New) (at to : ℕ) (ns : List (Option New)) (k : TokenKind) (t : Token) (ts us : List Token) (gap glyphs rest behind : List ℕ) → t.start ≡ at + byte_count gap → t.end ≡ t.start + byte_count glyphs →
+    let start = to + byte_count gap in let end = start + byte_count (glyphs_as n glyphs) in
+    IsSpelledFrom end us behind → GivesBack t.end end ns ts rest us behind →
+    GivesBack at to (n ∷ ns) (t ∷ ts) (gap ++ (glyphs ++ rest)) (record { kind = k; start = start; end = end } ∷ us) (gap ++ (glyphs_as n glyphs ++ behind))
+back_told n at to ns k t ts us gap glyphs rest behind s e h later front [] a g = absurd g
+back_told n at to ns k t ts us gap glyphs rest behind s e h later front (m ∷ ms) a g =
+    let bytes = front ++ encode_utf8_all (gap ++ (glyphs ++ rest)) in
+    let before = front ++ encode_utf8_all (gap ++ glyphs) in
+    let start = to + byte_count gap in
+    let now = glyphs_as n glyphs in
+    let end = start + byte_count now in
+    let cut : slice_range bytes t.start t.end ≡ encode_utf8_all glyphs = glyphs_cut front gap glyphs rest t.start t.end (s ∙ ap (λ (q : ℕ). q + byte_count gap) a) e in
+    let more = later before ms (length_before front gap glyphs at t.start t.end a s e) (subst (λ (q : List ℕ). GoBack q ns ms ts) (sym (all_before front gap glyphs rest)) g.1) in
+    sym (bytes_told m to ms (record { kind = k; start = start; end = end }) us gap now behind rest refl refl (edits_later end ms us behind h) (sym more))
+    ∙ ap (λ (q : List ℕ). encode_utf8_all (gap ++ (q ++ rest))) (glyphs_back bytes n m t glyphs g.0 cut)
+
 -- ---- all tokens
 
 -- the edited text from a place on, with its tokens
@@ -107,10 +146,11 @@ pub record Retold (at to : ℕ) (ns : List (Option New)) (ts : List Token) (text
   pub spelled : IsSpelledFrom to tokens other
   pub retold : AreRetold at to ns ts tokens
   pub allows : Allows text other
+  pub back : GivesBack at to ns ts text tokens other
   pub bytes : encode_utf8_all other ≡ edited_from at (edits ns ts) (encode_utf8_all text)
 
 pub retold_from : (at to : ℕ) (ns : List (Option New)) (ts : List Token) (text : List ℕ) → IsSpelledFrom at ts text → AllFit ns ts → Retold at to ns ts text
-retold_from at to [] [] text h f = record { other = text; tokens = []; spelled = h; retold = tt; allows = allows_itself text; bytes = refl }
+retold_from at to [] [] text h f = record { other = text; tokens = []; spelled = h; retold = tt; allows = allows_itself text; back = λ front ms a g. ap (λ (es : List Edit). edited_from to es (encode_utf8_all text)) (no_edits ms); bytes = refl }
 retold_from at to [] (t ∷ ts) text h f = absurd f
 retold_from at to (n ∷ ns) [] text h f = absurd f
 retold_from at to (n ∷ ns) (t ∷ ts) text h f =
@@ -126,6 +166,8 @@ retold_from at to (n ∷ ns) (t ∷ ts) text h f =
       spelled = (record { gap = first.gap; glyphs = glyphs; rest = later.other; whole = refl; space = space_before (glyphs ++ later.other) new.3 first.space; token = new.1; starts = refl; ends = refl }, later.spelled);
       retold = (new.2, omega (arith, first.starts), ap (λ (m : ℕ). start + m) (size_told n t first.glyphs first.ends), later.retold);
       allows = subst (λ (q : List ℕ). Allows q (first.gap ++ (glyphs ++ later.other))) (sym first.whole) (allows_behind first.gap (first.glyphs ++ first.rest) (glyphs ++ later.other) new.3);
+      back = subst (λ (q : List ℕ). GivesBack at to (n ∷ ns) (t ∷ ts) q (record { kind = new.0; start = start; end = end } ∷ later.tokens) (first.gap ++ (glyphs ++ later.other))) (sym first.whole)
+          (back_told n at to ns new.0 t ts later.tokens first.gap first.glyphs first.rest later.other first.starts first.ends later.spelled later.back);
       bytes = bytes_told n at ns t ts first.gap first.glyphs first.rest later.other first.starts first.ends (edits_later t.end ns ts first.rest h.1) later.bytes
           ∙ ap (λ (q : List ℕ). edited_from at (edits (n ∷ ns) (t ∷ ts)) (encode_utf8_all q)) (sym first.whole);
     }
@@ -138,6 +180,7 @@ pub record IsEdited (ns : List (Option New)) (ts : List Token) (text : List ℕ)
   pub tokens : List Token
   pub spelled : IsSpelled tokens other
   pub retold : AreRetold (mark_bytes text) (mark_bytes text) ns ts tokens
+  pub back : (ms : List (Option New)) → GoBack (encode_utf8_all text) ns ms ts → edited (edits ms tokens) (encode_utf8_all other) ≡ encode_utf8_all text
   pub bytes : encode_utf8_all other ≡ edited (edits ns ts) (encode_utf8_all text)
 
 unmarked : (text : List ℕ) → Ends is_order_mark text → (mark_bytes text ≡ 0) × (behind_mark text ≡ text)
@@ -154,6 +197,7 @@ without_mark ns ts text e h f =
       tokens = r.tokens;
       spelled = subst (λ (n : ℕ). IsSpelledFrom n r.tokens (behind_mark r.other)) (sym v.0) (subst (λ (q : List ℕ). IsSpelledFrom 0 r.tokens q) (sym v.1) r.spelled);
       retold = subst (λ (n : ℕ). AreRetold n n ns ts r.tokens) (sym u.0) r.retold;
+      back = λ ms g. r.back [] ms refl g;
       bytes = r.bytes;
     }
 
@@ -166,6 +210,9 @@ with_mark ns ts text h f =
       tokens = r.tokens;
       spelled = r.spelled;
       retold = r.retold;
+      back = λ ms g.
+          front_stays 0 3 (edits ms r.tokens) (encode_utf8 0xFEFF) (encode_utf8_all r.other) (omega (arith, three)) (edits_later 3 ms r.tokens r.other r.spelled)
+          ∙ ap (λ (q : List ℕ). encode_utf8 0xFEFF ++ q) (r.back (encode_utf8 0xFEFF) ms (sym three) g);
       bytes = ap (λ (q : List ℕ). encode_utf8 0xFEFF ++ q) r.bytes ∙ sym (front_stays 0 3 (edits ns ts) (encode_utf8 0xFEFF) (encode_utf8_all text) (omega (arith, three)) (edits_later 3 ns ts text h));
     }
 

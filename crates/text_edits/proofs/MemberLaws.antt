@@ -1,60 +1,20 @@
 -- The edits of a text are those of its tokens, and the edited text reads.
-use Rattle.std.proofs.Common.{◌≡◌, ℕ, suc, ◌+◌, arith, length, List, [], ◌∷◌, ◌++◌, map, drop, Bool, true, false, cond, refl, sym, ap, ◌∙◌, subst, append_assoc, Option, Some, None, IfSome, ◌==◌}
+use Rattle.std.proofs.Common.{◌≡◌, ℕ, suc, ◌+◌, arith, length, List, [], ◌∷◌, ◌++◌, map, drop, Bool, true, false, cond, refl, sym, ap, ◌∙◌, subst, Option, Some, None, IfSome, ◌==◌}
 use Rattle.std.specs.Str.{chars, encode_utf8_all}
 use Rattle.std.specs.Char.{encode_utf8}
-use Rattle.std.proofs.Math.Seq.{drop-append_seam}
-use Rattle.std.proofs.lemmas.Bool.{eqb-true, and_parts}
-use Rattle.std.proofs.lemmas.List.{length-append}
-use Rattle.std.proofs.lemmas.Str.{encodes-append, encode_ascii, encode_same, length-encode}
+use Rattle.std.proofs.lemmas.Bool.{eqb-true}
+use Rattle.std.proofs.lemmas.Str.{length-encode}
 use Rattle.scheme_model.specs.Data.{Datum}
-use Rattle.scheme_model.specs.Diagnostics.{Span}
-use Rattle.std.specs.List.{list_all}
-use Rattle.scheme_tokens.specs.Lexical.{byte_count, is_delimiter, is_inside, TokenKind, Atomic, Name, IsToken, Token, IsSpelledFrom, IsSpelled, mark_bytes, behind_mark}
+use Rattle.scheme_tokens.specs.Lexical.{byte_count, TokenKind, Atomic, Name, IsToken, Token, IsSpelledFrom, IsSpelled, mark_bytes, behind_mark}
 use Rattle.scheme_tokens.specs.Spelling.{IsSpelling}
 use Rattle.scheme_tokens.specs.Mirror.Spelled.{spelled}
-use Rattle.scheme_tokens.proofs.Fronts.{byte_count-encodes}
 use Rattle.scheme_tokens.proofs.Same.Spelling.{spelling}
 use Rattle.datum_reader.specs.Texts.{token_seen, IsReading}
 use Rattle.text_edits.specs.Edits.{Edit, edited}
 use Rattle.text_edits.specs.NewNames.{written, begins_with_bar, edit_if, edits_from, edits_of, span_of}
 use Rattle.text_edits.proofs.TokenEdits.{New, Fits, AllFit, edits, bars_in, new_if, news_from}
-use Rattle.text_edits.proofs.Fronts.{bare_some}
+use Rattle.text_edits.proofs.GlyphLaws.{all_before, bars_begin, behind_gap, length_before}
 use Rattle.text_edits.proofs.ReadLaws.{IsReadEdited, edited_data, tokens_of}
-
--- ---- bars
-
-not_both : (b : Bool) → b ≡ true → b ≡ false → ⊥
-not_both b h k = cc
-
-bar_bytes : encode_utf8 124 ≡ 124 ∷ []
-bar_bytes = encode_ascii 124 (omega arith)
-
-bar_first : (bytes : List ℕ) → begins_with_bar bytes ≡ true → (more : List ℕ) × (bytes ≡ 124 ∷ more)
-bar_first [] h = cc
-bar_first (b ∷ bs) h = (bs, ap (λ (q : ℕ). q ∷ bs) (eqb-true b 124 h))
-
-bar_ends : is_inside 124 ≡ false
-unfolding is_delimiter
-bar_ends = refl
-
-no_bar : (c : ℕ) (more : List ℕ) → is_inside c ≡ true → (b : Bool) → begins_with_bar (encode_utf8 c ++ more) ≡ b → b ≡ false
-no_bar c more h false e = refl
-no_bar c more h true e =
-    let f = bar_first (encode_utf8 c ++ more) e in
-    let same = encode_same c 124 more f.0 (f.1 ∙ ap (λ (q : List ℕ). q ++ f.0) (sym bar_bytes)) in
-    absurd (not_both (is_inside c) h (ap is_inside same.0 ∙ bar_ends))
-
-word_bar : (c : ℕ) (cs more : List ℕ) → is_inside c ≡ true → begins_with_bar (encode_utf8_all (c ∷ cs) ++ more) ≡ false
-word_bar c cs more h = ap begins_with_bar (append_assoc (encode_utf8 c) (encode_utf8_all cs) more) ∙ no_bar c (encode_utf8_all cs ++ more) h (begins_with_bar (encode_utf8 c ++ (encode_utf8_all cs ++ more))) refl
-
--- a name stands between bars exactly where its first byte is a bar
-pub bars_begin : (name glyphs rest more : List ℕ) (bars : Bool) → IsToken (Atomic (Name name bars)) glyphs rest → begins_with_bar (encode_utf8_all glyphs ++ more) ≡ bars
-bars_begin name glyphs rest more true h =
-    ap (λ (q : List ℕ). begins_with_bar (encode_utf8_all q ++ more)) h.1 ∙ ap begins_with_bar (append_assoc (encode_utf8 124) (encode_utf8_all h.0) more) ∙ ap (λ (q : List ℕ). begins_with_bar (q ++ (encode_utf8_all h.0 ++ more))) bar_bytes
-bars_begin name glyphs rest more false h =
-    let some = bare_some h.1 in
-    let inside = (and_parts (is_inside some.0) _ (ap (λ (q : List ℕ). list_all is_inside q) (sym some.2) ∙ h.3.0)).0 in
-    ap (λ (q : List ℕ). begins_with_bar (encode_utf8_all q ++ more)) (h.0 ∙ some.2) ∙ word_bar some.0 some.1 more inside
 
 -- ---- the new names of tokens
 
@@ -80,15 +40,7 @@ edit_told : (name : Option (List ℕ)) (t : Token) (text : List ℕ) (ns : List 
 edit_told None t text ns ts more h b e = e
 edit_told (Some name) t text ns ts more h b e = λ j. record { start = t.start; end = t.end; text = written name (b j) } ∷ e j
 
-pub behind_gap : (front gap glyphs rest : List ℕ) (n : ℕ) → n ≡ length front + byte_count gap → drop n (front ++ encode_utf8_all (gap ++ (glyphs ++ rest))) ≡ encode_utf8_all glyphs ++ encode_utf8_all rest
-behind_gap front gap glyphs rest n e =
-    let g = encode_utf8_all gap in
-    let place : n ≡ length (front ++ g) = omega (arith, e, length-append front g, byte_count-encodes gap) in
-    (λ j. drop (place j) (front ++ encodes-append gap (glyphs ++ rest) j))
-    ∙ ap (drop (length (front ++ g))) (sym (append_assoc front g (encode_utf8_all (glyphs ++ rest))))
-    ∙ drop-append_seam (front ++ g) (encode_utf8_all (glyphs ++ rest)) ∙ encodes-append glyphs rest
-
-bars_told : (name : Option (List ℕ)) (front : List ℕ) (t : Token) (gap glyphs rest : List ℕ) → IfSome name (λ name. (old : List ℕ) × (bars : Bool) × (t.kind ≡ Atomic (Name old bars))) →
+pub bars_told : (name : Option (List ℕ)) (front : List ℕ) (t : Token) (gap glyphs rest : List ℕ) → IfSome name (λ name. (old : List ℕ) × (bars : Bool) × (t.kind ≡ Atomic (Name old bars))) →
     IsToken t.kind glyphs rest → t.start ≡ length front + byte_count gap → IfSome name (λ name. begins_with_bar (drop t.start (front ++ encode_utf8_all (gap ++ (glyphs ++ rest)))) ≡ bars_in t.kind)
 bars_told None front t gap glyphs rest h k e = tt
 bars_told (Some name) front t gap glyphs rest h k e =
@@ -104,11 +56,8 @@ edits_told new number at front (t ∷ ts) text e h a =
     let whole : front ++ encode_utf8_all (first.gap ++ (first.glyphs ++ first.rest)) ≡ bytes = ap (λ (q : List ℕ). front ++ encode_utf8_all q) (sym first.whole) in
     let bars = subst (λ (q : List ℕ). IfSome name (λ name. begins_with_bar (drop t.start q) ≡ bars_in t.kind)) whole (bars_told name front t first.gap first.glyphs first.rest a.0 first.token (omega (arith, first.starts, e))) in
     let before = front ++ encode_utf8_all (first.gap ++ first.glyphs) in
-    let same : before ++ encode_utf8_all first.rest ≡ bytes =
-    append_assoc front (encode_utf8_all (first.gap ++ first.glyphs)) (encode_utf8_all first.rest)
-    ∙ ap (λ (q : List ℕ). front ++ q) (sym (encodes-append (first.gap ++ first.glyphs) first.rest) ∙ ap encode_utf8_all (append_assoc first.gap first.glyphs first.rest ∙ sym first.whole)) in
-    let place : t.end ≡ length before =
-    omega (arith, e, first.starts, first.ends, length-append front (encode_utf8_all (first.gap ++ first.glyphs)), ap length (encodes-append first.gap first.glyphs), length-append (encode_utf8_all first.gap) (encode_utf8_all first.glyphs), byte_count-encodes first.gap, byte_count-encodes first.glyphs) in
+    let same : before ++ encode_utf8_all first.rest ≡ bytes = all_before front first.gap first.glyphs first.rest ∙ whole in
+    let place : t.end ≡ length before = length_before front first.gap first.glyphs at t.start t.end e first.starts first.ends in
     let more = subst (λ (q : List ℕ). edits_from new q (suc number) (map span_of (map token_seen ts)) ≡ edits (news_from new (suc number) ts) ts) same
     (edits_told new (suc number) t.end before ts first.rest place h.1 a.1) in
     edit_told name t bytes (news_from new (suc number) ts) ts (edits_from new bytes (suc number) (map span_of (map token_seen ts))) a.0 bars more
@@ -128,6 +77,7 @@ mark_front (c ∷ cs) = go (c == 0xFEFF) refl
 pub record IsTextEdited (new : ℕ → Option (List ℕ)) (text : List ℕ) (ds : List Datum) : Type 0 where
   pub tokens : List Token
   pub spelled : IsSpelled tokens text
+  pub names : AreNames new 0 tokens
   pub read : IsReadEdited new tokens text ds
   pub bytes : encode_utf8_all read.other ≡ edited (edits_of new (encode_utf8_all text) (map span_of (map token_seen tokens))) (encode_utf8_all text)
 
@@ -144,4 +94,4 @@ text_edited new text ds r a =
     let ts = told.0 in
     let read = edited_data new ts text ds r told.1 told.2 (all_fit new 0 ts a) in
     let same = edits_are new text ts told.1 a in
-    record { tokens = ts; spelled = told.1; read = read; bytes = read.bytes ∙ ap (λ (es : List Edit). edited es (encode_utf8_all text)) (sym same) }
+    record { tokens = ts; spelled = told.1; names = a; read = read; bytes = read.bytes ∙ ap (λ (es : List Edit). edited es (encode_utf8_all text)) (sym same) }

@@ -1,21 +1,19 @@
 -- The identifiers of what was read are name tokens, so an edited document reads.
-use Rattle.std.proofs.Common.{◌≡◌, ℕ, suc, ◌+◌, arith, List, [], ◌∷◌, ◌++◌, map, slice_get, Bool, true, false, cond, refl, sym, ap, ◌∙◌, subst, inl, inr, ◌⊎◌, Option, Some, None, IfSome, ◌==◌}
+use Rattle.std.proofs.Common.{◌≡◌, ℕ, suc, ◌+◌, arith, List, [], ◌∷◌, ◌++◌, map, slice_get, Bool, true, false, refl, sym, ap, ◌∙◌, subst, inl, inr, ◌⊎◌, Option, Some, None, IfSome, ◌==◌}
 use Rattle.std.specs.List.{flat_map}
 use Rattle.std.specs.Str.{chars, encode_utf8_all, IsUtf8}
 use Rattle.std.proofs.lemmas.Str.{encodes-chars, chars_from_encodes}
 use Rattle.std.proofs.lemmas.Bool.{or_cases, or_left, or_right, eqb-true}
 use Rattle.scheme_model.specs.Kinds as kinds
 use Rattle.scheme_model.specs.Data.{Datum, atom, list, vector, bytes, spelled, implied, Data, none, part, tail, row}
-use Rattle.scheme_model.specs.Program.{UnitResult, is_in}
+use Rattle.scheme_model.specs.Program.{is_in}
 use Rattle.scheme_model.specs.Sites.{name_tokens, name_tokens_all}
-use Rattle.scheme_model.specs.Written.{parts_meant}
-use Rattle.scheme_tokens.specs.Lexical.{TokenKind, Paren, VectorParen, BytesParen, Close, Dot, Skip, Marked, Mark, Quote, Quasi, Unquote, Splice, Atomic, Leaf, Name, Numeral, Quoted, Character, Truth, Token}
+use Rattle.scheme_tokens.specs.Lexical.{TokenKind, Paren, VectorParen, BytesParen, Close, Dot, Skip, Marked, Atomic, Name, Numeral, Quoted, Character, Truth, Token}
 use Rattle.scheme_tokens.specs.Lexical.{IsSpelled}
 use Rattle.scheme_tokens.specs.Faults.{FaultAt}
 use Rattle.scheme_tokens.specs.Stopping.{IsRead}
 use Rattle.scheme_tokens.proofs.Readings.{one_reading}
 use Rattle.datum_reader.specs.Texts.{kind_seen, token_seen, TextReads, IsReading}
-use Rattle.datum_reader.specs.NameTokens.{IsNameToken}
 use Rattle.datum_reader.proofs.NamePlaces.{From, Placed, AllPlaced, parts_placed}
 use Rattle.text_edits.specs.Edits.{edited}
 use Rattle.text_edits.specs.NewNames.{edits_of, span_of, NamesIdentifiers}
@@ -126,7 +124,7 @@ pub edited_text : (new : ℕ → Option (List ℕ)) (text : List ℕ) (ds : List
 edited_text new text ds r named = text_edited new text ds r (tokens_named new text ds r named)
 
 -- a text has these tokens alone
-same_tokens : (text : List ℕ) (ts : List kinds.Token) (us : List Token) → IsSpelled us text → TextReads text ts None → ts ≡ map token_seen us
+pub same_tokens : (text : List ℕ) (ts : List kinds.Token) (us : List Token) → IsSpelled us text → TextReads text ts None → ts ≡ map token_seen us
 same_tokens text ts us h read =
     let spelled = subst (λ (fin : Option FaultAt). IsRead read.0 fin text) (none_seen read.1 read.4) read.2 in
     read.3 ∙ ap (map token_seen) (one_reading read.0 us None None text spelled h).0

@@ -1,10 +1,9 @@
 -- A token that is written anew as it stands keeps its name (R7RS 7.1.1).
-use Rattle.std.proofs.Common.{◌≡◌, ℕ, zero, suc, ◌+◌, ◌-◌, arith, length, List, [], ◌∷◌, ◌++◌, map, take, drop, slice_get, Bool, true, false, refl, sym, ap, ◌∙◌, subst, append_assoc, inl, inr, Option, Some, None}
+use Rattle.std.proofs.Common.{◌≡◌, ℕ, zero, suc, ◌+◌, ◌-◌, arith, length, List, [], ◌∷◌, ◌++◌, map, take, drop, slice_get, Bool, true, false, refl, sym, ap, ◌∙◌, subst, inl, inr, Option, Some, None}
 use Rattle.std.specs.List.{slice_range}
 use Rattle.std.specs.Str.{chars, encode_utf8_all, IsUtf8}
 use Rattle.std.proofs.Math.Seq.{take-append_seam}
-use Rattle.std.proofs.lemmas.List.{length-append}
-use Rattle.std.proofs.lemmas.Str.{encode_same, encodes-append, encodes-chars, length-le-encodes}
+use Rattle.std.proofs.lemmas.Str.{encodes-chars}
 use Rattle.scheme_model.specs.Kinds as kinds
 use Rattle.scheme_tokens.specs.Lexical.{byte_count, TokenKind, Atomic, Name, IsToken, Token, IsSpelledFrom, mark_bytes, behind_mark}
 use Rattle.scheme_tokens.specs.Faults.{FaultAt}
@@ -16,16 +15,10 @@ use Rattle.scheme_tokens.proofs.Fronts.{byte_count-encodes}
 use Rattle.scheme_tokens.proofs.Same.Spelling.{spelling}
 use Rattle.datum_reader.specs.Texts.{token_seen, TextReads}
 use Rattle.text_edits.specs.NewNames.{begins_with_bar, written}
-use Rattle.text_edits.proofs.MemberLaws.{bars_begin, behind_gap, mark_front}
+use Rattle.text_edits.proofs.GlyphLaws.{all_before, bars_begin, behind_gap, encodes_same, length_before}
+use Rattle.text_edits.proofs.MemberLaws.{mark_front}
 use Rattle.text_edits.proofs.NameLaws.{kind_told, some_same}
 use Rattle.text_edits.proofs.ReadLaws.{none_seen}
-
--- other bytes spell other characters
-encodes_same : (xs ys : List ℕ) → encode_utf8_all xs ≡ encode_utf8_all ys → xs ≡ ys
-encodes_same [] [] h = refl
-encodes_same [] (y ∷ ys) h = let size : 0 ≡ length (encode_utf8_all (y ∷ ys)) = ap length h in absurd (omega (arith, length-le-encodes (y ∷ ys), size))
-encodes_same (x ∷ xs) [] h = let size : length (encode_utf8_all (x ∷ xs)) ≡ 0 = ap length h in absurd (omega (arith, length-le-encodes (x ∷ xs), size))
-encodes_same (x ∷ xs) (y ∷ ys) h = let s = encode_same x y (encode_utf8_all xs) (encode_utf8_all ys) h in (λ j. s.0 j ∷ encodes_same xs ys s.1 j)
 
 -- ---- the characters of a name token
 
@@ -56,11 +49,8 @@ find bytes old bars t zero at front rest (u ∷ ts) size whole spells there kind
 find bytes old bars t (suc n) at front rest (u ∷ ts) size whole spells there kind =
     let f = spells.0 in
     let before = front ++ encode_utf8_all (f.gap ++ f.glyphs) in
-    let same : before ++ encode_utf8_all f.rest ≡ bytes =
-    append_assoc front (encode_utf8_all (f.gap ++ f.glyphs)) (encode_utf8_all f.rest)
-    ∙ ap (λ (q : List ℕ). front ++ q) (sym (encodes-append (f.gap ++ f.glyphs) f.rest) ∙ ap encode_utf8_all (append_assoc f.gap f.glyphs f.rest ∙ sym f.whole)) ∙ whole in
-    let place : u.end ≡ length before =
-    omega (arith, size, f.starts, f.ends, length-append front (encode_utf8_all (f.gap ++ f.glyphs)), ap length (encodes-append f.gap f.glyphs), length-append (encode_utf8_all f.gap) (encode_utf8_all f.glyphs), byte_count-encodes f.gap, byte_count-encodes f.glyphs) in
+    let same : before ++ encode_utf8_all f.rest ≡ bytes = all_before front f.gap f.glyphs f.rest ∙ ap (λ (q : List ℕ). front ++ encode_utf8_all q) (sym f.whole) ∙ whole in
+    let place : u.end ≡ length before = length_before front f.gap f.glyphs at u.start u.end size f.starts f.ends in
     find bytes old bars t n u.end before f.rest ts place same spells.1 there kind
 
 -- ---- its name

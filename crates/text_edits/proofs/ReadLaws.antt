@@ -1,20 +1,18 @@
 -- An edited text reads, and its data are the old ones with the new names.
-use Rattle.std.proofs.Common.{◌≡◌, ℕ, zero, suc, ◌+◌, arith, List, [], ◌∷◌, map, Bool, true, false, refl, sym, ap, ◌∙◌, subst, Option, Some, None}
+use Rattle.std.proofs.Common.{◌≡◌, ℕ, zero, suc, ◌+◌, arith, List, [], ◌∷◌, map, Bool, false, refl, sym, ap, ◌∙◌, subst, Option, Some, None}
 use Rattle.std.specs.Option.{option_map}
 use Rattle.std.specs.Str.{chars, encode_utf8_all}
 use Rattle.scheme_tokens.specs.Lexical as told
 use Rattle.scheme_tokens.specs.Lexical.{IsSpelled, mark_bytes}
 use Rattle.scheme_tokens.specs.Faults as faulty
 use Rattle.scheme_tokens.specs.Stopping as stopping
-use Rattle.scheme_model.specs.Kinds.{Leaf, Name, Numeral, Quoted, Character, Truth, TokenKind, Paren, VectorParen, BytesParen, Close, Dot, Skip, Marked, Atomic, Token}
+use Rattle.scheme_model.specs.Kinds.{Name, Numeral, Quoted, Character, Truth, TokenKind, Paren, VectorParen, BytesParen, Close, Dot, Skip, Marked, Atomic, Token}
 use Rattle.scheme_model.specs.Data.{Datum}
-use Rattle.scheme_model.specs.Faults.{Stop}
-use Rattle.scheme_model.specs.Stopping as model
 use Rattle.datum_reader.specs.Texts.{kind_seen, token_seen, stop_seen, TextReads, IsReading}
 use Rattle.text_edits.specs.Edits.{edited}
 use Rattle.text_edits.specs.Renamed.{datum_now}
-use Rattle.text_edits.proofs.TokenEdits.{New, Fits, AllFit, edits, KindAs, AreRetold, bars_in, new_if, news_from}
-use Rattle.text_edits.proofs.EditLaws.{IsEdited, edited_reads}
+use Rattle.text_edits.proofs.TokenEdits.{New, Fits, AllFit, edits, KindAs, AreRetold, GoBack, bars_in, new_if, news_from}
+use Rattle.text_edits.proofs.EditLaws.{edited_reads}
 use Rattle.text_edits.proofs.DataLaws.{kind_with, AreAlike, now_of, reading_now, told_now}
 
 -- a kind without a new name
@@ -80,6 +78,7 @@ pub record IsReadEdited (new : ℕ → Option (List ℕ)) (ts : List told.Token)
   pub bytes : encode_utf8_all other ≡ edited (edits (news_from new 0 ts) ts) (encode_utf8_all text)
   pub retold : AreRetold (mark_bytes text) (mark_bytes text) (news_from new 0 ts) ts tokens
   pub spelled : IsSpelled tokens other
+  pub back : (ms : List (Option New)) → GoBack (encode_utf8_all text) (news_from new 0 ts) ms ts → edited (edits ms tokens) (encode_utf8_all other) ≡ encode_utf8_all text
   pub reading : IsReading other (map (datum_now (now_of new (bars_at tokens) (map token_seen tokens))) ds)
 
 pub edited_data : (new : ℕ → Option (List ℕ)) (ts : List told.Token) (text : List ℕ) (ds : List Datum) → (r : IsReading text ds) → IsSpelled ts text → r.tokens ≡ map token_seen ts → AllFit (news_from new 0 ts) ts →
@@ -94,6 +93,7 @@ edited_data new ts text ds r h e f =
       bytes = w.bytes;
       retold = w.retold;
       spelled = w.spelled;
+      back = w.back;
       reading = reading_now (now_of new bars us) (TextReads text) (TextReads w.other) ds us r (w.tokens, None, w.spelled, refl, refl)
           (told_now new bars r.tokens us (subst (λ (ts : List Token). AreAlike new bars 0 ts us) (sym e) (alike new bars 0 (mark_bytes text) (mark_bytes text) ts w.tokens f w.retold (tells_bars w.tokens))));
     }

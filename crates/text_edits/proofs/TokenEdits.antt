@@ -1,10 +1,12 @@
 -- The edits of tokens, by how each is written: for each token a new name and how it is written, or nothing (R7RS 7.1.1).
 use Rattle.std.specs.Prelude.{◌≡◌, ℕ, suc, ◌+◌, ◌-◌, Bool, false, List, [], ◌∷◌, Option, Some, None}
+use Rattle.std.specs.List.{slice_range}
 use Rattle.std.specs.Str.{chars, encode_utf8_all}
 use Rattle.scheme_tokens.specs.Lexical.{byte_count, TokenKind, Paren, VectorParen, BytesParen, Close, Dot, Skip, Marked, Atomic, Leaf, Name, Numeral, Quoted, Character, Truth, Token}
 use Rattle.scheme_tokens.specs.Mirror.Spelled.{spelled}
 use Rattle.scheme_tokens.specs.Spelling.{IsSpelling}
 use Rattle.text_edits.specs.Edits.{Edit}
+use Rattle.text_edits.specs.NewNames.{begins_with_bar}
 
 -- a name, and how it is written
 pub record New : Type 0 where
@@ -34,7 +36,7 @@ edits (Some n ∷ ns) (t ∷ ts) = record { start = t.start; end = t.end; text =
 
 abbrev pub KindAs : Option New → TokenKind → TokenKind → Type 0
 KindAs None k j = j ≡ k
-KindAs (Some n) k j = (bars : Bool) × (j ≡ Atomic (Name n.name bars))
+KindAs (Some n) k j = (bars : Bool) × (j ≡ Atomic (Name n.name bars)) × (begins_with_bar (encode_utf8_all n.text) ≡ bars)
 
 abbrev pub size_as : Option New → Token → ℕ
 size_as None t = t.end - t.start
@@ -49,6 +51,22 @@ AreRetold at to (n ∷ ns) [] us = ⊥
 AreRetold at to (n ∷ ns) (t ∷ ts) [] = ⊥
 AreRetold at to (n ∷ ns) (t ∷ ts) (u ∷ us) =
     KindAs n t.kind u.kind × (u.start ≡ to + (t.start - at)) × (u.end ≡ u.start + size_as n t) × AreRetold t.end u.end ns ts us
+
+-- ---- back again
+
+-- a token with a new name is spelled as it was
+abbrev pub BackAs : (bytes : List ℕ) → Option New → Option New → Token → Type 0
+BackAs bytes None None t = Unit {0}
+BackAs bytes None (Some m) t = ⊥
+BackAs bytes (Some n) None t = ⊥
+BackAs bytes (Some n) (Some m) t = encode_utf8_all m.text ≡ slice_range bytes t.start t.end
+
+abbrev pub GoBack : (bytes : List ℕ) → (ns ms : List (Option New)) → List Token → Type 0
+GoBack bytes [] [] ts = Unit {0}
+GoBack bytes [] (m ∷ ms) ts = ⊥
+GoBack bytes (n ∷ ns) [] ts = ⊥
+GoBack bytes (n ∷ ns) (m ∷ ms) [] = ⊥
+GoBack bytes (n ∷ ns) (m ∷ ms) (t ∷ ts) = BackAs bytes n m t × GoBack bytes ns ms ts
 
 -- ---- the new names of tokens by their numbers
 

@@ -3,3 +3,4 @@ pub mod NewNames  -- The edits of a document by which some of its identifiers ge
 pub mod Members  -- The new names of the members of a class
 pub mod Renamed  -- Data whose identifiers have new names
 pub mod Views  -- What the edits and identifiers of the code stand for
+pub mod GivenBack  -- Identifiers that get their old names back (R7RS 7.1.1)

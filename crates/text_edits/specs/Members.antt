@@ -1,5 +1,5 @@
 -- The new names of the members of a class: each keeps its prefix, and what stands behind it is new.
-use Rattle.std.specs.Prelude.{ℕ, ◌+◌, ◌==◌, nat_lt, List, [], ◌∷◌, ◌++◌, map, length, Bool, ◌&&◌, ◌||◌, Option, Some, None, if◌then◌else◌}
+use Rattle.std.specs.Prelude.{ℕ, ◌+◌, ◌==◌, nat_lt, List, [], ◌∷◌, ◌++◌, filter, map, length, Bool, ◌&&◌, ◌||◌, Option, Some, None, if◌then◌else◌}
 use Rattle.scheme_model.specs.declared.Occ.{Occ}
 use Rattle.scheme_model.specs.Declarations.{UnitForm}
 use Rattle.scheme_model.specs.Diagnostics.{Span, first_token}
@@ -59,9 +59,13 @@ first_prefix (p ∷ ps) = p
 abbrev pub member_of : List Link → (stem : List ℕ) → Occ → Member
 member_of ls stem o = record { occ = o; name = first_prefix (prefixes_of ls o []) ++ stem }
 
--- the class of an occurrence, with the new names of its members
+-- whether a link leads to it, by which it has a prefix
+abbrev pub is_part : List Link → Occ → Bool
+is_part ls o = nat_lt 0 (length (prefixes_of ls o []))
+
+-- the class of an occurrence with the new names of its members, each of which has a prefix
 abbrev pub members_of : List Link → (stem : List ℕ) → Occ → List Member
-members_of ls stem o = map (member_of ls stem) (class_of ls o)
+members_of ls stem o = map (member_of ls stem) (filter (is_part ls) (class_of ls o))
 
 -- ---- the identifiers of a document
 

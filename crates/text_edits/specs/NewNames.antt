@@ -1,7 +1,7 @@
 -- The edits of a document by which some of its identifiers get new names (R7RS 7.1.1).
-use Rattle.std.specs.Prelude.{◌≡◌, ℕ, suc, ◌==◌, List, [], ◌∷◌, ◌++◌, drop, Bool, true, false, Option, Some, None}
+use Rattle.std.specs.Prelude.{◌≡◌, ℕ, suc, ◌==◌, List, [], ◌∷◌, ◌++◌, drop, Bool, ◌||◌, true, false, codes, Option, Some, None}
 use Rattle.std.specs.List.{flat_map}
-use Rattle.std.specs.Str.{chars, encode_utf8_all}
+use Rattle.std.specs.Str.{bytes_eq, chars, encode_utf8_all}
 use Rattle.scheme_model.specs.Data.{Datum}
 use Rattle.scheme_model.specs.Diagnostics.{Span}
 use Rattle.scheme_model.specs.Kinds.{Token}
@@ -38,3 +38,9 @@ span_of t = record { start = t.start; end = t.end }
 -- only identifiers of the data get new names
 abbrev pub NamesIdentifiers : (ℕ → Option (List ℕ)) → List Datum → Type 0
 NamesIdentifiers new ds = (number : ℕ) (name : List ℕ) → new number ≡ Some name → is_in number (flat_map name_tokens ds) ≡ true
+
+-- ---- new names
+
+-- symbols that no identifier gets: the empty one, an ellipsis and an underscore
+abbrev pub is_reserved : List ℕ → Bool
+is_reserved s = bytes_eq s [] || (bytes_eq s (codes "...") || bytes_eq s (codes "_"))

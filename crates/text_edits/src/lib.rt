@@ -7,5 +7,5 @@ pub mod names;
 pub mod ranges;
 
 pub use edits::{Edit, edited_text, edits_of, is_too_long};
-pub use names::{Members, TokenNames, add_member, note_names, stem_of};
+pub use names::{Members, TokenNames, add_member, new_symbol, note_names, stem_of};
 pub use ranges::placed;

@@ -1,16 +1,20 @@
 //! The new names of the members of a class, and of the tokens of a document that are members.
-ghost use Rattle.std.specs.Prelude.{◌≡◌, ◌==◌, ℕ, ◌++◌, map, None, Some, OnOk, if◌then◌else◌};
+ghost use Rattle.std.specs.Prelude.{◌≡◌, ◌==◌, ℕ, List, ◌++◌, map, None, Some, false, true, IfNone, IfOk, IfSome, OnOk, if◌then◌else◌};
 ghost use Rattle.std.specs.BTreeMap.{get};
 ghost use Rattle.std.specs.Option.{option_map};
 ghost use Rattle.std.specs.Ordering.{nat_cmp};
+ghost use Rattle.std.specs.Str.{chars, IsUtf8};
 ghost use Rattle.scheme_model.specs.declared.Occ.{Occ as AnyOcc};
 ghost use Rattle.scheme_model.specs.Entries.{same_occ};
 ghost use Rattle.scheme_model.specs.Sites.{or_else};
+ghost use Rattle.scheme_tokens.specs.Lexical.{IsIdentifier};
 ghost use Rattle.text_edits.specs.Members.{name_at, stem_of};
+ghost use Rattle.text_edits.specs.NewNames.{is_reserved};
 ghost use Rattle.text_edits.specs.Views.{first_at, identifier_by, occ_cmp};
 
 use ls_base::{Mem, Text};
 use scheme_model::Occ;
+use scheme_tokens::ident_of;
 use std::alloc::Global;
 use std::collections::BTreeMap;
 
@@ -19,6 +23,28 @@ pub type Members = BTreeMap<Occ, Text>;
 
 /// New names of the tokens of a document, by the numbers of the tokens.
 pub type TokenNames = BTreeMap<usize, Text>;
+
+/// Whether a symbol is empty, an ellipsis or an underscore.
+fn is_reserved(name: &str) -> bool
+    ensures { result ≡ is_reserved name.now }
+{
+    name.is_empty() || name == "..." || name == "_"
+}
+
+/// The symbol of a new name. `None` where the text isn't one identifier and nothing else, or where its symbol is empty, `...` or `_`.
+pub fn new_symbol(alloc: Global, text: &str) -> Mem<Option<Text>>
+    ensures some { IfOk result (λ symbol. IfSome symbol (λ name. IsUtf8 name × IsIdentifier (chars name) (chars text.now) × (is_reserved name ≡ false))) }
+    ensures none { IfOk result (λ symbol. IfNone symbol ((name : List ℕ) → IsUtf8 name → IsIdentifier (chars name) (chars text.now) → is_reserved name ≡ true)) }
+{
+    let Some(symbol) = ident_of(alloc, text)? else {
+        return Ok(None);
+    };
+    if is_reserved(symbol.as_str()) {
+        Ok(None)
+    } else {
+        Ok(Some(symbol))
+    }
+}
 
 /// The new stem: a new name without the prefix of the identifier that is renamed. `None` where it doesn't begin with the prefix, or
 /// nothing is left.

@@ -25,19 +25,18 @@ pub fn placed(
     alloc: Global,
     lines: &Lines,
     text: &str,
-    edits: Items<Edit>,
+    edits: &[Edit],
     encoding: Encoding,
 ) -> Mem<Items<TextEdit>>
     requires { AreLinesOf lines.now text.now }
-    ensures { IfOk result (λ placed. placed ≡ map (edit_told encoding text.now) (map edit_of edits)) }
+    ensures { IfOk result (λ placed. placed ≡ map (edit_told encoding text.now) (map edit_of edits.now)) }
 {
     let mut placed = Items::new(alloc);
-    for Edit {
-        span,
-        text: new_text,
-    } in edits.into_vec() {
-        let range = range(lines, text, span, encoding);
-        placed.push(TextEdit { range, new_text })?;
+    for edit in edits {
+        placed.push(TextEdit {
+            range: range(lines, text, edit.span, encoding),
+            new_text: edit.text.clone()?,
+        })?;
     }
     Ok(placed)
 }

@@ -1,5 +1,5 @@
 -- The unit's head and source are there, and so is its document.
-use Rattle.std.proofs.Common.{◌≡◌, List, ◌∷◌, length, slice_set, true, false, refl, sym, ap, ◌∙◌, subst, arith, Bool, Option}
+use Rattle.std.proofs.Common.{◌≡◌, ℕ, ◌+◌, List, ◌∷◌, length, slice_set, true, false, refl, sym, ap, ◌∙◌, subst, arith, Bool, Option}
 use Rattle.std.specs.Prelude.{not}
 use Rattle.std.specs.Option.{is_some as is_there}
 use Rattle.std.proofs.lemmas.Option.{slice_get_read, same_Some}

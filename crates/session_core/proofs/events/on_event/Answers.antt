@@ -2,6 +2,8 @@
 use Rattle.std.proofs.Common.{◌≡◌, ◌≢◌, ◌∙◌, ap, rules, Some}
 use Rattle.document_store.specs.declared.faults.StoreFault.{StoreFault}
 use Rattle.document_store.specs.declared.faults.StoreFault.TheVariants as faults
+use Rattle.workspace_state.specs.Events.{event_of}
+use Rattle.session_core.proofs.CountedLaws.{event_counted}
 use Rattle.session_core.proofs.Evented.{Updates, accepts, refuses, refuses_alone}
 use Rattle.session_core.proofs.events.on_event.Goals as goal
 
@@ -35,4 +37,13 @@ returns-in_ok-said-in-Some g c =
           c.in_ok-said-in-Some.field-0 w c.in-Some.is other c.uri-in-Some.ensures c.in_ok-refusal-in-Some.ensures c.in_ok-said-in-Some.ensures;
       encoding = c.update.ensures.encoding;
       kept = tt;
+      counted = λ mode. event_counted mode c.args.workspace.now.encoding c.args.workspace.now.texts c.update.new.self.texts (event_of c.args.event.now) _ _ c.in_ok-updated.ensures.texts c.in_ok-updated.ensures.quiet c.in_ok-updated.ensures.steps;
     }
+
+pub returns-in-None-clause-counted : goal.returns-in-None-clause-counted
+returns-in-None-clause-counted g c =
+    λ mode. event_counted mode c.args.workspace.now.encoding c.args.workspace.now.texts c.update.new.self.texts (event_of c.args.event.now) _ _ c.in_ok-updated.ensures.texts c.in_ok-updated.ensures.quiet c.in_ok-updated.ensures.steps
+
+pub returns-in-Some-TooLong-clause-counted : goal.returns-in-Some-TooLong-clause-counted
+returns-in-Some-TooLong-clause-counted g c =
+    λ mode. event_counted mode c.args.workspace.now.encoding c.args.workspace.now.texts c.update.new.self.texts (event_of c.args.event.now) _ _ c.in_ok-updated.ensures.texts c.in_ok-updated.ensures.quiet c.in_ok-updated.ensures.steps

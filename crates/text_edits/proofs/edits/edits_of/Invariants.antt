@@ -1,4 +1,4 @@
-use Rattle.std.proofs.Common.{◌≡◌, ℕ, map, take}
+use Rattle.std.proofs.Common.{◌≡◌, map, take}
 use Rattle.std.specs.BTreeMap.{get}
 use Rattle.std.specs.Ordering.{nat_cmp}
 use Rattle.text_edits.specs.NewNames.{edits_from}
