@@ -1,5 +1,5 @@
 -- A text alone, opened where no document was open.
-use Rattle.std.proofs.Common.{◌≡◌, ◌≢◌, ◌≤◌, inl, inr, ℕ, pos, List, [], ◌∷◌, length, map, append-nil, Bool, true, false, cond, ◌||◌, nat_lt, Option, Some, None, is_some, is_eq, true≢false, Less, refl, sym, ap, ◌∙◌, subst, arith, nat_cmp}
+use Rattle.std.proofs.Common.{◌≡◌, ◌≢◌, ◌≤◌, ◌+◌, inl, inr, ℕ, pos, List, [], ◌∷◌, length, map, append-nil, Bool, true, false, cond, ◌||◌, nat_lt, Option, Some, None, is_some, is_eq, true≢false, Less, refl, sym, ap, ◌∙◌, subst, arith, nat_cmp}
 use Rattle.std.specs.Cmp.Lexicographic.{slice_cmp, nat_list_cmp_total}
 use Rattle.std.specs.FinMap.{empty, entries, find, insert, len, put, entries-insert, get-entries, len-empty, len-entries}
 use Rattle.std.specs.List.{slice_get}
@@ -28,6 +28,7 @@ use Rattle.program_answers.specs.Updates.{AreListsOfTexts, ArePublished, IsNewsO
 use Rattle.program_answers.specs.declared.publications.Published.{Published}
 use Rattle.program_answers.proofs.PublishedMaps.{is_tied, ties_are}
 use Rattle.program_answers.proofs.TextLists.{one_row, some_row}
+use Rattle.program_expansion.specs.UsesInTurn.{uses_in}
 use Rattle.scheme_ls.specs.Alone.{ArePublishedAlone, HoldsAlone, IsDrawn}
 use Rattle.scheme_ls.specs.Printed.{AreLines, IsStopLine, alone, arrows_alone, error_line, error_lines, input_name, lines_of, published_lines}
 
@@ -146,6 +147,16 @@ holds_alone w old uri text copy lists utf8 none utf16 short at same encoding tex
     let with_text = subst (λ (t : List ℕ). Opens w old lists input_name t old.encoding) same named in
     let opens = subst (λ (e : Encoding). Opens w old lists input_name text e) utf16 with_text in
     holds w old text lists utf8 none short (encoding ∙ utf16) opens.0 opens.1
+
+-- the macro uses that are counted once the text is opened
+pub counted_alone : (w old : workspace.State) (uri text copy : List ℕ) (before now : ℕ) → old.texts ≡ empty → old.encoding ≡ Utf16 → length text ≤ max_text → uri ≡ input_name → copy ≡ text → entries w.texts ≡ alone text →
+    (leaves (Added uri (pos 0) copy) (after old.encoding old.texts (Added uri (pos 0) copy)).1 ≡ false → (rs : List Read) → AreReadAs (entries w.texts) rs → now ≡ before + uses_in rs) →
+    (r : Read) → IsReadAs text r → now ≡ before + uses_in (r ∷ [])
+counted_alone w old uri text copy before now none utf16 short at same documents counts r read =
+    let stays : leaves (Added uri (pos 0) copy) (after old.encoding old.texts (Added uri (pos 0) copy)).1 ≡ false =
+    (λ j. leaves (Added (at j) (pos 0) (same j)) (after (utf16 j) old.texts (Added (at j) (pos 0) (same j))).1)
+    ∙ ap (λ (a : Texts × Option Refusal). leaves (Added input_name (pos 0) text) a.1) (added_alone Utf16 old.texts text none short) in
+    counts stays (r ∷ []) (subst (λ (ds : List (List ℕ × Document)). AreReadAs ds (r ∷ [])) (sym documents) (read, tt))
 
 -- ---- what is told
 

@@ -1,6 +1,7 @@
 -- How the command `arrows` ends, and why.
 use Rattle.std.specs.Prelude.{◌≡◌, ℕ, List}
 use Rattle.scheme_ls.specs.Reading.{FailsInText, PassesLimit, ReadsFront, ReadsText}
+use Rattle.scheme_ls.specs.CountedBytes.{CountsAlone}
 use Rattle.scheme_ls.specs.Prints.{Prints, PrintsFront, SinkSeen}
 use Rattle.scheme_ls.specs.Printed.{AreLines, IsAnswer, IsRefusal}
 use Rattle.scheme_ls.specs.Streams.{Streams}
@@ -28,11 +29,19 @@ TextEndsAs Refused text old new = PrintsSuch (IsRefusal text) old new
 TextEndsAs WriteFailed text old new = PrintsFrontOfSuch (IsAnswer text) old new
 TextEndsAs NoMemory text old new = new ≡ old
 
+-- what an answer to a text counts that ends so. Where memory runs out nothing is told
+abbrev pub CountsText : TextEnd → (text : List ℕ) → (before now : ℕ) → Type 0
+CountsText Printed text before now = CountsAlone text before now
+CountsText Refused text before now = CountsAlone text before now
+CountsText WriteFailed text before now = CountsAlone text before now
+CountsText NoMemory text before now = Unit {0}
+
 -- the whole text was read, and the answer to it ended so
-pub record AnswersText (end : TextEnd) (old new : Streams) : Type 0 where
+pub record AnswersText (end : TextEnd) (old new : Streams) (before now : ℕ) : Type 0 where
   pub text : List ℕ
   pub reads : ReadsText old.source new.source text
   pub ends : TextEndsAs end text old.sink new.sink
+  pub counted : CountsText end text before now
 
 -- no text was read whole, so none was opened
 abbrev pub OpensNone : ArrowsEnd → Type 0
@@ -41,9 +50,9 @@ OpensNone arrows.TooLong = Unit {0}
 OpensNone arrows.ReadFailed = Unit {0}
 OpensNone arrows.NoMemory = Unit {0}
 
--- how the command `arrows` ends
-abbrev pub ArrowsEndsAs : Streams → Streams → ArrowsEnd → Type 0
-ArrowsEndsAs old new (arrows.Answered end) = AnswersText end old new
-ArrowsEndsAs old new arrows.TooLong = PassesLimit old.source new.source × (new.sink ≡ old.sink)
-ArrowsEndsAs old new arrows.ReadFailed = FailsInText old.source new.source × (new.sink ≡ old.sink)
-ArrowsEndsAs old new arrows.NoMemory = ReadsFront old.source new.source × (new.sink ≡ old.sink)
+-- how the command `arrows` ends, and what it counts where it opens a text
+abbrev pub ArrowsEndsAs : Streams → Streams → (before now : ℕ) → ArrowsEnd → Type 0
+ArrowsEndsAs old new before now (arrows.Answered end) = AnswersText end old new before now
+ArrowsEndsAs old new before now arrows.TooLong = PassesLimit old.source new.source × (new.sink ≡ old.sink)
+ArrowsEndsAs old new before now arrows.ReadFailed = FailsInText old.source new.source × (new.sink ≡ old.sink)
+ArrowsEndsAs old new before now arrows.NoMemory = ReadsFront old.source new.source × (new.sink ≡ old.sink)

@@ -1,6 +1,9 @@
--- The macro uses that are counted over bytes (R7RS 4.3): those that their bodies lead to.
-use Rattle.std.specs.Prelude.{ℕ, List, ◌++◌}
+-- The macro uses that are counted over bytes (R7RS 4.3): those that their bodies lead to, or those of a text alone.
+use Rattle.std.specs.Prelude.{◌≡◌, ℕ, ◌+◌, List, [], ◌∷◌, ◌++◌}
+use Rattle.std.specs.Str.{IsUtf8}
 use Rattle.ls_base.specs.Frames.{End, IsFrames}
+use Rattle.document_units.specs.Readings.{Read, IsReadAs}
+use Rattle.program_expansion.specs.UsesInTurn.{uses_in}
 use Rattle.session_core.specs.Counted.{AreCounted}
 use Rattle.scheme_ls.specs.SessionOutput.{session_over}
 use Rattle.scheme_ls.specs.declared.serve.SessionEnd.{SessionEnd}
@@ -30,3 +33,8 @@ CountsAs WriteFailed bytes before now = CountsFirst bytes before now
 CountsAs NoMemory bytes before now = Unit {0}
 CountsAs FrameFault bytes before now = CountsAll bytes before now
 CountsAs Endless bytes before now = CountsAll bytes before now
+
+-- those of the program that a text alone is. A text that isn't UTF-8 is no program
+pub record CountsAlone (text : List ℕ) (before now : ℕ) : Type 0 where
+  pub opened : IsUtf8 text → (r : Read) → IsReadAs text r → now ≡ before + uses_in (r ∷ [])
+  pub refused : ¬ IsUtf8 text → now ≡ before

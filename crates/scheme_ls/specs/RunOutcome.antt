@@ -43,10 +43,10 @@ pub record AsksNothing (old new : Seen) : Type 0 where
   pub files : AsksNoFile old new
   pub steps : new.steps ≡ old.steps
 
--- `arrows` ended with a status, and counts macro uses only where it opens a text
+-- `arrows` ended with a status, and counts the macro uses of the text that it opens; none, where it opens none
 pub record ArrowsDone (old new : Seen) (status : Status) : Type 0 where
   pub end : ArrowsEnd
-  pub ends : ArrowsEndsAs old.streams new.streams end
+  pub ends : ArrowsEndsAs old.streams new.streams old.steps new.steps end
   pub files : AsksNoFile old new
   pub uncounted : OpensNone end → new.steps ≡ old.steps
   pub status_is : status ≡ arrows_status end

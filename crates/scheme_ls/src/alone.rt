@@ -1,10 +1,12 @@
 //! A text alone, opened as the document `input`: its arrows, or what stops its reading.
-ghost use Rattle.std.specs.Prelude.{◌≡◌, ◌≤◌, ℕ, List, length, IfOk};
+ghost use Rattle.std.specs.Prelude.{◌≡◌, ◌≤◌, ◌+◌, ℕ, List, [], ◌∷◌, length, IfOk, OnOk};
 ghost use Rattle.std.specs.FinMap.{empty};
 ghost use Rattle.std.specs.String.{string_bytes};
 ghost use Rattle.ls_base.specs.Limits.{max_text};
 ghost use Rattle.ls_base.specs.declared.answers.Arrow as drawn;
 ghost use Rattle.ls_base.specs.declared.encoding.Encoding.{Encoding};
+ghost use Rattle.document_units.specs.Readings.{Read, IsReadAs};
+ghost use Rattle.program_expansion.specs.UsesInTurn.{uses_in};
 ghost use Rattle.scheme_ls.specs.Alone.{HoldsAlone, HoldsText, IsDrawn, IsTold};
 ghost use Rattle.scheme_ls.specs.Printed.{lines_of};
 
@@ -33,7 +35,9 @@ pub enum Told {
 /// What a text comes to, in a workspace without other documents.
 pub fn answer_to<L: Ledger>(alloc: Global, text: &str, steps: &mut Steps<L>) -> Mem<Told>
     requires { length text.now ≤ max_text }
-    ensures { IfOk result (IsTold text.now) }
+    ensures told { IfOk result (IsTold text.now) }
+    // The macro uses are counted of the program that the text is.
+    ensures steps { (r : Read) → IsReadAs text.now r → OnOk result (steps.new ≡ steps.old + uses_in (r ∷ [])) }
 {
     let mut workspace = Workspace::new(alloc)?;
     let lists = open(alloc, &mut workspace, text, steps)?;
@@ -65,7 +69,8 @@ fn open<L: Ledger>(
     requires none { workspace.old.texts ≡ empty }
     requires encoding { workspace.old.encoding ≡ Encoding.Utf16 }
     requires short { length text.now ≤ max_text }
-    ensures { IfOk result (HoldsAlone text.now workspace.new) }
+    ensures holds { IfOk result (HoldsAlone text.now workspace.new) }
+    ensures steps { (r : Read) → IsReadAs text.now r → OnOk result (steps.new ≡ steps.old + uses_in (r ∷ [])) }
 {
     let event = DocEvent::Added {
         uri: Text::of(alloc, INPUT)?,

@@ -1,7 +1,7 @@
 //! The command `arrows`: reads a text and prints its arrows.
 ghost use Rattle.std.specs.Prelude.{◌≡◌, ◌≤◌, List, ℕ, length};
 ghost use Rattle.ls_base.specs.Limits.{max_text};
-ghost use Rattle.scheme_ls.specs.ArrowsOutcome.{ArrowsEndsAs, OpensNone, TextEndsAs};
+ghost use Rattle.scheme_ls.specs.ArrowsOutcome.{ArrowsEndsAs, CountsText, OpensNone, TextEndsAs};
 ghost use Rattle.scheme_ls.specs.Printed.{AreLines, IsRefusal};
 ghost use Rattle.scheme_ls.specs.Prints.{sink_seen};
 ghost use Rattle.scheme_ls.specs.Reading.{source_seen};
@@ -83,7 +83,7 @@ pub fn arrows<I: Source, O: Sink, L: Ledger>(
         (streams (source_seen (I.left input.old) (I.faults input.old) (I.reads input.old))
         (sink_seen (O.taken output.old) (O.faults output.old) (O.writes output.old)))
         (streams (source_seen (I.left input.new) (I.faults input.new) (I.reads input.new))
-        (sink_seen (O.taken output.new) (O.faults output.new) (O.writes output.new))) result }
+        (sink_seen (O.taken output.new) (O.faults output.new) (O.writes output.new))) steps.old steps.new result }
     ensures steps { OpensNone result → steps.new ≡ steps.old }
 {
     match read_all(alloc, input) {
@@ -102,9 +102,10 @@ fn print_text<O: Sink, L: Ledger>(
     steps: &mut Steps<L>,
 ) -> TextEnd
     requires { length text.now ≤ max_text }
-    ensures { TextEndsAs result text.now
+    ensures ends { TextEndsAs result text.now
         (sink_seen (O.taken output.old) (O.faults output.old) (O.writes output.old))
         (sink_seen (O.taken output.new) (O.faults output.new) (O.writes output.new)) }
+    ensures counted { CountsText result text.now steps.old steps.new }
 {
     let Ok(text) = str::from_utf8(text) else {
         return print_refusal(NOT_UTF8, output);
