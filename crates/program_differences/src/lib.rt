@@ -1,4 +1,5 @@
-//! The first place at which two programs aren't the same up to the names that were asked for.
+//! Where two programs differ beside their forms: in their lists of units, in the Errors of a unit and in its exports; and the units in
+//! reach of a change.
 #![tactic(auto)]
 
 pub mod both;
