@@ -35,23 +35,6 @@
 //!     data/size TEXT              of the first datum, how many parts a list or how many bytes a string has
 //!         "(a b)"                 -> ["parts",2]
 //!
-//! Edits by which identifiers get new names. A TOKEN is the number of a token of the text, from 0, and gets the NAME beside it.
-//!
-//!     edits/of [TEXT,[[TOKEN,NAME],..]]   the edits, `[START,END,STRING]` in bytes, and the edited text; or the fault of reading
-//!         ["(a)",[[1,"b c"]]]     -> [[[1,2,"|b c|"]],"(|b c|)"]
-//!     edits/long [TEXT,[[TOKEN,NAME],..]]   whether the edited text has more bytes than a text may have
-//!         ["(a)",[[1,"b c"]]]     -> false
-//!     edits/placed [TEXT,[[TOKEN,NAME],..],ENCODING]   the edits at positions of an encoding, `[RANGE,STRING]`
-//!         ["(a)",[[1,"b"]],"utf-16"]   -> [[[[0,1],[0,2]],"b"]]
-//!     edits/symbol TEXT           the symbol of a new name, or null where the text is none
-//!         "|b c|"                 -> "b c"
-//!     edits/stem [PREFIX,NAME]    what is left of a name behind a prefix, or null
-//!         ["s:","s:b"]            -> "b"
-//!     edits/names [[[OCC,PREFIX],..],STEM,[OCC,..],[TOKEN,..]]   the tokens that get new names, `[TOKEN,NAME]`: of members of a class
-//!                                 with their prefixes and the new stem, and of a unit its identifiers and the first tokens of its
-//!                                 forms. An OCC is `[UNIT,FORM,TOKEN]`, whose token is that of its form
-//!         [[[[0,1,1],"s:"]],"b",[[0,1,1]],[0,4]]   -> [[5,"s:b"]]
-//!
 //! Scopes, from an environment in which 0 and 1 are the own scopes of the units 0 and 1. IDENTIFIER is `[NAME,UNIT,[USE,..]]`: a name
 //! written in a unit and then inserted by macro uses, each `[UNIT,FORM,COUNT]`. A MEANING is `["local",NUMBER]`, `["global",UNIT,IDENTIFIER]`,
 //! `["standard",NAME]` or `["free",NAME]`, in answers with the numbers of identifiers and symbols in place of both, which count from 0 in
@@ -111,7 +94,6 @@
 
 mod argument;
 mod data;
-mod edits;
 mod fault;
 mod lines;
 mod positions;
@@ -135,7 +117,6 @@ fn answer_to(out: &mut Shown, store: &mut Store, call: &Call<'_>, argument: &Val
     match call.group {
         "tokens" => Ok(tokens::answer(out, call.name, argument)?),
         "data" => Ok(data::answer(out, call.name, argument)?),
-        "edits" => Ok(edits::answer(out, call.name, argument)?),
         "scopes" => Ok(scopes::answer(out, call.name, argument)?),
         "units" => Ok(units::answer(out, call.name, argument)?),
         "positions" => Ok(positions::answer(out, call.name, argument)?),
