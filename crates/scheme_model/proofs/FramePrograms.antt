@@ -69,7 +69,7 @@ module _ {A B : Type 0} (f : A → B) (written : List ℕ → A) (place : ℕ �
     end_over (part d ds) = end_over ds
     end_over (tail d) = ap (λ (t : Tree B). dotted t) (tree_over d)
 
-abbrev form_mapped : {A B : Type 0} → (A → B) → ℕ × Tree A → ℕ × Tree B
+abbrev pub form_mapped : {A B : Type 0} → (A → B) → ℕ × Tree A → ℕ × Tree B
 form_mapped f t = (t.0, map_tree f t.1)
 
 forms_mapped : {A B : Type 0} (f : A → B) (written : List ℕ → A) (w form : ℕ) (fs : List UnitForm) → map (form_mapped f) (forms_over written w form fs) ≡ forms_over (λ s. f (written s)) w form fs
@@ -196,7 +196,7 @@ module _ (known : Known) (g : ScopedProgress) (h : Between g) (p : Prepared) (ne
     pub forms_held : AllOf (FormHeld w known start) (forms_over (Written p.number) p.number 0 p.forms)
     forms_held = forms_all (UnitLeaf w known start) p.number (λ s. (tt, tt)) p.forms 0
 
-    forms_seen : map (form_seen (names start [])) (forms_over (Written p.number) p.number 0 p.forms) ≡ form_trees p.number 0 p.forms
+    pub forms_seen : map (form_seen (names start [])) (forms_over (Written p.number) p.number 0 p.forms) ≡ form_trees p.number 0 p.forms
     forms_seen = forms_mapped (names start []) (Written p.number) p.number 0 p.forms ∙ forms_same p.number 0 p.forms
 
     abbrev by_substitution : Option (List Formed) × State
@@ -209,7 +209,7 @@ module _ (known : Known) (g : ScopedProgress) (h : Between g) (p : Prepared) (ne
     abbrev by_numbers : Option (List Formed) × ScopedState
     by_numbers = unit (scoped known) enough_turns [] (forms_over (Written p.number) p.number 0 p.forms) start
 
-    unit_same : AllFormed w known by_scopes by_substitution
+    pub unit_same : AllFormed w known by_scopes by_substitution
     unit_same =
         subst (λ (q : Option (List Formed) × ScopedState). AllFormed w known q by_substitution) (sym told_same.same)
         (subst (AllFormed w known by_numbers) (ap (λ ts. unit (model known) enough_turns tt ts (start_of p g.table (map (imaged_macro g.places g.definitions) g.macros) entry)) forms_seen)

@@ -41,10 +41,12 @@ pub data Message : Type 0 where
   Notice : Note → Message
   Response : Message
 
--- what is answered, and what is told without being asked: lists that are published, and a text for the log
+-- what is answered, what a rename edits or why it is refused, and what is told without being asked: lists that are published, and a
+-- text for the log
 pub data Reply (A : Type 0) : Type 0 where
   Capabilities : Id → (prepare : Bool) → Encoding → Reply A
   Result : Id → A → Reply A
+  Renamed : Id → A → Reply A
   Error : Option Id → ℤ → List ℕ → Reply A
   Publish : A → Reply A
   Log : List ℕ → Reply A
@@ -65,11 +67,12 @@ pub data Ending : Type 0 where
   Clean : Ending
   Early : Ending
 
--- what answers queries in given texts, whose positions count in an encoding, and what is published of the texts after an
--- event about a document, by the texts before it
+-- what answers queries and renames in given texts, whose positions count in an encoding, and what is published of the texts after
+-- an event about a document, by the texts before it
 pub record Answers (A : Type 0) : Type 0 where
   pub null : A
   pub query : Encoding → Texts → List ℕ → Position → Query → A
+  pub rename : Encoding → Texts → List ℕ → Position → (new_name : List ℕ) → A
   pub lists : Encoding → (before after : Texts) → (uri : List ℕ) → A
 
 -- what one message leads to: the state after it, the replies, and how it ends the session, where it does
@@ -124,7 +127,7 @@ abbrev pub called : {A : Type 0} → Answers A → State → Id → Call → Ste
 called answers state id (Initialize prepare encoding) = stays state (invalid_request (Some id) ∷ [])
 called answers state id Shutdown = stays (with_mode Shut state) (Result id answers.null ∷ [])
 called answers state id (Ask uri position query) = stays state (Result id (answers.query state.encoding state.texts uri position query) ∷ [])
-called answers state id (Rename uri position new_name) = stays state (method_not_found id ∷ [])
+called answers state id (Rename uri position new_name) = stays state (Renamed id (answers.rename state.encoding state.texts uri position new_name) ∷ [])
 
 -- a request in the mode fresh: `initialize` fixes what positions count in
 abbrev pub called_fresh : {A : Type 0} → State → Id → Call → Stepped A
