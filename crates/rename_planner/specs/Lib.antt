@@ -1,0 +1,3 @@
+pub mod RefusalTexts  -- What a refused rename says (LSP 3.17, ResponseError)
+pub mod ToldRenames  -- What a rename at a position of an open document answers (LSP 3.17, textDocument/rename)
+pub mod RenameOutcomes  -- Renames of the code and what they stand for
