@@ -1,0 +1,99 @@
+//! The units that a change of some occurrences reaches: those that hold one, and those that import a unit in reach.
+ghost use Rattle.std.specs.Prelude.{◌≡◌, ◌<◌, ℕ, List, IfOk, false, true, length, replicate, vec_len};
+ghost use Rattle.scheme_model.specs.Program.{UnitResult};
+ghost use Rattle.rename_model.specs.Reach.{in_reach as model_reach};
+ghost use Rattle.program_differences.specs.Reached.{with_mark, with_holders, one_marked, with_importers, in_rounds, marks_from, HaveImports};
+
+use core_tree::units::Unit;
+use ls_base::Mem;
+use scheme_model::Occ;
+use std::alloc::Global;
+
+/// So many units, of which none is in reach.
+fn nothing_reached(alloc: Global, units: usize) -> Mem<Vec<bool>>
+    ensures { IfOk result (λ reached. reached.items ≡ replicate units false) }
+{
+    Ok(vec![in alloc; false; units]?)
+}
+
+/// Puts a unit in reach, where there is one at the place.
+fn reach_unit(place: usize, reached: &mut Vec<bool>)
+    ensures { reached.new.items ≡ with_mark reached.old.items place }
+{
+    if place < reached.len() {
+        reached[place] = true;
+    }
+}
+
+/// Puts the units in reach that hold one of these occurrences.
+fn reach_holders(occs: &[Occ], reached: &mut Vec<bool>)
+    ensures { reached.new.items ≡ with_holders reached.old.items occs.now }
+{
+    for occ in occs {
+        reach_unit(occ.unit as usize, reached);
+    }
+}
+
+/// Whether one of these units is in reach.
+fn is_one_reached(units: &[u32], reached: &[bool]) -> bool
+    ensures { result ≡ one_marked reached.now units.now }
+{
+    for unit in units {
+        let place = *unit as usize;
+        if place < reached.len() && reached[place] {
+            return true;
+        }
+    }
+    false
+}
+
+/// Puts the units in reach that import one in reach, from the first on, and tells whether there was any that wasn't before.
+fn reach_importers(units: &[Unit], reached: &mut Vec<bool>) -> bool
+    requires { vec_len reached.old ≡ length units.now }
+    ensures reached { reached.new.items ≡ with_importers 0 units.now reached.old.items }
+    ensures none { result ≡ false → reached.new.items ≡ reached.old.items }
+{
+    let mut any = false;
+    for place in 0..units.len() {
+        if !reached[place] && is_one_reached(units[place].imports.as_slice(), reached.as_slice()) {
+            reach_unit(place, reached);
+            any = true;
+        }
+    }
+    any
+}
+
+/// Puts the units in reach that import one in reach, directly or not.
+fn reach_all(units: &[Unit], reached: &mut Vec<bool>)
+    requires { vec_len reached.old ≡ length units.now }
+    ensures { reached.new.items ≡ in_rounds (length units.now) units.now reached.old.items }
+{
+    for _round in 0..units.len() {
+        if !reach_importers(units, reached) {
+            return;
+        }
+    }
+}
+
+/// The places of those that were reached, in order.
+fn places_of(alloc: Global, reached: &[bool]) -> Mem<Vec<usize>>
+    ensures { IfOk result (λ places. places.items ≡ marks_from 0 reached.now) }
+{
+    let mut places = Vec::new(alloc);
+    for place in 0..reached.len() {
+        if reached[place] {
+            places.push(place)?;
+        }
+    }
+    Ok(places)
+}
+
+/// The places of the units in reach of some occurrences, in the order of the list.
+pub fn in_reach(alloc: Global, units: &[Unit], occs: &[Occ]) -> Mem<Vec<usize>>
+    ensures { (rs : List UnitResult) → HaveImports 0 units.now rs → IfOk result (λ places. places.items ≡ model_reach rs occs.now) }
+{
+    let mut reached = nothing_reached(alloc, units.len())?;
+    reach_holders(occs, &mut reached);
+    reach_all(units, &mut reached);
+    Ok(places_of(alloc, reached.as_slice())?)
+}
