@@ -1,10 +1,12 @@
 -- The names that exports are asked to have, where their external names stand, and exports compared one after another.
-use Rattle.std.proofs.Common.{◌≡◌, ℕ, zero, suc, ◌+◌, ◌-◌, ◌<◌, ◌≤◌, List, [], ◌∷◌, ◌++◌, take, drop, get_or, length, Bool, true, false, cond, Option, Some, None, refl, sym, ap, ◌∙◌, subst, arith, append_assoc}
+use Rattle.std.proofs.Common.{◌≡◌, ℕ, zero, suc, ◌+◌, ◌-◌, ◌<◌, ◌≤◌, List, [], ◌∷◌, ◌++◌, take, drop, get_or, length, Bool, true, false, cond, Option, Some, None, refl, sym, ap, ◌∙◌, subst, arith, append_assoc, add-one}
 use Rattle.std.specs.Prelude.{◌==◌, ◌&&◌, ◌||◌, if◌then◌else◌}
 use Rattle.std.specs.List.{flat_map}
 use Rattle.std.specs.Str.{bytes_eq}
 use Rattle.std.specs.Option.{is_some}
-use Rattle.std.proofs.lemmas.List.{take_more}
+use Rattle.std.proofs.lemmas.Bool.{ne_eqb}
+use Rattle.std.proofs.lemmas.Bool.Decides.{nat_tests}
+use Rattle.std.proofs.lemmas.List.{take_more, length-append, get_or_at, drop_more}
 use Rattle.std.proofs.lemmas.Slice.Eq.{bytes_eq-Decides}
 use Rattle.scheme_model.specs.declared.Occ.{Occ}
 use Rattle.scheme_model.specs.Entries.{Entry}
@@ -13,7 +15,7 @@ use Rattle.scheme_model.specs.Ident.{symbol_of}
 use Rattle.scheme_model.specs.Meaning.{Meaning, Local, Global, Standard, Free}
 use Rattle.scheme_model.specs.Substitution.{Table}
 use Rattle.scheme_model.specs.Program.{ExportSpec, UnitResult, WholeFault, has_name, names_of_unit, prelude_unit}
-use Rattle.rename_model.specs.Walks.{Point, Seen, AtExport, OfName, OfNumber, OfDefinition, IsString, IsOfPrelude, number_in, ShowsSymbol, ShowsMeaning, point, meaning_seen, meaning_at}
+use Rattle.rename_model.specs.Walks.{Point, Seen, AtExport, OfName, OfNumber, OfDefinition, IsString, IsOfPrelude, number_in, ShowsNothing, ShowsSymbol, ShowsMeaning, point, meaning_seen, meaning_at}
 use Rattle.rename_model.specs.SameProgram as same
 use Rattle.rename_model.specs.SameProgram.{agree, paired, external_occ, name_asked, export_points}
 use Rattle.rename_model.specs.Difference.{first_apart}
@@ -24,9 +26,10 @@ use Rattle.core_tree.specs.Names.{AllMatch}
 use Rattle.core_tree.specs.Units.{IsExternal, AreNames, externals, given_exports, unless_broken}
 use Rattle.core_tree.specs.declared.units.NameUse as code_name
 use Rattle.alpha_equal.specs.declared.points.Pair.{Pair}
-use Rattle.alpha_equal.specs.Points.{ArePair}
+use Rattle.alpha_equal.specs.declared.points.Told.{Told}
+use Rattle.alpha_equal.specs.Points.{IsTold, ArePair}
 use Rattle.program_differences.specs.declared.plan.ExportChange.{ExportChange}
-use Rattle.program_differences.specs.Exported.{changes_as, first_given, asked_at, name_or, IsGiven}
+use Rattle.program_differences.specs.Exported.{changes_as, first_given, asked_at, name_or, IsGiven, all_exports}
 
 -- ---- names that are asked for
 
@@ -51,25 +54,30 @@ asked_more u cs k d s old new lt o n =
     ∙ ap (λ (xs : List ExportChange). asked_at u xs s) (sym (take_more cs k d lt))
 
 -- a name that is known already, or that is new
-pub known_name : (b : Bool) (find : List ℕ → Option (List ℕ)) (t s new : List ℕ) → is_some (find t) ≡ true → find s ≡ first_given (find s) (if b && bytes_eq t s then Some new else None)
-known_name b find t s new h = go (find s) refl (bytes_eq t s) refl
+pub known_name : (find : List ℕ → Option (List ℕ)) (t s new : List ℕ) → is_some (find t) ≡ true → find s ≡ first_given (find s) (if bytes_eq t s then Some new else None)
+known_name find t s new h = go (find s) refl (bytes_eq t s) refl
   where
-    go : (o : Option (List ℕ)) → find s ≡ o → (e : Bool) → bytes_eq t s ≡ e → o ≡ first_given o (if b && e then Some new else None)
+    go : (o : Option (List ℕ)) → find s ≡ o → (e : Bool) → bytes_eq t s ≡ e → o ≡ first_given o (if e then Some new else None)
     go (Some x) p e q = refl
-    go None p false q = none b
-      where
-        none : (b : Bool) → None ≡ first_given None (if b && false then Some new else None)
-        none true = refl
-        none false = refl
+    go None p false q = refl
     go None p true q = let z : true ≡ false = sym h ∙ ap is_some (ap find ((bytes_eq-Decides t s).0 q) ∙ p) in absurd cc
 
-pub new_name : (find : List ℕ → Option (List ℕ)) (t s new : List ℕ) → is_some (find t) ≡ false → cond (bytes_eq t s) (Some new) (find s) ≡ first_given (find s) (if true && bytes_eq t s then Some new else None)
+pub new_name : (find : List ℕ → Option (List ℕ)) (t s new : List ℕ) → is_some (find t) ≡ false → cond (bytes_eq t s) (Some new) (find s) ≡ first_given (find s) (if bytes_eq t s then Some new else None)
 new_name find t s new h = go (find s) refl (bytes_eq t s) refl
   where
     go : (o : Option (List ℕ)) → find s ≡ o → (e : Bool) → bytes_eq t s ≡ e → cond e (Some new) o ≡ first_given o (if e then Some new else None)
     go o p false q = sym (first_given_none o)
     go None p true q = refl
     go (Some x) p true q = let z : false ≡ true = sym h ∙ ap is_some (ap find ((bytes_eq-Decides t s).0 q) ∙ p) in absurd cc
+
+-- an export of a unit, and of another
+pub asked_here : (u : ℕ) (c : ExportChange) (s : List ℕ) → c.unit ≡ u → (if bytes_eq c.old s then Some c.new else None) ≡ asked_at u (c ∷ []) s
+asked_here u c s e =
+    let same : (c.unit == u) ≡ true = grind (arith, nat_tests) in
+    sym (ap (λ (b : Bool). if b && bytes_eq c.old s then Some c.new else None) same)
+
+pub asked_elsewhere : (u : ℕ) (c : ExportChange) (s : List ℕ) (o : Option (List ℕ)) → (c.unit == u) ≡ false → o ≡ first_given o (asked_at u (c ∷ []) s)
+asked_elsewhere u c s o e = sym (ap (λ (b : Bool). first_given o (if b && bytes_eq c.old s then Some c.new else None)) e ∙ first_given_none o)
 
 pub asked_is : (u : ℕ) (cs : List ExportChange) (s : List ℕ) → name_or (asked_at u cs s) s ≡ name_asked (changes_as cs) u s
 asked_is u [] s = refl
@@ -78,6 +86,17 @@ asked_is u (c ∷ cs) s = go ((c.unit == u) && bytes_eq c.old s) (asked_is u cs 
     go : (b : Bool) → name_or (asked_at u cs s) s ≡ name_asked (changes_as cs) u s → name_or (if b then Some c.new else asked_at u cs s) s ≡ (if b then c.new else name_asked (changes_as cs) u s)
     go true e = refl
     go false e = e
+
+-- what is read so many from the end
+pub name_read : (names front : List code_name.NameUse) (n : code_name.NameUse) (last : List code_name.NameUse) (behind k : ℕ) (x : code_name.NameUse) → names ≡ front ++ n ∷ last → behind ≡ suc (length last) → k ≡ length names - behind → x ≡ get_or names k x → x ≡ n
+name_read names front n last behind k x e b at is =
+    let size : length names ≡ length front + suc (length last) = ap length e ∙ length-append front (n ∷ last) in
+    let place : length front ≡ k = omega arith in
+    is ∙ ap (λ (xs : List code_name.NameUse). get_or xs k x) e ∙ get_or_at front n last x k place
+
+pub not_behind : (names front : List code_name.NameUse) (n : code_name.NameUse) (last : List code_name.NameUse) (behind : ℕ) → names ≡ front ++ n ∷ last → behind ≡ suc (length last) → (0 < behind) × (behind ≤ length names)
+not_behind names front n last behind e b =
+    let size : length names ≡ length front + suc (length last) = ap length e ∙ length-append front (n ∷ last) in (omega arith, omega arith)
 
 -- ---- external names
 
@@ -269,3 +288,91 @@ module _ (live : Option Occ → Bool) (old new : Table) (asked : List ℕ → Li
       go true true h = absurd h
       go true false h = h
       go false b h = h
+
+-- ---- exports one after another
+
+module _ (names : Names) (live : Option Occ → Bool) (old new : Table) (asked : List ℕ → List ℕ) (xs ys : List ExportSpec) where
+  abbrev all_before : List Entry → List Point
+  all_before es = all_exports old asked xs es
+
+  abbrev all_after : List Entry → List Point
+  all_after ds = all_exports new (λ s. s) ys ds
+
+  pub exports_past : (cs as : List code_entry.Entry) (es ds : List Entry) (k : ℕ) (c : code_entry.Entry) (e d : Entry) → EntryAt names cs es k c e → EntryAt names as ds k c d →
+      first_apart live [] (export_points old asked xs (get_or es k e)) (export_points new (λ s. s) ys (get_or ds k d)) ≡ None →
+      first_apart live [] (all_before (drop k es)) (all_after (drop k ds)) ≡ first_apart live [] (all_before (drop (k + 1) es)) (all_after (drop (k + 1) ds))
+  exports_past cs as es ds k c e d a b h =
+      (λ j. first_apart live [] (all_before (a.is j)) (all_after (b.is j)))
+      ∙ export_past live old new asked xs ys (get_or es k e) (get_or ds k d) (all_before (drop (suc k) es)) (all_after (drop (suc k) ds)) h
+      ∙ ap (λ (n : ℕ). first_apart live [] (all_before (drop n es)) (all_after (drop n ds))) (sym (add-one k))
+
+  pub exports_here : (unit : ℕ) (pair : Pair) (cs as : List code_entry.Entry) (es ds : List Entry) (k : ℕ) (c : code_entry.Entry) (e d : Entry) → EntryAt names cs es k c e → EntryAt names as ds k c d →
+      ArePair names unit 0 (Some pair) (first_apart live [] (export_points old asked xs (get_or es k e)) (export_points new (λ s. s) ys (get_or ds k d))) →
+      ArePair names unit 0 (Some pair) (first_apart live [] (all_before (drop k es)) (all_after (drop k ds)))
+  exports_here unit pair cs as es ds k c e d a b h =
+      subst (ArePair names unit 0 (Some pair)) (λ j. first_apart live [] (all_before (sym a.is j)) (all_after (sym b.is j)))
+      (export_here live old new asked xs ys names unit pair (get_or es k e) (get_or ds k d) (all_before (drop (suc k) es)) (all_after (drop (suc k) ds)) h)
+
+pub no_pair : (names : Names) (unit form : ℕ) (pair : Option Pair) (q : Option (Point × Point)) → is_some pair ≡ false → ArePair names unit form pair q → q ≡ None
+no_pair names unit form None None e h = refl
+no_pair names unit form None (Some q) e h = absurd h
+no_pair names unit form (Some c) q e h = absurd cc
+
+pub a_pair : (names : Names) (unit form : ℕ) (pair : Option Pair) (q r : Option (Point × Point)) → is_some pair ≡ true → ArePair names unit form pair q → ((c : Pair) → ArePair names unit form (Some c) q → ArePair names unit form (Some c) r) → ArePair names unit form pair r
+a_pair names unit form None q r e h f = absurd cc
+a_pair names unit form (Some c) q r e h f = f c h
+
+-- ---- one export of the code
+
+module _ (names : Names) (unit : ℕ) (live : Option Occ → Bool) (old new : Table) (asked : List ℕ → List ℕ) (xs ys : List ExportSpec) (e d : Entry) where
+  abbrev Outcome : Option (Point × Point)
+  Outcome = first_apart live [] (export_points old asked xs e) (export_points new (λ s. s) ys d)
+
+  step : Outcome ≡ (if bytes_eq (asked e.name) d.name then (if agree [] (meaning_seen old e.meaning) (meaning_seen new d.meaning) then None else Some (meaning_at old AtExport e.meaning (external_occ xs e.name), meaning_at new AtExport d.meaning (external_occ ys d.name)))
+      else Some (point AtExport (OfName IsString (asked e.name)) (external_occ xs e.name) (ShowsSymbol e.name), point AtExport (OfName IsString d.name) (external_occ ys d.name) (ShowsSymbol d.name)))
+  step = export_step live old new asked xs ys e d [] []
+
+  pub by_name : (before after : Told) → bytes_eq (asked e.name) d.name ≡ false → ((s : Seen) → IsTold names unit 0 before (point AtExport s (external_occ xs e.name) (ShowsSymbol e.name))) → ((s : Seen) → IsTold names unit 0 after (point AtExport s (external_occ ys d.name) (ShowsSymbol d.name))) →
+      ArePair names unit 0 (Some (record { old = before; new = after })) Outcome
+  by_name before after t f g =
+      subst (ArePair names unit 0 (Some (record { old = before; new = after })))
+      (sym (step ∙ ap (λ (b : Bool). if b then (if agree [] (meaning_seen old e.meaning) (meaning_seen new d.meaning) then None else Some (meaning_at old AtExport e.meaning (external_occ xs e.name), meaning_at new AtExport d.meaning (external_occ ys d.name)))
+          else Some (point AtExport (OfName IsString (asked e.name)) (external_occ xs e.name) (ShowsSymbol e.name), point AtExport (OfName IsString d.name) (external_occ ys d.name) (ShowsSymbol d.name))) t))
+      (f (OfName IsString (asked e.name)), g (OfName IsString d.name))
+
+  pub by_meaning : (before after : Told) → bytes_eq (asked e.name) d.name ≡ true → agree [] (meaning_seen old e.meaning) (meaning_seen new d.meaning) ≡ false →
+      ((s : Seen) → IsTold names unit 0 before (point AtExport s (external_occ xs e.name) (ShowsMeaning e.meaning))) → ((s : Seen) → IsTold names unit 0 after (point AtExport s (external_occ ys d.name) (ShowsMeaning d.meaning))) →
+      ArePair names unit 0 (Some (record { old = before; new = after })) Outcome
+  by_meaning before after t m f g =
+      subst (ArePair names unit 0 (Some (record { old = before; new = after })))
+      (sym (step ∙ (λ j. if t j then (if m j then None else Some (meaning_at old AtExport e.meaning (external_occ xs e.name), meaning_at new AtExport d.meaning (external_occ ys d.name)))
+          else Some (point AtExport (OfName IsString (asked e.name)) (external_occ xs e.name) (ShowsSymbol e.name), point AtExport (OfName IsString d.name) (external_occ ys d.name) (ShowsSymbol d.name)))))
+      (f (meaning_seen old e.meaning), g (meaning_seen new d.meaning))
+
+  pub by_none : bytes_eq (asked e.name) d.name ≡ true → agree [] (meaning_seen old e.meaning) (meaning_seen new d.meaning) ≡ true → ArePair names unit 0 None Outcome
+  by_none t m =
+      subst (ArePair names unit 0 None)
+      (sym (step ∙ (λ j. if t j then (if m j then None else Some (meaning_at old AtExport e.meaning (external_occ xs e.name), meaning_at new AtExport d.meaning (external_occ ys d.name)))
+          else Some (point AtExport (OfName IsString (asked e.name)) (external_occ xs e.name) (ShowsSymbol e.name), point AtExport (OfName IsString d.name) (external_occ ys d.name) (ShowsSymbol d.name)))))
+      tt
+
+-- ---- how many exports there are
+
+module _ (names : Names) (unit : ℕ) (live : Option Occ → Bool) where
+  abbrev counted : ℕ → Point
+  counted n = point AtExport (OfNumber n) None ShowsNothing
+
+  count_step : (a b : ℕ) (os ns : List Point) → first_apart live [] (counted a ∷ os) (counted b ∷ ns) ≡ (if a == b then first_apart live [] os ns else Some (counted a, counted b))
+  count_step a b os ns = ap (λ (t : Bool). if t then first_apart live [] os ns else Some (counted a, counted b)) (and_true (a == b))
+
+  pub as_many_exports : (a b : ℕ) (os ns : List Point) → a ≡ b → first_apart live [] (counted a ∷ os) (counted b ∷ ns) ≡ first_apart live [] os ns
+  as_many_exports a b os ns e =
+      let same : (a == b) ≡ true = grind (arith, nat_tests) in
+      count_step a b os ns ∙ ap (λ (t : Bool). if t then first_apart live [] os ns else Some (counted a, counted b)) same
+
+  pub other_count : (told : Told) (a b : ℕ) (os ns : List Point) → (a ≡ b → ⊥) → ((s : Seen) → IsTold names unit 0 told (point AtExport s None ShowsNothing)) →
+      ArePair names unit 0 (Some (record { old = told; new = told })) (first_apart live [] (counted a ∷ os) (counted b ∷ ns))
+  other_count told a b os ns apart f =
+      let other : (a == b) ≡ false = ne_eqb a b apart in
+      subst (ArePair names unit 0 (Some (record { old = told; new = told }))) (sym (count_step a b os ns ∙ ap (λ (t : Bool). if t then first_apart live [] os ns else Some (counted a, counted b)) other))
+      (f (OfNumber a), f (OfNumber b))

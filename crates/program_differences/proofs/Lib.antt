@@ -6,3 +6,4 @@ pub mod UnitLaws  -- The units of a program of the code from a place on, the for
 pub mod ListedLaws  -- Units are the same in their lists where the code says so
 pub mod ExportLaws  -- The names that exports are asked to have, where their external names stand, and exports compared
 pub mod ToldLaws  -- What is told of the meaning at a point
+pub mod BothLaws  -- A unit of both programs at a place of their lists

@@ -1,10 +1,11 @@
 -- Units are the same in their lists where the code says so, and the first that differ are those that it finds.
-use Rattle.std.proofs.Common.{◌≡◌, ℕ, zero, suc, ◌+◌, ◌<◌, ◌≤◌, List, [], ◌∷◌, ◌++◌, map, drop, get_or, length, Bool, true, false, cond, Option, Some, None, refl, sym, ap, ◌∙◌, subst, arith, add-one, drop-cons}
+use Rattle.std.proofs.Common.{◌≡◌, ◌⊎◌, inl, inr, ℕ, zero, suc, ◌+◌, ◌<◌, ◌≤◌, List, [], ◌∷◌, ◌++◌, map, drop, get_or, length, Bool, true, false, cond, Option, Some, None, refl, sym, ap, ◌∙◌, subst, arith, add-one, drop-cons}
 use Rattle.std.specs.Prelude.{◌==◌, ◌&&◌, ◌||◌, slice_get, max, nat_le, if◌then◌else◌}
 use Rattle.std.specs.List.{flat_map}
 use Rattle.std.specs.Str.{bytes_eq}
 use Rattle.std.proofs.lemmas.Slice.Eq.{bytes_eq-Decides}
 use Rattle.std.proofs.lemmas.Bool.Decides.{nat_tests}
+use Rattle.std.proofs.lemmas.List.{at_drop_more, at_drop_all}
 use Rattle.std.proofs.lemmas.Option.{same_Some}
 use Rattle.scheme_model.specs.declared.Occ.{Occ}
 use Rattle.scheme_model.specs.Declarations.{UnitKind}
@@ -17,8 +18,9 @@ use Rattle.rename_model.specs.Difference.{alone, first_apart, first_among}
 use Rattle.rename_model.proofs.SameLaws.{agree_none, agrees_itself}
 use Rattle.syntax_tree.specs.Names.{Names}
 use Rattle.syntax_tree.specs.declared.trees.Work.{Work}
-use Rattle.core_tree.specs.Units.{text_of, kind_as, UnitStands, UnitsStand}
+use Rattle.core_tree.specs.Units.{text_of, kind_as, error_as, unit_errors, UnitStands, UnitsStand}
 use Rattle.core_tree.specs.declared.units.Unit.{Unit as CodeUnit}
+use Rattle.core_tree.specs.declared.units.UnitError.{UnitError}
 use Rattle.program_leaves.proofs.KeyLaws.{one_number, left, right}
 use Rattle.alpha_equal.specs.declared.points.Spot.TheVariants as spots
 use Rattle.alpha_equal.specs.declared.points.Shown.TheVariants as shown
@@ -27,9 +29,9 @@ use Rattle.alpha_equal.specs.declared.points.Pair.{Pair}
 use Rattle.alpha_equal.specs.Points.{IsTold, ArePair}
 use Rattle.program_differences.specs.declared.listed.Apart.{Apart}
 use Rattle.program_differences.specs.Apart.{at_form, AreFound, FindsFirst}
-use Rattle.program_differences.specs.Listed.{same_name, listed_alike, first_unlike, AreAlike, IsNameIn, TellsApart, AreDistinct, least_among, least_or}
+use Rattle.program_differences.specs.Listed.{same_name, listed_alike, alike_in, first_unlike, forms_of, AreAlike, IsNameIn, TellsApart, AreDistinct, least_among, least_or}
 use Rattle.program_differences.proofs.ApartLaws.{pair_found, found_first, found_next}
-use Rattle.program_differences.proofs.UnitLaws.{UnitAt, UnitsFrom}
+use Rattle.program_differences.proofs.UnitLaws.{UnitAt, UnitsFrom, units_from, as_many, errors_are}
 
 -- ---- points of the shape
 
@@ -198,11 +200,11 @@ module _ (names : Names) (unit form : ℕ) (live : Option Occ → Bool) where
 
 -- ---- lists
 
-module _ (names : Names) (live : Option Occ → Bool) (work : Work) (text : LibraryName → List ℕ) (uris : List (List ℕ)) (before after : List Placed) (p q : Program) (tells : TellsApart text p q) (apart : AreDistinct uris) where
-  abbrev pub found_at : Option ℕ → Option Apart
-  found_at None = None
-  found_at (Some place) = Some (record { unit = place; form = 0; pair = shapes })
+abbrev pub found_at : Option ℕ → Option Apart
+found_at None = None
+found_at (Some place) = Some (record { unit = place; form = 0; pair = shapes })
 
+module _ (names : Names) (live : Option Occ → Bool) (work : Work) (text : LibraryName → List ℕ) (uris : List (List ℕ)) (before after : List Placed) (p q : Program) (tells : TellsApart text p q) (apart : AreDistinct uris) where
   here_with : (place : ℕ) (o n : Option UnitResult) (pair : Option Pair) → result_at p.units place ≡ o → result_at q.units place ≡ n → ArePair names place 0 pair (first_apart live [] (listed_points o) (listed_points n)) →
       FindsFirst names live (stretch place 0 (listed_points (result_at p.units place)) (listed_points (result_at q.units place)) ∷ []) (at_form place 0 pair)
   here_with place o n pair e f h =
@@ -300,3 +302,90 @@ least_start (n ∷ ns) = least_is n ns
 pub least_next : (o : Option ℕ) (n : ℕ) (ns : List ℕ) → least_or o (n ∷ ns) ≡ least_or (least_or o (n ∷ [])) ns
 least_next None n ns = refl
 least_next (Some m) n ns = refl
+
+least_end : (o : Option ℕ) → least_or o [] ≡ o
+least_end None = refl
+least_end (Some m) = refl
+
+pub least_more : (es : List UnitError) (k : ℕ) (d : UnitError) (old new whole : Option ℕ) → k < length es → new ≡ least_or old ((get_or es k d).form ∷ []) → least_or old (forms_of (drop k es)) ≡ whole →
+    least_or new (forms_of (drop (k + 1) es)) ≡ whole
+least_more es k d old new whole lt n h =
+    ap (λ (o : Option ℕ). least_or o (forms_of (drop (k + 1) es))) n ∙ sym (least_next old (get_or es k d).form (forms_of (drop (k + 1) es)))
+    ∙ sym (at_drop_more (λ (xs : List UnitError). least_or old (forms_of xs)) es k d lt) ∙ h
+
+pub least_all : (es : List UnitError) (k : ℕ) (o whole : Option ℕ) → length es ≤ k → least_or o (forms_of (drop k es)) ≡ whole → o ≡ whole
+least_all es k o whole le h = sym (at_drop_all (λ (xs : List UnitError). least_or o (forms_of xs)) es k le ∙ least_end o) ∙ h
+
+-- ---- the Errors of a unit of the code
+
+pub error_law : (names : Names) (live : Option Occ → Bool) (unit : ℕ) (es : List UnitError) (r : UnitResult) (found : Option ℕ) → map error_as es ≡ unit_errors r → found ≡ least_among (forms_of es) →
+    FindsFirst names live (model.error_stretch unit (Some r) ∷ []) (error_at unit found)
+error_law names live unit es r found h f =
+    subst (λ (o : Option ℕ). FindsFirst names live (model.error_stretch unit (Some r) ∷ []) (error_at unit o)) (sym (f ∙ ap least_among (errors_are es r h)))
+    (error_found names live unit (model.errors_of r))
+
+-- ---- lists from a place on
+
+record AtPlace (ds : List CodeUnit) (k : ℕ) : Type 0 where
+  it : CodeUnit
+  there : slice_get ds k ≡ Some it
+  rest : drop k ds ≡ it ∷ drop (k + 1) ds
+
+at_place : (ds : List CodeUnit) (k : ℕ) → ((slice_get ds k ≡ None) × (drop k ds ≡ [])) ⊎ AtPlace ds k
+at_place [] zero = inl (refl, refl)
+at_place [] (suc k) = inl (refl, refl)
+at_place (d ∷ ds) zero = inr (record { it = d; there = refl; rest = refl })
+at_place (d ∷ ds) (suc k) = go (at_place ds k)
+  where
+    go : ((slice_get ds k ≡ None) × (drop k ds ≡ [])) ⊎ AtPlace ds k → ((slice_get (d ∷ ds) (suc k) ≡ None) × (drop (suc k) (d ∷ ds) ≡ [])) ⊎ AtPlace (d ∷ ds) (suc k)
+    go (inl h) = inl h
+    go (inr h) = inr (record { it = h.it; there = h.there; rest = h.rest })
+
+pub unlike_step : (cs ds : List CodeUnit) (k : ℕ) (d : CodeUnit) → k < length cs →
+    first_unlike k (drop k cs) (drop k ds) ≡ (if alike_in (get_or cs k d) (slice_get ds k) then first_unlike (k + 1) (drop (k + 1) cs) (drop (k + 1) ds) else Some k)
+unlike_step cs ds k d lt = at_drop_more (λ (xs : List CodeUnit). first_unlike k xs (drop k ds)) cs k d lt ∙ go (at_place ds k)
+  where
+    go : ((slice_get ds k ≡ None) × (drop k ds ≡ [])) ⊎ AtPlace ds k → first_unlike k (get_or cs k d ∷ drop (k + 1) cs) (drop k ds)
+        ≡ (if alike_in (get_or cs k d) (slice_get ds k) then first_unlike (k + 1) (drop (k + 1) cs) (drop (k + 1) ds) else Some k)
+    go (inl h) =
+        ap (λ (ys : List CodeUnit). first_unlike k (get_or cs k d ∷ drop (k + 1) cs) ys) h.1
+        ∙ sym (ap (λ (o : Option CodeUnit). if alike_in (get_or cs k d) o then first_unlike (k + 1) (drop (k + 1) cs) (drop (k + 1) ds) else Some k) h.0)
+    go (inr h) =
+        ap (λ (ys : List CodeUnit). first_unlike k (get_or cs k d ∷ drop (k + 1) cs) ys) h.rest
+        ∙ ap (λ (n : ℕ). if listed_alike (get_or cs k d) h.it then first_unlike n (drop (k + 1) cs) (drop (k + 1) ds) else Some k) (sym (add-one k))
+        ∙ sym (ap (λ (o : Option CodeUnit). if alike_in (get_or cs k d) o then first_unlike (k + 1) (drop (k + 1) cs) (drop (k + 1) ds) else Some k) h.there)
+
+pub unlike_here : (cs ds : List CodeUnit) (k : ℕ) (d : CodeUnit) (whole : Option ℕ) → k < length cs → alike_in (get_or cs k d) (slice_get ds k) ≡ false → first_unlike k (drop k cs) (drop k ds) ≡ whole → Some k ≡ whole
+unlike_here cs ds k d whole lt e h = sym (unlike_step cs ds k d lt ∙ ap (λ (b : Bool). if b then first_unlike (k + 1) (drop (k + 1) cs) (drop (k + 1) ds) else Some k) e) ∙ h
+
+pub unlike_past : (cs ds : List CodeUnit) (k : ℕ) (d : CodeUnit) (whole : Option ℕ) → k < length cs → alike_in (get_or cs k d) (slice_get ds k) ≡ true → first_unlike k (drop k cs) (drop k ds) ≡ whole →
+    first_unlike (k + 1) (drop (k + 1) cs) (drop (k + 1) ds) ≡ whole
+unlike_past cs ds k d whole lt e h = sym (unlike_step cs ds k d lt ∙ ap (λ (b : Bool). if b then first_unlike (k + 1) (drop (k + 1) cs) (drop (k + 1) ds) else Some k) e) ∙ h
+
+pub unlike_longer : (cs ds : List CodeUnit) (k : ℕ) (whole : Option ℕ) → length cs ≤ k → k < length ds → first_unlike k (drop k cs) (drop k ds) ≡ whole → Some k ≡ whole
+unlike_longer cs ds k whole le lt h = sym (at_drop_all (λ (xs : List CodeUnit). first_unlike k xs (drop k ds)) cs k le ∙ go (at_place ds k)) ∙ h
+  where
+    within : (xs : List CodeUnit) (n : ℕ) → slice_get xs n ≡ None → length xs ≤ n
+    within [] n e = omega arith
+    within (x ∷ xs) zero e = absurd cc
+    within (x ∷ xs) (suc n) e = let w = within xs n e in omega (arith, w)
+
+    go : ((slice_get ds k ≡ None) × (drop k ds ≡ [])) ⊎ AtPlace ds k → first_unlike k [] (drop k ds) ≡ Some k
+    go (inl e) = let w = within ds k e.0 in absurd (omega (arith, lt, w))
+    go (inr e) = ap (first_unlike k []) e.rest
+
+pub unlike_none : (cs ds : List CodeUnit) (k : ℕ) (whole : Option ℕ) → length cs ≤ k → length ds ≤ k → first_unlike k (drop k cs) (drop k ds) ≡ whole → None ≡ whole
+unlike_none cs ds k whole le more h =
+    sym (at_drop_all (λ (xs : List CodeUnit). first_unlike k xs (drop k ds)) cs k le ∙ at_drop_all (λ (ys : List CodeUnit). first_unlike k [] ys) ds k more) ∙ h
+
+-- ---- the lists of two programs
+
+pub listed_law : (names : Names) (live : Option Occ → Bool) (work : Work) (text : LibraryName → List ℕ) (uris : List (List ℕ)) (before after : List Placed) (p q : Program) (cs ds : List CodeUnit) (found : Option ℕ) → TellsApart text p q → AreDistinct uris →
+    UnitsStand work text uris before p 0 cs p.units → UnitsStand work text uris after q 0 ds q.units → found ≡ first_unlike 0 cs ds →
+    FindsFirst names live (listed_stretches p q 0 (max (length p.units) (length q.units))) (found_at found)
+listed_law names live work text uris before after p q cs ds found tells apart h g f =
+    let one = as_many work text uris before p 0 cs p.units h in
+    let other = as_many work text uris after q 0 ds q.units g in
+    let many : max (length p.units) (length q.units) ≡ max (length cs) (length ds) = (λ j. max (sym one j) (sym other j)) in
+    subst (λ (o : Option ℕ). FindsFirst names live (listed_stretches p q 0 (max (length p.units) (length q.units))) (found_at o)) (sym f)
+    (lists_found names live work text uris before after p q tells apart (max (length p.units) (length q.units)) 0 cs ds (units_from work text uris before p cs h) (units_from work text uris after q ds g) many)

@@ -27,6 +27,7 @@ use Rattle.core_tree.specs.declared.units.UnitError.{UnitError}
 use Rattle.core_tree.specs.declared.traces.FormFault.{FormFault}
 use Rattle.program_leaves.specs.Placed.{unless_fault}
 use Rattle.program_differences.specs.Both.{ItemsStand}
+use Rattle.program_differences.specs.Listed.{forms_of}
 
 -- ---- units from a place on
 
@@ -173,53 +174,53 @@ form_at work unit cs fs h n c items lt is kept =
 
 -- ---- Errors
 
-abbrev forms_of : List (ℕ × ℕ) → List ℕ
-forms_of es = map (λ (e : ℕ × ℕ). e.1) es
+abbrev seconds : List (ℕ × ℕ) → List ℕ
+seconds es = map (λ (e : ℕ × ℕ). e.1) es
 
-forms_both : (xs ys : List (ℕ × ℕ)) → forms_of (xs ++ ys) ≡ forms_of xs ++ forms_of ys
+forms_both : (xs ys : List (ℕ × ℕ)) → seconds (xs ++ ys) ≡ seconds xs ++ seconds ys
 forms_both xs ys = map-append (λ (e : ℕ × ℕ). e.1) xs ys
 
 sets_same : (unit form : ℕ) (fs : List ModelForm) → code.set_forms unit form fs ≡ same.set_forms unit form fs
 sets_same unit form [] = refl
 sets_same unit form (f ∷ fs) = ap (λ (q : List ℕ). map (λ (s : ImportSpec). form) (specs_in unit form f) ++ q) (sets_same unit (suc form) fs)
 
-clash_forms : (form : ℕ) (ss : List (List ℕ)) → forms_of (map (λ s. (52, form)) ss) ≡ map (λ s. form) ss
+clash_forms : (form : ℕ) (ss : List (List ℕ)) → seconds (map (λ s. (52, form)) ss) ≡ map (λ s. form) ss
 clash_forms form [] = refl
 clash_forms form (s ∷ ss) = ap (λ (q : List ℕ). form ∷ q) (clash_forms form ss)
 
-set_errors_same : (xs : List (ℕ × SetResult)) → forms_of (code.set_errors xs) ≡ same.set_errors xs
+set_errors_same : (xs : List (ℕ × SetResult)) → seconds (code.set_errors xs) ≡ same.set_errors xs
 set_errors_same [] = refl
 set_errors_same ((form, Unknown) ∷ xs) = set_errors_same xs
 set_errors_same ((form, Faulty f) ∷ xs) = ap (λ (q : List ℕ). form ∷ q) (set_errors_same xs)
 set_errors_same ((form, Gives es clashes) ∷ xs) =
     forms_both (map (λ s. (52, form)) clashes) (code.set_errors xs) ∙ (λ j. clash_forms form clashes j ++ set_errors_same xs j)
 
-export_errors_same : (fs : List ExportFault) → forms_of (code.export_errors fs) ≡ same.export_errors fs
+export_errors_same : (fs : List ExportFault) → seconds (code.export_errors fs) ≡ same.export_errors fs
 export_errors_same [] = refl
 export_errors_same (NotDefined x ∷ fs) = ap (λ (q : List ℕ). x.form ∷ q) (export_errors_same fs)
 export_errors_same (SameExport x ∷ fs) = ap (λ (q : List ℕ). x.form ∷ q) (export_errors_same fs)
 
-one_form : (form : ℕ) (r : Result Parts Broken) (met : Counted) (fs : List Formed) → forms_of (code.form_errors fs) ≡ same.form_errors fs →
-    forms_of (code.form_errors (record { form = form; result = r; counted = met } ∷ fs)) ≡ same.form_errors (record { form = form; result = r; counted = met } ∷ fs)
+one_form : (form : ℕ) (r : Result Parts Broken) (met : Counted) (fs : List Formed) → seconds (code.form_errors fs) ≡ same.form_errors fs →
+    seconds (code.form_errors (record { form = form; result = r; counted = met } ∷ fs)) ≡ same.form_errors (record { form = form; result = r; counted = met } ∷ fs)
 one_form form (Ok ps) met fs e = e
 one_form form (Err b) met fs e = ap (λ (q : List ℕ). form ∷ q) e
 
-form_errors_same : (fs : List Formed) → forms_of (code.form_errors fs) ≡ same.form_errors fs
+form_errors_same : (fs : List Formed) → seconds (code.form_errors fs) ≡ same.form_errors fs
 form_errors_same [] = refl
 form_errors_same (f ∷ fs) = one_form f.form f.result f.counted fs (form_errors_same fs)
 
 by_fault : (u : Prepared) (fault : Option WholeFault) (sets : List SetResult) (entries : List Entry) (forms : List Formed) (exports : List Entry) (faults : List ExportFault) →
-    forms_of (code.unit_errors (record { unit = u; fault = fault; sets = sets; entries = entries; forms = forms; exports = exports; export_faults = faults }))
+    seconds (code.unit_errors (record { unit = u; fault = fault; sets = sets; entries = entries; forms = forms; exports = exports; export_faults = faults }))
     ≡ same.errors_of (record { unit = u; fault = fault; sets = sets; entries = entries; forms = forms; exports = exports; export_faults = faults })
 by_fault u (Some f) sets entries forms exports faults = refl
 by_fault u None sets entries forms exports faults =
     forms_both (code.set_errors (zip (code.set_forms u.number 0 u.forms) sets)) (code.export_errors faults ++ code.form_errors forms)
-    ∙ (λ j. (ap (λ (ns : List ℕ). forms_of (code.set_errors (zip ns sets))) (sets_same u.number 0 u.forms) ∙ set_errors_same (zip (same.set_forms u.number 0 u.forms) sets)) j
+    ∙ (λ j. (ap (λ (ns : List ℕ). seconds (code.set_errors (zip ns sets))) (sets_same u.number 0 u.forms) ∙ set_errors_same (zip (same.set_forms u.number 0 u.forms) sets)) j
         ++ (forms_both (code.export_errors faults) (code.form_errors forms) ∙ (λ i. export_errors_same faults i ++ form_errors_same forms i)) j)
 
-error_forms : (es : List UnitError) → map (λ (e : UnitError). e.form) es ≡ forms_of (map code.error_as es)
+error_forms : (es : List UnitError) → forms_of es ≡ seconds (map code.error_as es)
 error_forms [] = refl
 error_forms (e ∷ es) = ap (λ (q : List ℕ). e.form ∷ q) (error_forms es)
 
-pub errors_are : (es : List UnitError) (r : UnitResult) → map code.error_as es ≡ code.unit_errors r → map (λ (e : UnitError). e.form) es ≡ same.errors_of r
-errors_are es r h = error_forms es ∙ ap forms_of h ∙ by_fault r.unit r.fault r.sets r.entries r.forms r.exports r.export_faults
+pub errors_are : (es : List UnitError) (r : UnitResult) → map code.error_as es ≡ code.unit_errors r → forms_of es ≡ same.errors_of r
+errors_are es r h = error_forms es ∙ ap seconds h ∙ by_fault r.unit r.fault r.sets r.entries r.forms r.exports r.export_faults

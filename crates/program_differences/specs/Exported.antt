@@ -1,8 +1,11 @@
 -- The names that exports are asked to have, and exports as they are given.
 use Rattle.std.specs.Prelude.{◌≡◌, ◌==◌, ◌&&◌, ℕ, List, [], ◌∷◌, map, Option, Some, None, if◌then◌else◌}
 use Rattle.std.specs.Str.{bytes_eq}
+use Rattle.std.specs.List.{flat_map}
 use Rattle.scheme_model.specs.Entries.{Entry}
+use Rattle.scheme_model.specs.Substitution.{Table}
 use Rattle.scheme_model.specs.Program.{ExportSpec, UnitResult, Program, result_at}
+use Rattle.rename_model.specs.Walks.{Point}
 use Rattle.rename_model.specs.SameProgram as same
 use Rattle.core_tree.specs.Names.{AllMatch}
 use Rattle.core_tree.specs.Units.{externals}
@@ -36,3 +39,7 @@ AreGiven p r = AllMatch IsGiven r.exports (externals p.table r)
 
 abbrev pub ExportsAreGiven : Program → Type 0
 ExportsAreGiven p = (n : ℕ) (r : UnitResult) → result_at p.units n ≡ Some r → AreGiven p r
+
+-- the points of exports
+abbrev pub all_exports : Table → (List ℕ → List ℕ) → List ExportSpec → List Entry → List Point
+all_exports table asked xs es = flat_map (same.export_points table asked xs) es

@@ -18,6 +18,10 @@ abbrev pub listed_alike : CodeUnit → CodeUnit → Bool
 listed_alike c d =
     ((bytes_eq c.uri d.uri && (kind_number (kind_as c.kind) == kind_number (kind_as d.kind))) && (length c.forms == length d.forms)) && same_name c.name d.name
 
+abbrev pub alike_in : CodeUnit → Option CodeUnit → Bool
+alike_in c None = false
+alike_in c (Some d) = listed_alike c d
+
 -- the first place at which two lists differ, from a place on
 abbrev pub first_unlike : ℕ → List CodeUnit → List CodeUnit → Option ℕ
 first_unlike place [] [] = None

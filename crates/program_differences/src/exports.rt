@@ -1,5 +1,5 @@
 //! The exports of a unit of two programs, compared by their names, with those that are asked to change, and by their meanings.
-ghost use Rattle.std.specs.Prelude.{◌≡◌, ◌==◌, ◌++◌, ◌<◌, ℕ, suc, List, [], ◌∷◌, length, Bool, Option, Some, IfOk, OnOk};
+ghost use Rattle.std.specs.Prelude.{◌≡◌, ◌==◌, ◌++◌, ◌<◌, ℕ, suc, List, [], ◌∷◌, length, Bool, Option, Some, None, if◌then◌else◌, IfOk, OnOk};
 ghost use Rattle.std.specs.BTreeMap.{get_by_text};
 ghost use Rattle.std.specs.Str.{bytes_eq};
 ghost use Rattle.scheme_model.specs.declared.Occ.{Occ as AnyOcc};
@@ -38,7 +38,7 @@ use syntax_tree::units::Entry;
 
 /// Notes the name that an export is asked to have. Of several for one name the first counts.
 fn ask(alloc: Global, change: &ExportChange, asked: &mut BTreeMap<String, Text>) -> Mem<()>
-    ensures { OnOk result ((s : List ℕ) → get_by_text asked.new s ≡ first_given (get_by_text asked.old s) (asked_at change.now.unit (change.now ∷ []) s)) }
+    ensures { OnOk result ((s : List ℕ) → get_by_text asked.new s ≡ first_given (get_by_text asked.old s) (if bytes_eq change.now.old s then Some change.now.new else None)) }
 {
     let name = change.old.as_str();
     if asked.contains_key(name) {
@@ -60,10 +60,10 @@ fn ask_in(
 ) -> Mem<()>
     ensures { OnOk result ((s : List ℕ) → get_by_text asked.new s ≡ first_given (get_by_text asked.old s) (asked_at unit (change.now ∷ []) s)) }
 {
-    if change.unit as usize == unit {
-        ask(alloc, change, asked)?;
+    if change.unit as usize != unit {
+        return Ok(());
     }
-    Ok(())
+    Ok(ask(alloc, change, asked)?)
 }
 
 /// The names that the exports of a unit are asked to have, by the names that they have.

@@ -1,5 +1,5 @@
 //! The lists of units of two programs, compared, and the Errors of a unit.
-ghost use Rattle.std.specs.Prelude.{◌≡◌, ◌==◌, ℕ, List, [], ◌∷◌, length, map, max, Bool, Option, Some, None};
+ghost use Rattle.std.specs.Prelude.{◌≡◌, ◌==◌, ℕ, List, [], ◌∷◌, length, map, max, slice_get, Bool, Option, Some, None};
 ghost use Rattle.scheme_model.specs.declared.Occ.{Occ as AnyOcc};
 ghost use Rattle.scheme_model.specs.Program.{Placed, UnitResult, Program as ModelProgram};
 ghost use Rattle.scheme_model.specs.Requirements.{LibraryName};
@@ -8,7 +8,7 @@ ghost use Rattle.syntax_tree.specs.Names.{Names};
 ghost use Rattle.syntax_tree.specs.declared.trees.Work.{Work};
 ghost use Rattle.core_tree.specs.Units.{kind_as, error_as, unit_errors, UnitsStand};
 ghost use Rattle.program_differences.specs.Apart.{FindsFirst};
-ghost use Rattle.program_differences.specs.Listed.{same_name, listed_alike, first_unlike as model_unlike, AreAlike, forms_of, least_among, TellsApart, AreDistinct};
+ghost use Rattle.program_differences.specs.Listed.{same_name, listed_alike, first_unlike as model_unlike, alike_in, AreAlike, forms_of, least_among, least_or, TellsApart, AreDistinct};
 
 use alpha_equal::points::{Pair, SHAPE, Shown, Spot, Told};
 use core_tree::units::{Unit, UnitError};
@@ -71,12 +71,22 @@ fn is_listed_alike(old: &Unit, new: &Unit) -> bool
         && is_same_name(&old.name, &new.name)
 }
 
+/// Whether a unit is the same as the one at a place of a list, where there is one.
+fn is_alike_at(unit: &Unit, units: &[Unit], place: usize) -> bool
+    ensures { result ≡ alike_in unit.now (slice_get units.now place) }
+{
+    if place >= units.len() {
+        return false;
+    }
+    is_listed_alike(unit, &units[place])
+}
+
 /// The first place at which two lists of units differ.
 fn first_unlike(old: &[Unit], new: &[Unit]) -> Option<usize>
     ensures { result ≡ model_unlike 0 old.now new.now }
 {
     for place in 0..old.len() {
-        if place >= new.len() || !is_listed_alike(&old[place], &new[place]) {
+        if !is_alike_at(&old[place], new, place) {
             return Some(place);
         }
     }
@@ -105,16 +115,28 @@ pub fn listed_apart<'a>(old: &[Unit], new: &[Unit]) -> Option<Apart<'a>>
 
 // ---- Errors
 
+/// The lesser of a form and one that was found before.
+fn lesser(least: Option<u32>, form: u32) -> u32
+    ensures { Some result ≡ least_or least (form ∷ []) }
+{
+    match least {
+        None => form,
+        Some(other) => {
+            if other <= form {
+                return other;
+            }
+            form
+        }
+    }
+}
+
 /// The least form with an Error.
 fn least_form(errors: &[UnitError]) -> Option<u32>
     ensures { result ≡ least_among (forms_of errors.now) }
 {
     let mut least = None;
     for error in errors {
-        least = match least {
-            None => Some(error.form),
-            Some(form) => Some(if form <= error.form { form } else { error.form }),
-        };
+        least = Some(lesser(least, error.form));
     }
     least
 }

@@ -6,7 +6,7 @@ ghost use Rattle.std.specs.Ordering.{nat_cmp};
 ghost use Rattle.scheme_model.specs.Trees.{Atom, atom};
 ghost use Rattle.scheme_model.specs.RulesShape.{Rules as ModelRules, Rule as ModelRule, Variable as ModelVariable, role_of};
 ghost use Rattle.scheme_model.specs.Ident.{Ident as Identifier};
-ghost use Rattle.rename_model.specs.Walks.{TreeNode as ModelNode, Seen as ModelSeen, Shown as ModelShown, Slot as ModelSlot, Fixed, AtRule, OfNode, OfNumber, ShowsNothing, IsTrue, IsFalse, truth_number as model_number, in_rules as model_in_rules, atom_points, list_points, vector_points, rule_slots, pattern_name, template_name, slots_of_rule, slots_of as model_slots};
+ghost use Rattle.rename_model.specs.Walks.{TreeNode as ModelNode, Seen as ModelSeen, Shown as ModelShown, Slot as ModelSlot, Fixed, AtRule, OfNode, OfNumber, ShowsNothing, in_rules as model_in_rules, atom_points, list_points, vector_points, rule_slots, pattern_name, template_name, slots_of_rule, slots_of as model_slots};
 ghost use Rattle.syntax_tree.specs.Macros.{identifiers, IsRule, AreRules, AreRolesOf, RulesFor, TellsRoles, role_as};
 ghost use Rattle.syntax_tree.specs.Names.{Names};
 ghost use Rattle.syntax_tree.specs.Placed.{IsNamed};
@@ -21,6 +21,7 @@ ghost use Rattle.program_differences.specs.Variables.{variable_in, numbered, pla
 
 use alpha_equal::nodes::Node;
 use alpha_equal::points::{Point, Seen, Shown, Spot, Told};
+use alpha_equal::quoted::{truth_node, truth_number};
 use alpha_equal::slots::Slot;
 use alpha_equal::trees::{TreeNode, pattern_nodes, template_nodes};
 use ls_base::Mem;
@@ -73,20 +74,6 @@ fn add_number(number: usize, slots: &mut Vec<Slot<'_>>) -> Mem<()>
     ensures { (names : Names) (unit form : ℕ) → OnOk result (Adds (IsSlot names unit form) slots.old.items slots.new.items (model_in_rules (OfNumber number) None ShowsNothing ∷ [])) }
 {
     Ok(add_seen(Seen::Number(number as u64), None, slots)?)
-}
-
-/// A truth value as a number.
-pub fn truth_number(holds: bool) -> usize
-    ensures { result ≡ model_number holds }
-{
-    if holds { 1 } else { 0 }
-}
-
-/// The node of a truth value.
-fn truth_node(holds: bool) -> Node
-    ensures { node_as result ≡ (if holds then IsTrue else IsFalse) }
-{
-    if holds { Node::True } else { Node::False }
 }
 
 /// Adds an atom, which is told with its place.
