@@ -20,7 +20,7 @@ use Rattle.program_differences.specs.declared.both.Programs.{Programs}
 use Rattle.program_differences.specs.declared.both.Both.{Both}
 use Rattle.program_differences.specs.declared.listed.Apart.{Apart}
 use Rattle.program_differences.specs.Apart.{AreFound, IsApart}
-use Rattle.program_differences.specs.Both.{BothStand, IsUnitOf, AreBoth, ProgramsStand, AreStanding}
+use Rattle.program_differences.specs.Both.{BothStand, IsUnitOf, AreBoth, ProgramsStand, AreStanding, AreComparable}
 use Rattle.program_differences.specs.Listed.{AreAlike}
 use Rattle.program_differences.proofs.ApartLaws.{none_found}
 use Rattle.program_differences.proofs.UnitLaws.{UnitAt, units_from, unit_found, none_behind, there_at}
@@ -47,10 +47,13 @@ nothing_there live p q changes n e f = (λ j. first_among live (unit_stretches p
 
 -- ---- two programs
 
-pub programs_stand : (c : Programs) (work : Work) (old new : code.Program) → c.work.now ≡ work → c.old.now ≡ old → c.new.now ≡ new → IsProgramOf work old → IsProgramOf work new → AreStanding c
-programs_stand c work old new w o n h g = record {
-  old = subst (λ (x : Work). IsProgramOf x c.old.now) (sym w) (subst (IsProgramOf work) (sym o) h);
-  new = subst (λ (x : Work). IsProgramOf x c.new.now) (sym w) (subst (IsProgramOf work) (sym n) g);
+pub is_program : (work : Work) (text : LibraryName → List ℕ) (uris : List (List ℕ)) (all : List Placed) (c : code.Program) (p : Program) → ProgramStands work text uris all c p → IsProgramOf work c
+is_program work text uris all c p h = (text, uris, all, p, h)
+
+pub are_standing : (c : Programs) → AreComparable c.work.now c.old.now c.new.now → AreStanding c
+are_standing c h = record {
+  old = is_program c.work.now h.text h.uris h.before c.old.now h.p h.old_stands;
+  new = is_program c.work.now h.text h.uris h.after c.new.now h.q h.new_stands;
 }
 
 pub programs_are : (c : Programs) (work : Work) (old new : code.Program) (text : LibraryName → List ℕ) (uris : List (List ℕ)) (before after : List Placed) (p q : Program) → c.work.now ≡ work → c.old.now ≡ old → c.new.now ≡ new →
@@ -59,6 +62,24 @@ programs_are c work old new text uris before after p q w o n h g = record {
   old = subst (λ (x : Work). ProgramStands x text uris before c.old.now p) (sym w) (subst (λ (x : code.Program). ProgramStands work text uris before x p) (sym o) h);
   new = subst (λ (x : Work). ProgramStands x text uris after c.new.now q) (sym w) (subst (λ (x : code.Program). ProgramStands work text uris after x q) (sym n) g);
 }
+
+pub comparable : (c : Programs) (work : Work) (old new : code.Program) → c.work.now ≡ work → c.old.now ≡ old → c.new.now ≡ new → AreComparable work old new → AreComparable c.work.now c.old.now c.new.now
+comparable c work old new w o n h =
+    let are = programs_are c work old new h.text h.uris h.before h.after h.p h.q w o n h.old_stands h.new_stands in
+    record {
+      text = h.text;
+      uris = h.uris;
+      before = h.before;
+      after = h.after;
+      p = h.p;
+      q = h.q;
+      tells = h.tells;
+      distinct = h.distinct;
+      old_stands = are.old;
+      new_stands = are.new;
+      old_given = h.old_given;
+      new_given = h.new_given;
+    }
 
 -- ---- what is live
 
@@ -75,3 +96,7 @@ nothing_found names q (Some c) e h = absurd cc
 pub one_found : (names : Names) (q : Option model.Apart) (c : Apart) → AreFound names (Some c) q → (a : model.Apart) × (q ≡ Some a) × IsApart names c a
 one_found names None c h = absurd h
 one_found names (Some a) c h = (a, refl, h)
+
+-- the same of what was found
+pub found_of : (names : Names) (q : Option model.Apart) (found other : Option Apart) → found ≡ other → AreFound names found q → AreFound names other q
+found_of names q found other e h = subst (λ (x : Option Apart). AreFound names x q) e h

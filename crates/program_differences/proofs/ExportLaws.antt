@@ -267,12 +267,17 @@ module _ (live : Option Occ → Bool) (old new : Table) (asked : List ℕ → Li
       ap (λ (ps : same.Partners). if bytes_eq (asked e.name) d.name then (if agree [] (meaning_seen old e.meaning) (meaning_seen new d.meaning) then first_apart live (ps ++ []) os ns else Some (meaning_before e, meaning_after d)) else Some (name_before e, name_after d))
       (nothing_paired old e.meaning (meaning_seen new d.meaning))
 
+  abbrev Two : Type 0
+  Two = Option (Point × Point)
+
+  abbrev outcome : Bool → Bool → Entry → Entry → Two → Two
+  outcome a b e d rest = if a then (if b then rest else Some (meaning_before e, meaning_after d)) else Some (name_before e, name_after d)
+
   -- exports that are the same are followed by the others
   pub export_past : (e d : Entry) (os ns : List Point) → first_apart live [] (before e) (after d) ≡ None → first_apart live [] (before e ++ os) (after d ++ ns) ≡ first_apart live [] os ns
   export_past e d os ns h = export_step e d os ns ∙ go (bytes_eq (asked e.name) d.name) (agree [] (meaning_seen old e.meaning) (meaning_seen new d.meaning)) (sym (export_step e d [] []) ∙ h)
     where
-      go : (a b : Bool) → (if a then (if b then None else Some (meaning_before e, meaning_after d)) else Some (name_before e, name_after d)) ≡ None →
-          (if a then (if b then first_apart live [] os ns else Some (meaning_before e, meaning_after d)) else Some (name_before e, name_after d)) ≡ first_apart live [] os ns
+      go : (a b : Bool) → outcome a b e d None ≡ None → outcome a b e d (first_apart live [] os ns) ≡ first_apart live [] os ns
       go true true h = refl
       go true false h = absurd cc
       go false b h = absurd cc
@@ -283,8 +288,7 @@ module _ (live : Option Occ → Bool) (old new : Table) (asked : List ℕ → Li
       subst (ArePair names unit 0 (Some c)) (sym (export_step e d os ns))
       (go (bytes_eq (asked e.name) d.name) (agree [] (meaning_seen old e.meaning) (meaning_seen new d.meaning)) (subst (ArePair names unit 0 (Some c)) (export_step e d [] []) h))
     where
-      go : (a b : Bool) → ArePair names unit 0 (Some c) (if a then (if b then None else Some (meaning_before e, meaning_after d)) else Some (name_before e, name_after d)) →
-          ArePair names unit 0 (Some c) (if a then (if b then first_apart live [] os ns else Some (meaning_before e, meaning_after d)) else Some (name_before e, name_after d))
+      go : (a b : Bool) → ArePair names unit 0 (Some c) (outcome a b e d None) → ArePair names unit 0 (Some c) (outcome a b e d (first_apart live [] os ns))
       go true true h = absurd h
       go true false h = h
       go false b h = h
@@ -298,18 +302,18 @@ module _ (names : Names) (live : Option Occ → Bool) (old new : Table) (asked :
   abbrev all_after : List Entry → List Point
   all_after ds = all_exports new (λ s. s) ys ds
 
-  pub exports_past : (cs as : List code_entry.Entry) (es ds : List Entry) (k : ℕ) (c : code_entry.Entry) (e d : Entry) → EntryAt names cs es k c e → EntryAt names as ds k c d →
+  pub exports_past : (cs bs : List code_entry.Entry) (es ds : List Entry) (k : ℕ) (c : code_entry.Entry) (e d : Entry) → EntryAt names cs es k c e → EntryAt names bs ds k c d →
       first_apart live [] (export_points old asked xs (get_or es k e)) (export_points new (λ s. s) ys (get_or ds k d)) ≡ None →
       first_apart live [] (all_before (drop k es)) (all_after (drop k ds)) ≡ first_apart live [] (all_before (drop (k + 1) es)) (all_after (drop (k + 1) ds))
-  exports_past cs as es ds k c e d a b h =
+  exports_past cs bs es ds k c e d a b h =
       (λ j. first_apart live [] (all_before (a.is j)) (all_after (b.is j)))
       ∙ export_past live old new asked xs ys (get_or es k e) (get_or ds k d) (all_before (drop (suc k) es)) (all_after (drop (suc k) ds)) h
       ∙ ap (λ (n : ℕ). first_apart live [] (all_before (drop n es)) (all_after (drop n ds))) (sym (add-one k))
 
-  pub exports_here : (unit : ℕ) (pair : Pair) (cs as : List code_entry.Entry) (es ds : List Entry) (k : ℕ) (c : code_entry.Entry) (e d : Entry) → EntryAt names cs es k c e → EntryAt names as ds k c d →
+  pub exports_here : (unit : ℕ) (pair : Pair) (cs bs : List code_entry.Entry) (es ds : List Entry) (k : ℕ) (c : code_entry.Entry) (e d : Entry) → EntryAt names cs es k c e → EntryAt names bs ds k c d →
       ArePair names unit 0 (Some pair) (first_apart live [] (export_points old asked xs (get_or es k e)) (export_points new (λ s. s) ys (get_or ds k d))) →
       ArePair names unit 0 (Some pair) (first_apart live [] (all_before (drop k es)) (all_after (drop k ds)))
-  exports_here unit pair cs as es ds k c e d a b h =
+  exports_here unit pair cs bs es ds k c e d a b h =
       subst (ArePair names unit 0 (Some pair)) (λ j. first_apart live [] (all_before (sym a.is j)) (all_after (sym b.is j)))
       (export_here live old new asked xs ys names unit pair (get_or es k e) (get_or ds k d) (all_before (drop (suc k) es)) (all_after (drop (suc k) ds)) h)
 
@@ -328,33 +332,22 @@ module _ (names : Names) (unit : ℕ) (live : Option Occ → Bool) (old new : Ta
   abbrev Outcome : Option (Point × Point)
   Outcome = first_apart live [] (export_points old asked xs e) (export_points new (λ s. s) ys d)
 
-  step : Outcome ≡ (if bytes_eq (asked e.name) d.name then (if agree [] (meaning_seen old e.meaning) (meaning_seen new d.meaning) then None else Some (meaning_at old AtExport e.meaning (external_occ xs e.name), meaning_at new AtExport d.meaning (external_occ ys d.name)))
-      else Some (point AtExport (OfName IsString (asked e.name)) (external_occ xs e.name) (ShowsSymbol e.name), point AtExport (OfName IsString d.name) (external_occ ys d.name) (ShowsSymbol d.name)))
-  step = export_step live old new asked xs ys e d [] []
+  step : (a b : Bool) → bytes_eq (asked e.name) d.name ≡ a → agree [] (meaning_seen old e.meaning) (meaning_seen new d.meaning) ≡ b → Outcome ≡ outcome live old new asked xs ys a b e d None
+  step a b t m = export_step live old new asked xs ys e d [] [] ∙ (λ j. outcome live old new asked xs ys (t j) (m j) e d None)
 
   pub by_name : (before after : Told) → bytes_eq (asked e.name) d.name ≡ false → ((s : Seen) → IsTold names unit 0 before (point AtExport s (external_occ xs e.name) (ShowsSymbol e.name))) → ((s : Seen) → IsTold names unit 0 after (point AtExport s (external_occ ys d.name) (ShowsSymbol d.name))) →
       ArePair names unit 0 (Some (record { old = before; new = after })) Outcome
   by_name before after t f g =
-      subst (ArePair names unit 0 (Some (record { old = before; new = after })))
-      (sym (step ∙ ap (λ (b : Bool). if b then (if agree [] (meaning_seen old e.meaning) (meaning_seen new d.meaning) then None else Some (meaning_at old AtExport e.meaning (external_occ xs e.name), meaning_at new AtExport d.meaning (external_occ ys d.name)))
-          else Some (point AtExport (OfName IsString (asked e.name)) (external_occ xs e.name) (ShowsSymbol e.name), point AtExport (OfName IsString d.name) (external_occ ys d.name) (ShowsSymbol d.name))) t))
-      (f (OfName IsString (asked e.name)), g (OfName IsString d.name))
+      subst (ArePair names unit 0 (Some (record { old = before; new = after }))) (sym (step false (agree [] (meaning_seen old e.meaning) (meaning_seen new d.meaning)) t refl)) (f (OfName IsString (asked e.name)), g (OfName IsString d.name))
 
   pub by_meaning : (before after : Told) → bytes_eq (asked e.name) d.name ≡ true → agree [] (meaning_seen old e.meaning) (meaning_seen new d.meaning) ≡ false →
       ((s : Seen) → IsTold names unit 0 before (point AtExport s (external_occ xs e.name) (ShowsMeaning e.meaning))) → ((s : Seen) → IsTold names unit 0 after (point AtExport s (external_occ ys d.name) (ShowsMeaning d.meaning))) →
       ArePair names unit 0 (Some (record { old = before; new = after })) Outcome
   by_meaning before after t m f g =
-      subst (ArePair names unit 0 (Some (record { old = before; new = after })))
-      (sym (step ∙ (λ j. if t j then (if m j then None else Some (meaning_at old AtExport e.meaning (external_occ xs e.name), meaning_at new AtExport d.meaning (external_occ ys d.name)))
-          else Some (point AtExport (OfName IsString (asked e.name)) (external_occ xs e.name) (ShowsSymbol e.name), point AtExport (OfName IsString d.name) (external_occ ys d.name) (ShowsSymbol d.name)))))
-      (f (meaning_seen old e.meaning), g (meaning_seen new d.meaning))
+      subst (ArePair names unit 0 (Some (record { old = before; new = after }))) (sym (step true false t m)) (f (meaning_seen old e.meaning), g (meaning_seen new d.meaning))
 
   pub by_none : bytes_eq (asked e.name) d.name ≡ true → agree [] (meaning_seen old e.meaning) (meaning_seen new d.meaning) ≡ true → ArePair names unit 0 None Outcome
-  by_none t m =
-      subst (ArePair names unit 0 None)
-      (sym (step ∙ (λ j. if t j then (if m j then None else Some (meaning_at old AtExport e.meaning (external_occ xs e.name), meaning_at new AtExport d.meaning (external_occ ys d.name)))
-          else Some (point AtExport (OfName IsString (asked e.name)) (external_occ xs e.name) (ShowsSymbol e.name), point AtExport (OfName IsString d.name) (external_occ ys d.name) (ShowsSymbol d.name)))))
-      tt
+  by_none t m = subst (ArePair names unit 0 None) (sym (step true true t m)) tt
 
 -- ---- how many exports there are
 

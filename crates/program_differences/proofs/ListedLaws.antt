@@ -174,9 +174,10 @@ module _ (names : Names) (unit form : ℕ) (live : Option Occ → Bool) where
       UnitStands work text uris before p place c r → UnitStands work text uris after q place d s → Answers (listed_alike c d) (listed_points (Some r)) (listed_points (Some s))
   units_answer work text uris before after p q place c d r s tells apart at there h g =
       subst (λ (b : Bool). Answers b (listed_points (Some r)) (listed_points (Some s))) (sym tests)
-      (number_answer r.unit.placed.document s.unit.placed.document _ _ (kinds && (counts && named))
-          (number_answer (kind_number r.unit.placed.source.kind) (kind_number s.unit.placed.source.kind) _ _ (counts && named)
-              (number_answer (length r.unit.forms) (length s.unit.forms) _ _ named
+      (number_answer r.unit.placed.document s.unit.placed.document (number (kind_number r.unit.placed.source.kind) ∷ number (length r.unit.forms) ∷ name_points r.unit.placed.source.name)
+          (number (kind_number s.unit.placed.source.kind) ∷ number (length s.unit.forms) ∷ name_points s.unit.placed.source.name) (kinds && (counts && named))
+          (number_answer (kind_number r.unit.placed.source.kind) (kind_number s.unit.placed.source.kind) (number (length r.unit.forms) ∷ name_points r.unit.placed.source.name) (number (length s.unit.forms) ∷ name_points s.unit.placed.source.name) (counts && named)
+              (number_answer (length r.unit.forms) (length s.unit.forms) (name_points r.unit.placed.source.name) (name_points s.unit.placed.source.name) named
                   (names_answer text r.unit.placed.source.name s.unit.placed.source.name (λ m n e f.
                       tells m n (record { place = place; unit = r; there = at; name = e }) (record { place = place; unit = s; there = there; name = f }))))))
     where
@@ -256,13 +257,11 @@ pub are_alike : (place : ℕ) (cs ds : List CodeUnit) → first_unlike place cs 
 are_alike place [] [] h = record { count = refl; forms = λ n c d e f. absurd cc }
 are_alike place [] (d ∷ ds) h = absurd cc
 are_alike place (c ∷ cs) [] h = absurd cc
-are_alike place (c ∷ cs) (d ∷ ds) h = go (listed_alike c d) refl h
+are_alike place (c ∷ cs) (d ∷ ds) h = go (listed_alike c d) refl h (λ e. are_alike (suc place) cs ds e)
   where
-    go : (b : Bool) → listed_alike c d ≡ b → (if b then first_unlike (suc place) cs ds else Some place) ≡ None → AreAlike (c ∷ cs) (d ∷ ds)
-    go false e h = absurd cc
-    go true e h =
-        let rest = are_alike (suc place) cs ds h in
-        record { count = ap suc rest.count; forms = forms_at rest }
+    go : (b : Bool) → listed_alike c d ≡ b → (if b then first_unlike (suc place) cs ds else Some place) ≡ None → (first_unlike (suc place) cs ds ≡ None → AreAlike cs ds) → AreAlike (c ∷ cs) (d ∷ ds)
+    go false e h f = absurd cc
+    go true e h f = record { count = ap suc (f h).count; forms = forms_at (f h) }
       where
         forms_at : AreAlike cs ds → (n : ℕ) (a b : CodeUnit) → slice_get (c ∷ cs) n ≡ Some a → slice_get (d ∷ ds) n ≡ Some b → length a.forms ≡ length b.forms
         forms_at rest zero a b f g =
@@ -280,14 +279,19 @@ abbrev pub error_at : ℕ → Option ℕ → Option Apart
 error_at unit None = None
 error_at unit (Some form) = Some (record { unit = unit; form = form; pair = record { old = in_errors; new = in_errors } })
 
+abbrev at_errors : ℕ → Point
+at_errors n = point AtErrors (OfNumber n) None ShowsNothing
+
+error_step : (live : Option Occ → Bool) (n : ℕ) → first_apart live [] (error_points 0) (error_points n) ≡ (if 0 == n then None else Some (at_errors 0, at_errors n))
+error_step live n = ap (λ (b : Bool). if b then None else Some (at_errors 0, at_errors n)) (and_true (0 == n))
+
 pub error_found : (names : Names) (live : Option Occ → Bool) (unit : ℕ) (ns : List ℕ) → FindsFirst names live (stretch unit (least_of ns) (error_points 0) (error_points (length ns)) ∷ []) (error_at unit (least_among ns))
 error_found names live unit [] = tt
-error_found names live unit (n ∷ ns) = record {
-  unit = refl;
-  form = refl;
-  old = record { spot = refl; place = refl; shown = refl };
-  new = record { spot = refl; place = refl; shown = refl };
-}
+error_found names live unit (n ∷ ns) =
+    let some : (0 == suc (length ns)) ≡ false = grind (arith, nat_tests) in
+    pair_found names live (stretch unit (least_of (n ∷ ns)) (error_points 0) (error_points (suc (length ns)))) (Some (record { old = in_errors; new = in_errors }))
+    (subst (ArePair names unit (least_of (n ∷ ns)) (Some (record { old = in_errors; new = in_errors }))) (sym (error_step live (suc (length ns)) ∙ ap (λ (b : Bool). if b then None else Some (at_errors 0, at_errors (suc (length ns)))) some))
+        (record { spot = refl; place = refl; shown = refl }, record { spot = refl; place = refl; shown = refl }))
 
 -- ---- the least
 
@@ -329,7 +333,7 @@ error_law names live unit es r found h f =
 record AtPlace (ds : List CodeUnit) (k : ℕ) : Type 0 where
   it : CodeUnit
   there : slice_get ds k ≡ Some it
-  rest : drop k ds ≡ it ∷ drop (k + 1) ds
+  rest : drop k ds ≡ it ∷ drop (suc k) ds
 
 at_place : (ds : List CodeUnit) (k : ℕ) → ((slice_get ds k ≡ None) × (drop k ds ≡ [])) ⊎ AtPlace ds k
 at_place [] zero = inl (refl, refl)
@@ -352,7 +356,7 @@ unlike_step cs ds k d lt = at_drop_more (λ (xs : List CodeUnit). first_unlike k
         ∙ sym (ap (λ (o : Option CodeUnit). if alike_in (get_or cs k d) o then first_unlike (k + 1) (drop (k + 1) cs) (drop (k + 1) ds) else Some k) h.0)
     go (inr h) =
         ap (λ (ys : List CodeUnit). first_unlike k (get_or cs k d ∷ drop (k + 1) cs) ys) h.rest
-        ∙ ap (λ (n : ℕ). if listed_alike (get_or cs k d) h.it then first_unlike n (drop (k + 1) cs) (drop (k + 1) ds) else Some k) (sym (add-one k))
+        ∙ (λ j. if listed_alike (get_or cs k d) h.it then first_unlike (sym (add-one k) j) (drop (k + 1) cs) (drop (sym (add-one k) j) ds) else Some k)
         ∙ sym (ap (λ (o : Option CodeUnit). if alike_in (get_or cs k d) o then first_unlike (k + 1) (drop (k + 1) cs) (drop (k + 1) ds) else Some k) h.there)
 
 pub unlike_here : (cs ds : List CodeUnit) (k : ℕ) (d : CodeUnit) (whole : Option ℕ) → k < length cs → alike_in (get_or cs k d) (slice_get ds k) ≡ false → first_unlike k (drop k cs) (drop k ds) ≡ whole → Some k ≡ whole

@@ -90,26 +90,26 @@ filtered f p (c ∷ cs) [] h n = absurd h
 filtered f p (c ∷ cs) (r ∷ rs) h n =
     let rest = filter f (unit_numbers rs) in
     ap (λ (m : ℕ). is_in n (if f m then m ∷ rest else rest)) h.0.number
-    ∙ front (f p) (n == p) refl refl
+    ∙ front (filtered f (suc p) cs rs h.1 n) (f p) (n == p) refl refl
   where
     within : Bool
     within = nat_le p n && nat_lt n (p + suc (length cs))
 
-    front : (b q : Bool) → f p ≡ b → (n == p) ≡ q → is_in n (if b then p ∷ filter f (unit_numbers rs) else filter f (unit_numbers rs)) ≡ (f n && within)
-    front true true e k =
+    front : (is_in n (filter f (unit_numbers rs)) ≡ (f n && (nat_le (suc p) n && nat_lt n (suc p + length cs)))) → (b q : Bool) → f p ≡ b → (n == p) ≡ q → is_in n (if b then p ∷ filter f (unit_numbers rs) else filter f (unit_numbers rs)) ≡ (f n && within)
+    front more true true e k =
         let is : n ≡ p = grind (arith, nat_tests) in
         let inside : within ≡ true = grind (arith, nat_tests) in
         ap (λ (x : Bool). x || is_in n (filter f (unit_numbers rs))) k ∙ sym (λ j. (ap f is ∙ e) j && inside j)
-    front true false e k =
+    front more true false e k =
         let less : (nat_le (suc p) n && nat_lt n (suc p + length cs)) ≡ within = grind (arith, nat_tests) in
-        ap (λ (x : Bool). x || is_in n (filter f (unit_numbers rs))) k ∙ filtered f (suc p) cs rs h.1 n ∙ ap (λ (x : Bool). f n && x) less
-    front false true e k =
+        ap (λ (x : Bool). x || is_in n (filter f (unit_numbers rs))) k ∙ more ∙ ap (λ (x : Bool). f n && x) less
+    front more false true e k =
         let is : n ≡ p = grind (arith, nat_tests) in
         let gone : (nat_le (suc p) n && nat_lt n (suc p + length cs)) ≡ false = grind (arith, nat_tests) in
-        filtered f (suc p) cs rs h.1 n ∙ (λ j. (ap f is ∙ e) j && gone j) ∙ sym (ap (λ (x : Bool). x && within) (ap f is ∙ e))
-    front false false e k =
+        more ∙ (λ j. (ap f is ∙ e) j && gone j) ∙ sym (ap (λ (x : Bool). x && within) (ap f is ∙ e))
+    front more false false e k =
         let less : (nat_le (suc p) n && nat_lt n (suc p + length cs)) ≡ within = grind (arith, nat_tests) in
-        filtered f (suc p) cs rs h.1 n ∙ ap (λ (x : Bool). f n && x) less
+        more ∙ ap (λ (x : Bool). f n && x) less
 
 holders_are : (cs : List CodeUnit) (rs : List UnitResult) (os : List Occ) → HaveImports 0 cs rs → Marks (with_holders (replicate (length cs) false) os) (filter (holds_one os) (unit_numbers rs))
 holders_are cs rs os h n =
@@ -212,7 +212,7 @@ reach_is cs rs os h =
     let size : length bs ≡ length cs = length_holders (replicate (length cs) false) os ∙ length-replicate (length cs) false in
     let m = rounds_are (length cs) cs rs bs ns h size (holders_are cs rs os h) in
     let all : length (in_rounds (length cs) cs bs) ≡ length cs = length_rounds (length cs) cs bs ∙ size in
-    gathered 0 cs rs (in_rounds (length cs) cs bs) (λ n. is_in n (reaching rs (length cs) ns)) h all (λ n lt. m n)
+    gathered 0 cs rs (in_rounds (length cs) cs bs) (λ n. is_in n (reaching rs (length cs) ns)) h all (λ n lt. let plus : n ≡ 0 + n = omega arith in m n ∙ ap (λ (k : ℕ). is_in k (reaching rs (length cs) ns)) plus)
     ∙ ap (λ (k : ℕ). filter (λ n. is_in n (reaching rs k ns)) (unit_numbers rs)) (numbers_count 0 cs rs h)
 
 -- ---- marks by places
@@ -277,6 +277,11 @@ pub places_more : (bs : List Bool) (k : ℕ) (d : Bool) → k < length bs → ma
 places_more bs k d lt =
     at_drop_more (marks_from k) bs k d lt
     ∙ ap (λ (n : ℕ). if get_or bs k d then k ∷ marks_from n (drop (k + 1) bs) else marks_from n (drop (k + 1) bs)) (sym (add-one k))
+
+-- none was put in reach
+pub either_false : (a b : Bool) → (a || b) ≡ false → (a ≡ false) × (b ≡ false)
+either_false true b h = absurd cc
+either_false false b h = (refl, h)
 
 -- ---- what units import
 

@@ -52,13 +52,8 @@ mutual
   node_in role (atom a o) = refl
   node_in role (list ts tail o) =
       ap (flat_map (variable_in role)) (sym (plain nowhere ts tail o (no_escape ts tail)))
-      ∙ node_list role ts tail
+      ∙ flat_map-append (variable_in role) (nodes_among nowhere ts) (nodes_behind nowhere tail) ∙ (λ j. node_among role ts j ++ node_behind role tail j) ∙ sym (chosen_both role (names_among ts) (names_behind tail))
   node_in role (vector ts o) = node_among role ts
-
-  node_list : (role : Identifier → Role) (ts : Trees Identifier) (tail : Tail Identifier) →
-      flat_map (variable_in role) (nodes_among nowhere ts ++ nodes_behind nowhere tail) ≡ chosen role (names_among ts ++ names_behind tail)
-  node_list role ts tail =
-      flat_map-append (variable_in role) (nodes_among nowhere ts) (nodes_behind nowhere tail) ∙ (λ j. node_among role ts j ++ node_behind role tail j) ∙ sym (chosen_both role (names_among ts) (names_behind tail))
 
   node_among : (role : Identifier → Role) (ts : Trees Identifier) → flat_map (variable_in role) (nodes_among nowhere ts) ≡ chosen role (names_among ts)
   node_among role no_trees = refl
@@ -68,6 +63,11 @@ mutual
   node_behind : (role : Identifier → Role) (tail : Tail Identifier) → flat_map (variable_in role) (nodes_behind nowhere tail) ≡ chosen role (names_behind tail)
   node_behind role proper = refl
   node_behind role (dotted t) = node_in role t
+
+node_list : (role : Identifier → Role) (ts : Trees Identifier) (tail : Tail Identifier) →
+    flat_map (variable_in role) (nodes_among nowhere ts ++ nodes_behind nowhere tail) ≡ chosen role (names_among ts ++ names_behind tail)
+node_list role ts tail =
+    flat_map-append (variable_in role) (nodes_among nowhere ts) (nodes_behind nowhere tail) ∙ (λ j. node_among role ts j ++ node_behind role tail j) ∙ sym (chosen_both role (names_among ts) (names_behind tail))
 
 -- those of a pattern are the variables of its rule
 pub pattern_has : (r : Rules Identifier) (m : Rule Identifier) → flat_map (variable_in (role_of identifiers r)) (pattern_nodes m) ≡ map (λ v. v.variable) (pattern_variables identifiers r m)
@@ -92,7 +92,8 @@ pub numbered_more : (vs : List code.Named) (i n : ℕ) (d : code.Named) (old new
     new ≡ first_or old (if (get_or vs i d).ident == n then Some (record { place = i; occ = (get_or vs i d).occ }) else None) → new ≡ numbered 0 (take (i + 1) vs) n
 numbered_more vs i n d old new lt h k =
     let v = get_or vs i d in
-    let place : i ≡ 0 + length (take i vs) = sym (length_take i vs (omega (arith, lt))) in
+    let long = length_take i vs (omega (arith, lt)) in
+    let place : i ≡ 0 + length (take i vs) = omega (arith, long) in
     k ∙ (λ j. first_or (h j) (if v.ident == n then Some (record { place = place j; occ = v.occ }) else None))
     ∙ sym (numbered-append 0 (take i vs) (v ∷ []) n) ∙ ap (λ (q : List code.Named). numbered 0 q n) (sym (take_more vs i d lt))
 
@@ -148,7 +149,7 @@ literals_are names (n ∷ ns) (l ∷ ls) h = ap (λ (q : List Slot). LeafOf IsRu
 -- one literal more
 pub literals_more : (k : ℕ) → literals (k + 1) ≡ literals k ++ LeafOf IsRuleLiteral ∷ []
 literals_more zero = refl
-literals_more (suc k) = ap (λ (q : List Slot). LeafOf IsRuleLiteral ∷ q) (literals_more k)
+literals_more (suc k) = let next : suc k + 1 ≡ suc (k + 1) = omega arith in ap literals next ∙ ap (λ (q : List Slot). LeafOf IsRuleLiteral ∷ q) (literals_more k)
 
 pub rules_count : (work : Work) (ns : List code_rule.Rule) (ms : List (Rule Identifier)) → AreRules work ns ms → length ns ≡ length ms
 rules_count work [] [] h = refl

@@ -1,7 +1,7 @@
 -- What is told of the meaning at a point, and whether an occurrence is one of some.
-use Rattle.std.proofs.Common.{◌≡◌, ℕ, List, [], ◌∷◌, Bool, true, false, Option, refl, sym, ap, ◌∙◌, subst, arith}
-use Rattle.std.specs.Prelude.{◌==◌, ◌&&◌, ◌||◌}
-use Rattle.std.proofs.lemmas.Bool.Decides.{nat_tests}
+use Rattle.std.proofs.Common.{◌≡◌, ℕ, ◌+◌, ◌<◌, List, drop, length, get_or, Bool, true, false, Option, refl, sym, ap, ◌∙◌, subst}
+use Rattle.std.specs.Prelude.{◌||◌}
+use Rattle.std.proofs.lemmas.List.{at_drop_more}
 use Rattle.scheme_model.specs.declared.Occ.{Occ}
 use Rattle.scheme_model.specs.Entries.{same_occ}
 use Rattle.scheme_model.specs.Meaning.{Meaning}
@@ -24,3 +24,11 @@ module _ (names : Names) (unit form : ℕ) (binder : Meaning → Option Occ) whe
 
   pub free_told : (n : ℕ) (m : Meaning) → IsMeaning names unit form (code.Free n) m → (s : List ℕ) × IsSymbol names n s × (model.meaning_side binder m ≡ model.OfUnbound s)
   free_told n m h = let g = free_is names unit form n m h in (g.0, g.2, ap (model.meaning_side binder) g.1)
+
+-- ---- occurrences
+
+pub member_here : (os : List Occ) (k : ℕ) (d o : Occ) → k < length os → same_occ (get_or os k d) o ≡ true → is_member (drop k os) o ≡ true
+member_here os k d o lt e = at_drop_more (λ (xs : List Occ). is_member xs o) os k d lt ∙ ap (λ (b : Bool). b || is_member (drop (k + 1) os) o) e
+
+pub member_past : (os : List Occ) (k : ℕ) (d o : Occ) → k < length os → same_occ (get_or os k d) o ≡ false → is_member (drop (k + 1) os) o ≡ is_member (drop k os) o
+member_past os k d o lt e = sym (at_drop_more (λ (xs : List Occ). is_member xs o) os k d lt ∙ ap (λ (b : Bool). b || is_member (drop (k + 1) os) o) e)

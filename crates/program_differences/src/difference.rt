@@ -5,6 +5,8 @@ ghost use Rattle.scheme_model.specs.Program.{Placed, Program as ModelProgram};
 ghost use Rattle.scheme_model.specs.Cores.{Target as ModelTarget};
 ghost use Rattle.scheme_model.specs.Live.{CoreLeaf, NameUse as ModelName};
 ghost use Rattle.scheme_model.specs.Meaning.{Meaning as ModelMeaning};
+ghost use Rattle.scheme_model.specs.Entries.{same_occ};
+ghost use Rattle.scheme_model.specs.Spelling.{is_member};
 ghost use Rattle.scheme_model.specs.ProgramArrows.{binder_of as model_binder};
 ghost use Rattle.scheme_model.specs.Requirements.{LibraryName};
 ghost use Rattle.scheme_model.specs.Substitution.{Table};
@@ -12,10 +14,10 @@ ghost use Rattle.rename_model.specs.Walks.{Shown as ModelShown};
 ghost use Rattle.rename_model.specs.SameProgram.{stretches};
 ghost use Rattle.rename_model.specs.Difference.{Apart as ModelApart, is_renamed, use_kind as model_use, kind_of as model_kind, side_of as model_side, meaning_side as model_meaning, binder_side as model_place, difference, difference_in, first_difference as model_difference};
 ghost use Rattle.syntax_tree.specs.Meant.{IsSymbol, IsMeaning};
-ghost use Rattle.core_tree.specs.Units.{ProgramStands, IsProgramOf};
+ghost use Rattle.core_tree.specs.Units.{ProgramStands};
 ghost use Rattle.program_leaves.specs.Sights.{Sees, SeesProgram};
 ghost use Rattle.program_differences.specs.Apart.{IsApart, FindsFirst};
-ghost use Rattle.program_differences.specs.Both.{AreStanding, ProgramsStand, AreNumbered};
+ghost use Rattle.program_differences.specs.Both.{AreStanding, ProgramsStand, AreNumbered, AreComparable};
 ghost use Rattle.alpha_equal.specs.Compared.{TellsLive};
 ghost use Rattle.program_differences.specs.Differences.{plan_as, kind_number, side_as, IsDifference, AreOne};
 ghost use Rattle.program_differences.specs.Exported.{changes_as, ExportsAreGiven};
@@ -40,24 +42,38 @@ use syntax_tree::trees::Work;
 
 // ---- what is told
 
-/// Whether an occurrence is one of these.
-fn is_among(occs: &[Occ], occ: Option<Occ>) -> bool
-    ensures { result ≡ is_renamed occs.now occ }
+/// Whether two occurrences are the same.
+fn is_same_occ(one: Occ, other: Occ) -> bool
+    ensures { result ≡ same_occ one other }
 {
-    match occ {
-        None => false,
-        Some(occ) => occs.contains(&occ),
+    one.unit == other.unit && (one.form == other.form && one.token == other.token)
+}
+
+/// Whether an occurrence is one of these.
+fn is_among(occs: &[Occ], occ: Occ) -> bool
+    ensures { result ≡ is_member occs.now occ }
+{
+    for other in occs {
+        if is_same_occ(*other, occ) {
+            return true;
+        }
     }
+    false
 }
 
 /// The kind of a difference at a use.
 fn use_kind(class: &[Occ], occ: Option<Occ>) -> u8
     ensures { result ≡ kind_number (model_use (is_renamed class.now occ)) }
 {
-    if is_among(class, occ) {
-        return 1;
+    match occ {
+        None => 2,
+        Some(occ) => {
+            if is_among(class, occ) {
+                return 1;
+            }
+            2
+        }
     }
-    2
 }
 
 /// The kind of a difference by where it stands.
@@ -122,7 +138,7 @@ fn side_of(
     at: FormNo,
     shown: Shown<'_>,
 ) -> Mem<Side>
-    requires { (t : ModelShown) × IsShown work.now.symbols at.unit at.form shown.entry t }
+    requires { (t : ModelShown) × IsShown work.now.symbols at.unit at.form shown t }
     ensures { (leaves : List CoreLeaf) (keywords : List ModelTarget) (names : List ModelName) (table : Table) (t : ModelShown) →
         Sees work.now sight.now leaves keywords names table → IsShown work.now.symbols at.unit at.form shown.entry t →
         IfOk result (λ side. side_as side ≡ model_side (model_binder leaves table) t) }
@@ -155,7 +171,7 @@ fn told(
     class: &[Occ],
     apart: Apart<'_>,
 ) -> Mem<Difference>
-    requires { (a : ModelApart) × IsApart work.now.symbols apart.entry a }
+    requires { (a : ModelApart) × IsApart work.now.symbols apart a }
     ensures { (all rest : List Placed) (p q : ModelProgram) (a : ModelApart) → SeesProgram work.now before.now all p → SeesProgram work.now after.now rest q →
         IsApart work.now.symbols apart.entry a → IfOk result (λ told. IsDifference told (difference p q class.now a)) }
 {
@@ -224,7 +240,7 @@ fn difference_where(
     plan: &Plan,
     reach: &[usize],
 ) -> Mem<Option<Difference>>
-    requires { AreStanding programs.now }
+    requires { (h : AreComparable programs.now.work.now programs.now.old.now programs.now.new.now) × AreNumbered programs.now h.p h.q }
     ensures { (text : LibraryName → List ℕ) (uris : List (List ℕ)) (before after : List Placed) (p q : ModelProgram) → TellsApart text p q → AreDistinct uris →
         ProgramsStand text uris before after programs.now p q → AreNumbered programs.now p q → ExportsAreGiven p → ExportsAreGiven q →
         IfOk result (λ found. AreOne found (difference_in before p q (plan_as plan.now) reach.now)) }
@@ -251,8 +267,7 @@ pub fn first_difference_in(
     plan: &Plan,
     reach: &[usize],
 ) -> Mem<Option<Difference>>
-    requires old { IsProgramOf work.now old.now }
-    requires new { IsProgramOf work.now new.now }
+    requires { AreComparable work.now old.now new.now }
     ensures { (text : LibraryName → List ℕ) (uris : List (List ℕ)) (before after : List Placed) (p q : ModelProgram) → TellsApart text p q → AreDistinct uris →
         ProgramStands work.now text uris before old.now p → ProgramStands work.now text uris after new.now q → ExportsAreGiven p → ExportsAreGiven q →
         IfOk result (λ found. AreOne found (difference_in before p q (plan_as plan.now) reach.now)) }
@@ -273,8 +288,7 @@ pub fn first_difference(
     new: &Program,
     plan: &Plan,
 ) -> Mem<Option<Difference>>
-    requires old { IsProgramOf work.now old.now }
-    requires new { IsProgramOf work.now new.now }
+    requires { AreComparable work.now old.now new.now }
     ensures { (text : LibraryName → List ℕ) (uris : List (List ℕ)) (before after : List Placed) (p q : ModelProgram) → TellsApart text p q → AreDistinct uris →
         ProgramStands work.now text uris before old.now p → ProgramStands work.now text uris after new.now q → ExportsAreGiven p → ExportsAreGiven q →
         IfOk result (λ found. AreOne found (model_difference before p q (plan_as plan.now))) }

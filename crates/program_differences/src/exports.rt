@@ -160,11 +160,11 @@ pub fn exports_apart<'a>(
     changes: &[ExportChange],
     both: Both<'a>,
 ) -> Mem<Option<Pair<'a>>>
-    requires { AreBoth programs.now both.entry }
+    requires { AreBoth programs.now both }
     ensures { (text : LibraryName → List ℕ) (uris : List (List ℕ)) (before after : List Placed) (p q : ModelProgram) (r s : UnitResult) (live : Option AnyOcc → Bool) →
         BothStand text uris before after programs.now p q both.entry r s → AreNumbered programs.now p q → AreGiven p r → AreGiven q s →
-        IfOk result (λ found. ArePair programs.now.work.now.symbols both.place 0 found (first_apart live []
-            (exports_at (program_table p) (model_asked (changes_as changes.now) both.place) (Some r)) (exports_at (program_table q) (λ s. s) (Some s)))) }
+        IfOk result (λ found. ArePair programs.now.work.now.symbols both.entry.place 0 found (first_apart live []
+            (exports_at (program_table p) (model_asked (changes_as changes.now) both.entry.place) (Some r)) (exports_at (program_table q) (λ s. s) (Some s)))) }
 {
     let old = both.old.exports.as_slice();
     let new = both.new.exports.as_slice();

@@ -1,8 +1,8 @@
 //! The units that a change of some occurrences reaches: those that hold one, and those that import a unit in reach.
-ghost use Rattle.std.specs.Prelude.{◌≡◌, ◌<◌, ℕ, List, IfOk, false, true, length, replicate, vec_len};
+ghost use Rattle.std.specs.Prelude.{◌≡◌, ℕ, List, IfOk, false, if◌then◌else◌, length, replicate};
 ghost use Rattle.scheme_model.specs.Program.{UnitResult};
 ghost use Rattle.rename_model.specs.Reach.{in_reach as model_reach};
-ghost use Rattle.program_differences.specs.Reached.{with_mark, with_holders, one_marked, with_importers, in_rounds, marks_from, HaveImports};
+ghost use Rattle.program_differences.specs.Reached.{marked, with_mark, with_holders, one_marked, with_importers, in_rounds, marks_from, HaveImports};
 
 use core_tree::units::Unit;
 use ls_base::Mem;
@@ -34,38 +34,57 @@ fn reach_holders(occs: &[Occ], reached: &mut Vec<bool>)
     }
 }
 
+/// Whether the unit at a place is in reach, where there is one.
+fn is_reached(reached: &[bool], place: usize) -> bool
+    ensures { result ≡ marked reached.now place }
+{
+    if place >= reached.len() {
+        return false;
+    }
+    reached[place]
+}
+
 /// Whether one of these units is in reach.
 fn is_one_reached(units: &[u32], reached: &[bool]) -> bool
     ensures { result ≡ one_marked reached.now units.now }
 {
     for unit in units {
-        let place = *unit as usize;
-        if place < reached.len() && reached[place] {
+        if is_reached(reached, *unit as usize) {
             return true;
         }
     }
     false
 }
 
+/// Puts the unit at a place in reach where one that it imports is, and tells whether it wasn't before.
+fn reach_importer(imports: &[u32], place: usize, reached: &mut Vec<bool>) -> bool
+    ensures reached { reached.new.items ≡ (if one_marked reached.old.items imports.now then with_mark reached.old.items place else reached.old.items) }
+    ensures none { result ≡ false → reached.new.items ≡ reached.old.items }
+{
+    if is_reached(reached.as_slice(), place) {
+        return false;
+    }
+    if !is_one_reached(imports, reached.as_slice()) {
+        return false;
+    }
+    reach_unit(place, reached);
+    true
+}
+
 /// Puts the units in reach that import one in reach, from the first on, and tells whether there was any that wasn't before.
 fn reach_importers(units: &[Unit], reached: &mut Vec<bool>) -> bool
-    requires { vec_len reached.old ≡ length units.now }
     ensures reached { reached.new.items ≡ with_importers 0 units.now reached.old.items }
     ensures none { result ≡ false → reached.new.items ≡ reached.old.items }
 {
     let mut any = false;
     for place in 0..units.len() {
-        if !reached[place] && is_one_reached(units[place].imports.as_slice(), reached.as_slice()) {
-            reach_unit(place, reached);
-            any = true;
-        }
+        any |= reach_importer(units[place].imports.as_slice(), place, reached);
     }
     any
 }
 
 /// Puts the units in reach that import one in reach, directly or not.
 fn reach_all(units: &[Unit], reached: &mut Vec<bool>)
-    requires { vec_len reached.old ≡ length units.now }
     ensures { reached.new.items ≡ in_rounds (length units.now) units.now reached.old.items }
 {
     for _round in 0..units.len() {

@@ -83,11 +83,11 @@ fn forms_apart<'a>(
     live: &Option<Sight<'_>>,
     both: Both<'a>,
 ) -> Mem<Option<Apart<'a>>>
-    requires { AreBoth programs.now both.entry }
+    requires { AreBoth programs.now both }
     ensures { (text : LibraryName → List ℕ) (uris : List (List ℕ)) (before after : List Placed) (p q : ModelProgram) (r s : UnitResult) (is_live : Option AnyOcc → Bool) →
         BothStand text uris before after programs.now p q both.entry r s → AreNumbered programs.now p q → TellsLive live.now is_live →
         IfOk result (λ found. FindsFirst programs.now.work.now.symbols is_live
-            (form_stretches (program_table p) (program_table q) both.place (Some r) (Some s) 0 (max (form_count (Some r)) (form_count (Some s)))) found) }
+            (form_stretches (program_table p) (program_table q) both.entry.place (Some r) (Some s) 0 (max (form_count (Some r)) (form_count (Some s)))) found) }
 {
     let old = both.old.forms.as_slice();
     let new = both.new.forms.as_slice();
@@ -110,10 +110,10 @@ fn unit_apart<'a>(
     changes: &[ExportChange],
     both: Both<'a>,
 ) -> Mem<Option<Apart<'a>>>
-    requires { AreBoth programs.now both.entry }
+    requires { AreBoth programs.now both }
     ensures { (text : LibraryName → List ℕ) (uris : List (List ℕ)) (before after : List Placed) (p q : ModelProgram) (r s : UnitResult) (is_live : Option AnyOcc → Bool) →
         BothStand text uris before after programs.now p q both.entry r s → AreNumbered programs.now p q → AreGiven p r → AreGiven q s → TellsLive live.now is_live →
-        IfOk result (λ found. FindsFirst programs.now.work.now.symbols is_live (unit_stretches p q (changes_as changes.now) both.place (Some r) (Some s)) found) }
+        IfOk result (λ found. FindsFirst programs.now.work.now.symbols is_live (unit_stretches p q (changes_as changes.now) both.entry.place (Some r) (Some s)) found) }
 {
     let error = error_apart(both.place, both.new.errors.as_slice());
     if error.is_some() {

@@ -5,13 +5,13 @@ use Rattle.rename_model.specs.Difference.{first_among, option_difference}
 use Rattle.program_differences.specs.Differences.{plan_as, AreOne}
 use Rattle.program_differences.specs.Exported.{changes_as}
 use Rattle.program_differences.proofs.ApartLaws.{none_more}
-use Rattle.program_differences.proofs.BothLaws.{programs_stand, programs_are, nothing_found}
+use Rattle.program_differences.proofs.BothLaws.{are_standing, comparable, programs_are, nothing_found}
 use Rattle.program_differences.proofs.difference.first_difference_in.Goals as goal
 
 pub apart_in-requires : goal.apart_in-requires
 apart_in-requires c =
     let are = c.in_ok-programs.ensures.told in
-    programs_stand c.in_ok-programs.field-0 c.args.work.now c.args.old.now c.args.new.now are.0 are.1 are.2 c.requires.old c.requires.new
+    are_standing c.in_ok-programs.field-0 (comparable c.in_ok-programs.field-0 c.args.work.now c.args.old.now c.args.new.now are.0 are.1 are.2 c.requires)
 
 pub returns-then-is_none : goal.returns-then-is_none
 returns-then-is_none c = λ text uris before after p q tells apart one other given others.
@@ -25,7 +25,11 @@ returns-then-is_none c = λ text uris before after p q tells apart one other giv
 pub difference_where-requires : goal.difference_where-requires
 difference_where-requires c =
     let are = c.in_ok-programs.ensures.told in
-    programs_stand c.in_ok-programs.field-0 c.args.work.now c.args.old.now c.args.new.now are.0 are.1 are.2 c.requires.old c.requires.new
+    let h = c.requires in
+    (
+      comparable c.in_ok-programs.field-0 c.args.work.now c.args.old.now c.args.new.now are.0 are.1 are.2 h,
+      c.in_ok-programs.ensures.numbered h.text h.uris h.before h.after h.p h.q h.old_stands h.new_stands,
+    )
 
 pub returns : goal.returns
 returns c = λ text uris before after p q tells apart one other given others.

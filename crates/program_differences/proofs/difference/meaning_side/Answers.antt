@@ -30,8 +30,8 @@ returns-in_ok-text_of-in-Standard c = λ leaves keywords names table m sees is.
     let g = standard_told c.args.work.now.symbols c.args.at.unit c.args.at.form (binder_of leaves table) c.in-Standard.name m at in
     ap model.OfStandard (c.in_ok-text_of-in-Standard.ensures g.0 g.1) ∙ sym g.2
 
-pub text_of-2-requires : goal.text_of-2-requires
-text_of-2-requires c =
+pub text_of-requires-in-Free : goal.text_of-requires-in-Free
+text_of-requires-in-Free c =
     let at = subst (λ (x : Meaning). IsMeaning c.args.work.now.symbols c.args.at.unit c.args.at.form x c.requires.0) c.in-Free.is c.requires.1 in
     let g = free_told c.args.work.now.symbols c.args.at.unit c.args.at.form (λ x. None) c.in-Free.name c.requires.0 at in (g.0, g.1)
 

@@ -7,8 +7,8 @@ use Rattle.program_differences.proofs.difference.told.Goals as goal
 pub side_of-requires : goal.side_of-requires
 side_of-requires c = (c.requires.0.old.shown, c.requires.1.old.shown)
 
-pub side_of-2-requires : goal.side_of-2-requires
-side_of-2-requires c = (c.requires.0.new.shown, c.requires.1.new.shown)
+pub side_of-requires-2 : goal.side_of-requires-2
+side_of-requires-2 c = (c.requires.0.new.shown, c.requires.1.new.shown)
 
 pub returns : goal.returns
 returns c = λ all rest p q a before after is. record {

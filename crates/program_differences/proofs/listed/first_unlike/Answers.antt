@@ -1,4 +1,4 @@
-use Rattle.std.proofs.Common.{◌≡◌, false, true, sym, ap, ◌∙◌, arith, rules}
+use Rattle.std.proofs.Common.{◌≡◌, false, true, length, Some, sym, ap, ◌∙◌, arith, rules}
 use Rattle.std.specs.Prelude.{slice_get}
 use Rattle.core_tree.specs.declared.units.Unit.{Unit as CodeUnit}
 use Rattle.program_differences.specs.Listed.{alike_in, first_unlike}
@@ -24,7 +24,8 @@ loop-place-preserved c =
 pub returns-then-new-old : goal.returns-then-new-old
 returns-then-new-old c =
     let k = c.loop-place.place in
-    unlike_longer c.args.old.now c.args.new.now k (first_unlike 0 c.args.old.now c.args.new.now) (omega arith) (omega arith) c.loop-place.invariant
+    let end : length c.args.old.now ≡ k = omega arith in
+    ap Some end ∙ unlike_longer c.args.old.now c.args.new.now k (first_unlike 0 c.args.old.now c.args.new.now) (omega arith) (omega arith) c.loop-place.invariant
 
 pub returns : goal.returns
 returns c =

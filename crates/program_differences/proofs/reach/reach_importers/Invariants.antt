@@ -1,4 +1,4 @@
-use Rattle.std.proofs.Common.{◌≡◌, drop, length}
+use Rattle.std.proofs.Common.{◌≡◌, drop}
 use Rattle.std.specs.Prelude.{Bool, false}
 use Rattle.program_differences.specs.Reached.{with_importers}
 use Rattle.program_differences.proofs.reach.reach_importers.Given as goal
@@ -6,6 +6,5 @@ use Rattle.program_differences.proofs.reach.reach_importers.Given as goal
 abbrev pub invariant-loop-place : goal.invariant-loop-place
 invariant-loop-place l = record {
   left : with_importers l.place (drop l.place l.units) l.reached.items ≡ with_importers 0 l.units l.fn.reached.items;
-  many : length l.reached.items ≡ length l.units;
   none : l.any ≡ false → l.reached.items ≡ l.fn.reached.items;
 }

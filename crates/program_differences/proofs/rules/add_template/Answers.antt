@@ -1,4 +1,4 @@
-use Rattle.std.proofs.Common.{[], arith}
+use Rattle.std.proofs.Common.{[], arith, false, None}
 use Rattle.scheme_model.specs.RulesShape.{role_of}
 use Rattle.rename_model.specs.Walks.{rule_slots, pattern_name, template_name}
 use Rattle.syntax_tree.specs.Macros.{identifiers}
@@ -17,7 +17,7 @@ pub loop-node-preserved : goal.loop-node-preserved
 loop-node-preserved c = λ names vs unit form ts places match.
     let k = c.loop-node.node-index in
     let f = rule_slots (λ i dots o. template_name vs dots i o) in
-    let a = match_at (IsNode names) c.args.nodes.now ts k nodes.Escape match (omega arith) in
+    let a = match_at (IsNode names) c.args.nodes.now ts k (nodes.Name 0 false None) match (omega arith) in
     adds_next (IsSlot names unit form) f c.args.slots.now.items c.loop-node.slots.items c.add_template_node.new.slots.items ts k a.item a.more (c.loop-node.invariant names vs unit form ts places match) (c.in_ok-add_template_node.ensures names vs unit form a.item places a.is)
 
 pub returns : goal.returns

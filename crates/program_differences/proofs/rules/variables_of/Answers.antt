@@ -1,4 +1,4 @@
-use Rattle.std.proofs.Common.{[], List, take, sym, refl, subst, arith}
+use Rattle.std.proofs.Common.{[], List, take, sym, refl, subst, arith, false}
 use Rattle.std.specs.Prelude.{None}
 use Rattle.std.specs.List.{flat_map}
 use Rattle.scheme_model.specs.RulesShape.{role_of}
@@ -21,13 +21,13 @@ loop-node-init c = λ r ts tells match.
 
 pub add_variable-requires : goal.add_variable-requires
 add_variable-requires c =
-    let a = match_at (IsNode c.args.work.now.symbols) c.args.nodes.now c.requires.0 c.loop-node.node-index nodes.Escape c.requires.1 (omega arith) in
+    let a = match_at (IsNode c.args.work.now.symbols) c.args.nodes.now c.requires.0 c.loop-node.node-index (nodes.Name 0 false None) c.requires.1 (omega arith) in
     (a.item, a.is)
 
 pub loop-node-preserved : goal.loop-node-preserved
 loop-node-preserved c = λ r ts tells match.
     let k = c.loop-node.node-index in
-    let a = match_at (IsNode c.args.work.now.symbols) c.args.nodes.now ts k nodes.Escape match (omega arith) in
+    let a = match_at (IsNode c.args.work.now.symbols) c.args.nodes.now ts k (nodes.Name 0 false None) match (omega arith) in
     adds_next (IsNamed c.args.work.now.symbols) (variable_in (role_of identifiers r)) [] c.loop-node.found.items c.add_variable.new.found.items ts k a.item a.more (c.loop-node.invariant r ts tells match) (c.in_ok-add_variable.ensures r a.item tells a.is)
 
 pub returns : goal.returns

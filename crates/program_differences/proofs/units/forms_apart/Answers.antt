@@ -4,6 +4,7 @@ use Rattle.std.specs.Option.{is_some}
 use Rattle.scheme_model.specs.ProgramArrows.{program_table}
 use Rattle.rename_model.specs.SameProgram.{Stretch, stretch, items_at, form_points_at, form_stretches}
 use Rattle.rename_model.specs.Difference.{first_apart, first_among}
+use Rattle.core_tree.specs.Units.{FormsStand}
 use Rattle.core_tree.specs.declared.units.UnitForm.{UnitForm}
 use Rattle.core_tree.specs.declared.units.ExpandedItem.{ExpandedItem}
 use Rattle.alpha_equal.specs.declared.points.Pair.{Pair}
@@ -24,13 +25,13 @@ form_apart-requires c =
         unit = place;
         form = k;
         ps = items_at b.old.r.forms k;
-        stand = form_at work place c.args.both.old.now.forms b.old.r.forms b.old.stand.forms k c.index-old-form.result c.unbroken.result.now (omega arith) c.index-old-form.is c.unbroken.ensures;
+        stand = form_at work place c.as_slice-old.result.now b.old.r.forms (subst (λ (cs : List UnitForm). FormsStand work place 0 cs b.old.r.forms) (sym c.as_slice-old.ensures) b.old.stand.forms) k c.index-old-form.result c.unbroken.result.now (omega arith) c.index-old-form.is c.unbroken.ensures;
       };
       new = record {
         unit = place;
         form = k;
         ps = items_at b.new.r.forms k;
-        stand = form_at work place c.args.both.new.now.forms b.new.r.forms b.new.stand.forms k c.index-new-form.result c.unbroken-2.result.now (omega arith) c.index-new-form.is c.unbroken-2.ensures;
+        stand = form_at work place c.as_slice-new.result.now b.new.r.forms (subst (λ (cs : List UnitForm). FormsStand work place 0 cs b.new.r.forms) (sym c.as_slice-new.ensures) b.new.stand.forms) k c.index-new-form.result c.unbroken-2.result.now (omega arith) c.index-new-form.is c.unbroken-2.ensures;
       };
     }
 
@@ -43,8 +44,8 @@ returns-then-is_some c = λ text uris before after p q r s is_live stand numbere
     let u = program_table q in
     let k = c.loop-form.form in
     let count = length r.unit.forms in
-    let o = form_at work place c.args.both.old.now.forms r.forms stand.old.forms k c.index-old-form.result c.unbroken.result.now (omega arith) c.index-old-form.is c.unbroken.ensures in
-    let n = form_at work place c.args.both.new.now.forms s.forms stand.new.forms k c.index-new-form.result c.unbroken-2.result.now (omega arith) c.index-new-form.is c.unbroken-2.ensures in
+    let o = form_at work place c.as_slice-old.result.now r.forms (subst (λ (cs : List UnitForm). FormsStand work place 0 cs r.forms) (sym c.as_slice-old.ensures) stand.old.forms) k c.index-old-form.result c.unbroken.result.now (omega arith) c.index-old-form.is c.unbroken.ensures in
+    let n = form_at work place c.as_slice-new.result.now s.forms (subst (λ (cs : List UnitForm). FormsStand work place 0 cs s.forms) (sym c.as_slice-new.ensures) stand.new.forms) k c.index-new-form.result c.unbroken-2.result.now (omega arith) c.index-new-form.is c.unbroken-2.ensures in
     let pair = c.in_ok-form_apart.ensures p q place k is_live (items_at r.forms k) (items_at s.forms k) numbered tells o n in
     let lt : k < count = let e = stand.old.count in omega (arith, e) in
     let this : Stretch = stretch place k (form_points_at t (Some r) k) (form_points_at u (Some s) k) in
@@ -62,8 +63,8 @@ loop-form-preserved c = λ text uris before after p q r s is_live stand numbered
     let u = program_table q in
     let k = c.loop-form.form in
     let count = length r.unit.forms in
-    let o = form_at work place c.args.both.old.now.forms r.forms stand.old.forms k c.index-old-form.result c.unbroken.result.now (omega arith) c.index-old-form.is c.unbroken.ensures in
-    let n = form_at work place c.args.both.new.now.forms s.forms stand.new.forms k c.index-new-form.result c.unbroken-2.result.now (omega arith) c.index-new-form.is c.unbroken-2.ensures in
+    let o = form_at work place c.as_slice-old.result.now r.forms (subst (λ (cs : List UnitForm). FormsStand work place 0 cs r.forms) (sym c.as_slice-old.ensures) stand.old.forms) k c.index-old-form.result c.unbroken.result.now (omega arith) c.index-old-form.is c.unbroken.ensures in
+    let n = form_at work place c.as_slice-new.result.now s.forms (subst (λ (cs : List UnitForm). FormsStand work place 0 cs s.forms) (sym c.as_slice-new.ensures) stand.new.forms) k c.index-new-form.result c.unbroken-2.result.now (omega arith) c.index-new-form.is c.unbroken-2.ensures in
     let pair = c.in_ok-form_apart.ensures p q place k is_live (items_at r.forms k) (items_at s.forms k) numbered tells o n in
     let lt : k < count = let e = stand.old.count in omega (arith, e) in
     let this : Stretch = stretch place k (form_points_at t (Some r) k) (form_points_at u (Some s) k) in
