@@ -1,7 +1,7 @@
 -- A unit of both programs at a place of their lists.
 use Rattle.std.proofs.Common.{◌≡◌, ℕ, ◌<◌, ◌≤◌, List, length, get_or, Option, Some, None, refl, sym, ap, ◌∙◌, subst, arith}
-use Rattle.std.specs.Prelude.{Bool, true}
-use Rattle.std.specs.Option.{is_none}
+use Rattle.std.specs.Prelude.{Bool, true, false}
+use Rattle.std.specs.Option.{is_some, is_none}
 use Rattle.scheme_model.specs.declared.Occ.{Occ}
 use Rattle.scheme_model.specs.Requirements.{LibraryName}
 use Rattle.scheme_model.specs.Program.{Placed, UnitResult, Program, result_at}
@@ -100,3 +100,7 @@ one_found names (Some a) c h = (a, refl, h)
 -- the same of what was found
 pub found_of : (names : Names) (q : Option model.Apart) (found other : Option Apart) → found ≡ other → AreFound names found q → AreFound names other q
 found_of names q found other e h = subst (λ (x : Option Apart). AreFound names x q) e h
+
+pub not_some : (found : Option Apart) → is_some found ≡ false → found ≡ None
+not_some None e = refl
+not_some (Some c) e = absurd cc

@@ -50,7 +50,9 @@ module _ (work : Work) (table : Table) (unit form : ℕ) where
   mark_next [] ps k d h lt = absurd (omega (arith, lt))
   mark_next (x ∷ xs) ps zero d h lt = record { front = h.0; rest = h.1; parted = h.2; is = h.3; left = h.4 }
   mark_next (x ∷ xs) ps (suc k) d h lt =
-      let r = mark_next xs ps k d h (omega (arith, lt)) in record { front = r.front; rest = r.rest; parted = r.parted; is = r.is; left = r.left }
+      let r = mark_next xs ps k d h (omega (arith, lt)) in
+      let next : suc (k + 1) ≡ suc k + 1 = omega arith in
+      record { front = r.front; rest = r.rest; parted = r.parted; is = r.is; left = subst (λ (n : ℕ). AreMarks work table unit form (map mark_of (drop n (x ∷ xs))) r.rest) next r.left }
 
   -- the points of the marks up to a place
   pub record MarkedTo (old new : List code.Point) (xs : List Mark) (ps : List Point) (k : ℕ) : Type 0 where

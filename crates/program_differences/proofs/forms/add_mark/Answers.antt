@@ -69,7 +69,7 @@ returns-in_ok-add_shape-in-Binders c = λ table unit form ps knows is.
     let names = work.symbols in
     let at = subst (λ (x : Mark). IsMark work table unit form (mark_of x) ps) c.in-Binders.is is in
     let ls = locals_are names unit form c.in-Binders.binders.now at.0 at.2 at.3 in
-    adds_same (IsPoint names unit form) c.args.points.now.items c.add_shape-in-Binders.new.points.items (point AtShape (OfBinders (node_as c.in-Binders.kind) (locals_in at.0)) None ShowsNothing ∷ []) ps (sym at.1) (c.in_ok-add_shape-in-Binders.ensures names unit form (OfBinders (node_as c.in-Binders.kind) (locals_in at.0)) (ap (OfBinders (node_as c.in-Binders.kind)) (sym ls)))
+    adds_same (IsPoint names unit form) c.args.points.now.items c.add_shape-in-Binders.new.points.items (point AtShape (OfBinders (node_as c.in-Binders.kind) (locals_in at.0)) None ShowsNothing ∷ []) ps (sym at.1) (c.in_ok-add_shape-in-Binders.ensures names unit form (OfBinders (node_as c.in-Binders.kind) (locals_in at.0)) (ap (OfBinders (node_as c.in-Binders.kind)) ls))
 
 pub add_macro-requires : goal.add_macro-requires
 add_macro-requires c =
