@@ -63,7 +63,7 @@ programs_are c work old new text uris before after p q w o n h g = record {
   new = subst (λ (x : Work). ProgramStands x text uris after c.new.now q) (sym w) (subst (λ (x : code.Program). ProgramStands work text uris after x q) (sym n) g);
 }
 
-pub comparable : (c : Programs) (work : Work) (old new : code.Program) → c.work.now ≡ work → c.old.now ≡ old → c.new.now ≡ new → AreComparable work old new → AreComparable c.work.now c.old.now c.new.now
+abbrev pub comparable : (c : Programs) (work : Work) (old new : code.Program) → c.work.now ≡ work → c.old.now ≡ old → c.new.now ≡ new → AreComparable work old new → AreComparable c.work.now c.old.now c.new.now
 comparable c work old new w o n h =
     let are = programs_are c work old new h.text h.uris h.before h.after h.p h.q w o n h.old_stands h.new_stands in
     record {

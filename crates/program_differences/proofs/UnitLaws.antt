@@ -91,8 +91,7 @@ module _ (work : Work) (text : LibraryName → List ℕ) (uris : List (List ℕ)
   as_many place (c ∷ cs) (r ∷ rs) h = ap suc (as_many (suc place) cs rs h.1)
 
 pub max_itself : (n : ℕ) → max n n ≡ n
-max_itself zero = refl
-max_itself (suc n) = ap suc (max_itself n)
+max_itself n = omega arith
 
 -- ---- the items of forms
 

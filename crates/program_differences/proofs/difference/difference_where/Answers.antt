@@ -15,11 +15,11 @@ use Rattle.program_differences.proofs.difference.difference_where.Goals as goal
 pub of-requires : goal.of-requires
 of-requires c = let h = c.requires.0 in units_formed c.args.programs.now.work.now h.text h.uris h.before h.p c.args.programs.now.old.now.units h.old_stands
 
-pub of-before-requires : goal.of-before-requires
-of-before-requires c = let h = c.requires.0 in units_formed c.args.programs.now.work.now h.text h.uris h.before h.p c.args.programs.now.old.now.units h.old_stands
+pub of-requires-in-Some : goal.of-requires-in-Some
+of-requires-in-Some c = let h = c.requires.0 in units_formed c.args.programs.now.work.now h.text h.uris h.before h.p c.args.programs.now.old.now.units h.old_stands
 
-pub of-after-requires : goal.of-after-requires
-of-after-requires c = let h = c.requires.0 in units_formed c.args.programs.now.work.now h.text h.uris h.after h.q c.args.programs.now.new.now.units h.new_stands
+pub of-requires-in-Some-2 : goal.of-requires-in-Some-2
+of-requires-in-Some-2 c = let h = c.requires.0 in units_formed c.args.programs.now.work.now h.text h.uris h.after h.q c.args.programs.now.new.now.units h.new_stands
 
 pub apart_in-requires : goal.apart_in-requires
 apart_in-requires c = are_standing c.args.programs.now c.requires.0
@@ -45,8 +45,8 @@ told-requires c =
     let one = one_found work.symbols (first_among (live_in h.before h.p) ss) c.in-Some.apart (found_of work.symbols (first_among (live_in h.before h.p) ss) _ (Some c.in-Some.apart) c.in-Some.is found) in
     (one.0, one.2)
 
-pub returns-in_ok-told : goal.returns-in_ok-told
-returns-in_ok-told c = λ text uris before after p q tells apart stand numbered given others.
+pub returns-in-Some : goal.returns-in-Some
+returns-in-Some c = λ text uris before after p q tells apart stand numbered given others.
     let work = c.args.programs.now.work.now in
     let ss = stretches p q (changes_as c.as_slice.result.now) c.args.reach.now in
     let sees = c.in_ok-of.ensures.program text uris before p stand.old in
@@ -54,4 +54,4 @@ returns-in_ok-told c = λ text uris before after p q tells apart stand numbered 
     let one = one_found work.symbols (first_among (live_in before p) ss) c.in-Some.apart (found_of work.symbols (first_among (live_in before p) ss) _ (Some c.in-Some.apart) c.in-Some.is found) in
     let whole = (λ j. first_among (live_in before p) (stretches p q (changes_as (sym c.as_slice.ensures j)) c.args.reach.now)) ∙ one.1 in
     subst (λ x. AreOne (Some _) (option_difference p q c.args.plan.now.class x)) (sym whole)
-    (c.in_ok-told.ensures before after p q one.0 (c.in_ok-before.ensures.program text uris before p stand.old) (c.in_ok-after.ensures.program text uris after q stand.new) one.2)
+    (c.in_ok-told-in-Some.ensures before after p q one.0 (c.in_ok-before-in-Some.ensures.program text uris before p stand.old) (c.in_ok-after-in-Some.ensures.program text uris after q stand.new) one.2)

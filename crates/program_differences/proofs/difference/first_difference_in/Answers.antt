@@ -19,7 +19,7 @@ returns-then-is_none c = λ text uris before after p q tells apart one other giv
     let stand = programs_are c.in_ok-programs.programs c.args.work.now c.args.old.now c.args.new.now text uris before after p q are.0 are.1 are.2 one other in
     let ss = stretches p q (changes_as c.as_slice.result.now) c.args.reach.now in
     let found = c.in_ok-apart.ensures text uris before after p q (λ o. false) tells apart stand (c.in_ok-programs.ensures.numbered text uris before after p q one other) given others (λ o. refl) in
-    let none = nothing_found c.in_ok-programs.programs.work.now.symbols (first_among (λ o. false) ss) c.in_ok-apart.field-0 (sym c.is_none.ensures ∙ c.if-is_none.true) found in
+    let none = nothing_found c.in_ok-programs.programs.work.now.symbols (first_among (λ o. false) ss) c.in_ok-apart.apart (sym c.is_none.ensures ∙ c.if-is_none.true) found in
     let whole = (λ j. first_among (live_in before p) (stretches p q (changes_as (sym c.as_slice.ensures j)) c.args.reach.now)) ∙ none_more (live_in before p) ss none in
     subst (λ x. AreOne None (option_difference p q c.args.plan.now.class x)) (sym whole) tt
 

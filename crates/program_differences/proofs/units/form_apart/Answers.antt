@@ -6,11 +6,11 @@ use Rattle.alpha_equal.specs.declared.points.Point.{Point}
 use Rattle.alpha_equal.specs.Points.{IsPoint}
 use Rattle.program_differences.proofs.units.form_apart.Goals as goal
 
-pub points_of-before-requires : goal.points_of-before-requires
-points_of-before-requires c = let h = c.requires.old in (h.unit, h.form, h.ps, h.stand.parts, h.stand.levels)
+pub points_of-requires : goal.points_of-requires
+points_of-requires c = let h = c.requires.old in (h.unit, h.form, h.ps, h.stand.parts, h.stand.levels)
 
-pub points_of-after-requires : goal.points_of-after-requires
-points_of-after-requires c = let h = c.requires.new in (h.unit, h.form, h.ps, h.stand.parts, h.stand.levels)
+pub points_of-requires-2 : goal.points_of-requires-2
+points_of-requires-2 c = let h = c.requires.new in (h.unit, h.form, h.ps, h.stand.parts, h.stand.levels)
 
 pub returns : goal.returns
 returns c = λ p q unit form is_live ps qs numbered tells one other.

@@ -46,7 +46,7 @@ returns-then-is_some c = λ text uris before after p q r s is_live stand numbere
     let count = length r.unit.forms in
     let o = form_at work place c.as_slice-old.result.now r.forms (subst (λ (cs : List UnitForm). FormsStand work place 0 cs r.forms) (sym c.as_slice-old.ensures) stand.old.forms) k c.index-old-form.result c.unbroken.result.now (omega arith) c.index-old-form.is c.unbroken.ensures in
     let n = form_at work place c.as_slice-new.result.now s.forms (subst (λ (cs : List UnitForm). FormsStand work place 0 cs s.forms) (sym c.as_slice-new.ensures) stand.new.forms) k c.index-new-form.result c.unbroken-in-loop-form.result.now (let size = ap length c.as_slice-old.ensures in let other = ap length c.as_slice-new.ensures in let same = stand.count in omega (arith, size, other, same)) c.index-new-form.is c.unbroken-in-loop-form.ensures in
-    let pair = c.in_ok-form_apart.ensures p q place k is_live (items_at r.forms k) (items_at s.forms k) numbered tells o n in
+    let pair = c.in_ok-pair.ensures p q place k is_live (items_at r.forms k) (items_at s.forms k) numbered tells o n in
     let lt : k < count = let e = stand.old.count in let size = ap length c.as_slice-old.ensures in omega (arith, e, size) in
     let this : Stretch = stretch place k (form_points_at t (Some r) k) (form_points_at u (Some s) k) in
     let first = pair_here names is_live this (form_stretches t u place (Some r) (Some s) (k + 1) (count - (k + 1))) _ (sym c.is_some.ensures ∙ c.if-is_some.true) pair in
@@ -66,7 +66,7 @@ loop-form-preserved c = λ text uris before after p q r s is_live stand numbered
     let count = length r.unit.forms in
     let o = form_at work place c.as_slice-old.result.now r.forms (subst (λ (cs : List UnitForm). FormsStand work place 0 cs r.forms) (sym c.as_slice-old.ensures) stand.old.forms) k c.index-old-form.result c.unbroken.result.now (omega arith) c.index-old-form.is c.unbroken.ensures in
     let n = form_at work place c.as_slice-new.result.now s.forms (subst (λ (cs : List UnitForm). FormsStand work place 0 cs s.forms) (sym c.as_slice-new.ensures) stand.new.forms) k c.index-new-form.result c.unbroken-in-loop-form.result.now (let size = ap length c.as_slice-old.ensures in let other = ap length c.as_slice-new.ensures in let same = stand.count in omega (arith, size, other, same)) c.index-new-form.is c.unbroken-in-loop-form.ensures in
-    let pair = c.in_ok-form_apart.ensures p q place k is_live (items_at r.forms k) (items_at s.forms k) numbered tells o n in
+    let pair = c.in_ok-pair.ensures p q place k is_live (items_at r.forms k) (items_at s.forms k) numbered tells o n in
     let lt : k < count = let e = stand.old.count in let size = ap length c.as_slice-old.ensures in omega (arith, e, size) in
     let this : Stretch = stretch place k (form_points_at t (Some r) k) (form_points_at u (Some s) k) in
     let past = pair_past names is_live this (form_stretches t u place (Some r) (Some s) (k + 1) (count - (k + 1))) _ (sym c.is_some.ensures ∙ c.if-is_some.false) pair in

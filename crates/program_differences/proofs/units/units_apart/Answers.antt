@@ -17,7 +17,7 @@ returns-then-is_some c = λ text uris before after p q is_live stand numbered gi
     let reach = c.args.reach.now in
     let k = c.loop-place.place-index in
     let each : ℕ → List Stretch = λ unit. unit_stretches p q (changes_as c.args.changes.now) unit (result_at p.units unit) (result_at q.units unit) in
-    let here : FindsFirst names is_live (each (get_or reach k 0)) c.in_ok-found.field-0 = c.in_ok-found.ensures text uris before after p q is_live stand numbered given others tells in
+    let here : FindsFirst names is_live (each (get_or reach k 0)) c.in_ok-found.found = c.in_ok-found.ensures text uris before after p q is_live stand numbered given others tells in
     let first = found_here names is_live (each (get_or reach k 0)) (flat_map each (drop (k + 1) reach)) _ (sym c.is_some.ensures ∙ c.if-is_some.true) here in
     subst (AreFound names _) (sym (at_drop_more (λ (ns : List ℕ). first_among is_live (flat_map each ns)) reach k 0 (omega arith)) ∙ c.loop-place.invariant text uris before after p q is_live stand numbered given others tells) first
 
@@ -27,7 +27,7 @@ loop-place-preserved c = λ text uris before after p q is_live stand numbered gi
     let reach = c.args.reach.now in
     let k = c.loop-place.place-index in
     let each : ℕ → List Stretch = λ unit. unit_stretches p q (changes_as c.args.changes.now) unit (result_at p.units unit) (result_at q.units unit) in
-    let here : FindsFirst names is_live (each (get_or reach k 0)) c.in_ok-found.field-0 = c.in_ok-found.ensures text uris before after p q is_live stand numbered given others tells in
+    let here : FindsFirst names is_live (each (get_or reach k 0)) c.in_ok-found.found = c.in_ok-found.ensures text uris before after p q is_live stand numbered given others tells in
     sym (at_drop_more (λ (ns : List ℕ). first_among is_live (flat_map each ns)) reach k 0 (omega arith) ∙ found_past names is_live (each (get_or reach k 0)) (flat_map each (drop (k + 1) reach)) _ (sym c.is_some.ensures ∙ c.if-is_some.false) here)
     ∙ c.loop-place.invariant text uris before after p q is_live stand numbered given others tells
 
