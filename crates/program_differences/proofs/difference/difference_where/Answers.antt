@@ -45,8 +45,8 @@ told-requires c =
     let one = one_found work.symbols (first_among (live_in h.before h.p) ss) c.in-Some.apart (found_of work.symbols (first_among (live_in h.before h.p) ss) _ (Some c.in-Some.apart) c.in-Some.is found) in
     (one.0, one.2)
 
-pub returns-in-Some : goal.returns-in-Some
-returns-in-Some c = λ text uris before after p q tells apart stand numbered given others.
+pub returns : goal.returns
+returns c = λ text uris before after p q tells apart stand numbered given others.
     let work = c.args.programs.now.work.now in
     let ss = stretches p q (changes_as c.as_slice.result.now) c.args.reach.now in
     let sees = c.in_ok-of.ensures.program text uris before p stand.old in
