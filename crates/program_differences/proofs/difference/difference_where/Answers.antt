@@ -1,12 +1,13 @@
-use Rattle.std.proofs.Common.{◌≡◌, refl, sym, ap, ◌∙◌, subst}
+use Rattle.std.proofs.Common.{List, ◌≡◌, refl, sym, ap, ◌∙◌, subst}
 use Rattle.std.specs.Prelude.{Option, Some, None}
+use Rattle.scheme_model.specs.declared.Occ.{Occ}
 use Rattle.rename_model.specs.SameProgram.{stretches, live_in}
 use Rattle.rename_model.specs.Difference.{first_among, option_difference, difference}
 use Rattle.program_leaves.proofs.PlacedLaws.{units_formed}
 use Rattle.program_differences.specs.declared.listed.Apart.{Apart}
 use Rattle.program_differences.specs.Apart.{AreFound}
 use Rattle.program_differences.specs.Both.{ProgramsStand}
-use Rattle.program_differences.specs.Differences.{plan_as, AreOne}
+use Rattle.program_differences.specs.Differences.{IsDifference, plan_as, AreOne}
 use Rattle.program_differences.specs.Exported.{changes_as}
 use Rattle.program_differences.proofs.ApartLaws.{none_found}
 use Rattle.program_differences.proofs.BothLaws.{are_standing, tells_live, one_found, found_of}
@@ -53,5 +54,5 @@ returns c = λ text uris before after p q tells apart stand numbered given other
     let found = c.in_ok-apart_in.ensures text uris before after p q (live_in before p) tells apart stand numbered given others (tells_live work c.in_ok-of.field-0 before p sees) in
     let one = one_found work.symbols (first_among (live_in before p) ss) c.in-Some.apart (found_of work.symbols (first_among (live_in before p) ss) _ (Some c.in-Some.apart) c.in-Some.is found) in
     let whole = (λ j. first_among (live_in before p) (stretches p q (changes_as (sym c.as_slice.ensures j)) c.args.reach.now)) ∙ one.1 in
-    subst (λ x. AreOne (Some _) (option_difference p q c.args.plan.now.class x)) (sym whole)
-    (c.in_ok-told-in-Some.ensures before after p q one.0 (c.in_ok-before-in-Some.ensures.program text uris before p stand.old) (c.in_ok-after-in-Some.ensures.program text uris after q stand.new) one.2)
+    subst (λ x. AreOne (Some c.in_ok-told-in-Some.field-0) (option_difference p q c.args.plan.now.class x)) (sym whole)
+    (subst (λ (os : List Occ). IsDifference c.in_ok-told-in-Some.field-0 (difference p q os one.0)) c.as_slice-class.ensures (c.in_ok-told-in-Some.ensures before after p q one.0 (c.in_ok-before-in-Some.ensures.program text uris before p stand.old) (c.in_ok-after-in-Some.ensures.program text uris after q stand.new) one.2))
