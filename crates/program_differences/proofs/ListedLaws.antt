@@ -175,11 +175,11 @@ module _ (names : Names) (unit form : ℕ) (live : Option Occ → Bool) where
   units_answer work text uris before after p q place c d r s tells apart at there h g =
       subst (λ (b : Bool). Answers b (listed_points (Some r)) (listed_points (Some s))) (sym tests)
       (number_answer r.unit.placed.document s.unit.placed.document (number (kind_number r.unit.placed.source.kind) ∷ number (length r.unit.forms) ∷ name_points r.unit.placed.source.name)
-          (number (kind_number s.unit.placed.source.kind) ∷ number (length s.unit.forms) ∷ name_points s.unit.placed.source.name) (kinds && (counts && named))
-          (number_answer (kind_number r.unit.placed.source.kind) (kind_number s.unit.placed.source.kind) (number (length r.unit.forms) ∷ name_points r.unit.placed.source.name) (number (length s.unit.forms) ∷ name_points s.unit.placed.source.name) (counts && named)
-              (number_answer (length r.unit.forms) (length s.unit.forms) (name_points r.unit.placed.source.name) (name_points s.unit.placed.source.name) named
-                  (names_answer text r.unit.placed.source.name s.unit.placed.source.name (λ m n e f.
-                      tells m n (record { place = place; unit = r; there = at; name = e }) (record { place = place; unit = s; there = there; name = f }))))))
+      (number (kind_number s.unit.placed.source.kind) ∷ number (length s.unit.forms) ∷ name_points s.unit.placed.source.name) (kinds && (counts && named))
+      (number_answer (kind_number r.unit.placed.source.kind) (kind_number s.unit.placed.source.kind) (number (length r.unit.forms) ∷ name_points r.unit.placed.source.name) (number (length s.unit.forms) ∷ name_points s.unit.placed.source.name) (counts && named)
+      (number_answer (length r.unit.forms) (length s.unit.forms) (name_points r.unit.placed.source.name) (name_points s.unit.placed.source.name) named
+      (names_answer text r.unit.placed.source.name s.unit.placed.source.name (λ m n e f.
+      tells m n (record { place = place; unit = r; there = at; name = e }) (record { place = place; unit = s; there = there; name = f }))))))
     where
       kinds : Bool
       kinds = kind_number r.unit.placed.source.kind == kind_number s.unit.placed.source.kind
@@ -196,7 +196,7 @@ module _ (names : Names) (unit form : ℕ) (live : Option Occ → Bool) where
       tests : listed_alike c d ≡ (documents && (kinds && (counts && named)))
       tests =
           (λ j. ((uris_told uris r.unit.placed.document s.unit.placed.document c.uri d.uri apart h.uri g.uri j && (kind_number (h.kind j) == kind_number (g.kind j)))
-              && (h.count j == g.count j)) && same_name (h.name j) (g.name j))
+          && (h.count j == g.count j)) && same_name (h.name j) (g.name j))
           ∙ and_both (documents && kinds) counts named ∙ and_both documents kinds (counts && named)
 
 -- ---- lists
@@ -291,7 +291,7 @@ error_found names live unit (n ∷ ns) =
     let some : (0 == suc (length ns)) ≡ false = grind (arith, nat_tests) in
     pair_found names live (stretch unit (least_of (n ∷ ns)) (error_points 0) (error_points (suc (length ns)))) (Some (record { old = in_errors; new = in_errors }))
     (subst (ArePair names unit (least_of (n ∷ ns)) (Some (record { old = in_errors; new = in_errors }))) (sym (error_step live (suc (length ns)) ∙ ap (λ (b : Bool). if b then None else Some (at_errors 0, at_errors (suc (length ns)))) some))
-        (record { spot = refl; place = refl; shown = refl }, record { spot = refl; place = refl; shown = refl }))
+    (record { spot = refl; place = refl; shown = refl }, record { spot = refl; place = refl; shown = refl }))
 
 -- ---- the least
 

@@ -258,8 +258,8 @@ pub importers_more : (us : List CodeUnit) (bs new : List Bool) (k : ℕ) (d : Co
     with_importers (k + 1) (drop (k + 1) us) new ≡ with_importers k (drop k us) bs
 importers_more us bs new k d lt e =
     sym (at_drop_more (λ (xs : List CodeUnit). with_importers k xs bs) us k d lt
-        ∙ ap (λ (xs : List Bool). with_importers (suc k) (drop (k + 1) us) xs) e
-        ∙ ap (λ (n : ℕ). with_importers n (drop (k + 1) us) new) (sym (add-one k)))
+    ∙ ap (λ (xs : List Bool). with_importers (suc k) (drop (k + 1) us) xs) e
+    ∙ ap (λ (n : ℕ). with_importers n (drop (k + 1) us) new) (sym (add-one k)))
 
 pub kept_already : (bs : List Bool) (k : ℕ) (q : Bool) → marked bs k ≡ true → (if q then with_mark bs k else bs) ≡ bs
 kept_already bs k true e = mark_again bs k e

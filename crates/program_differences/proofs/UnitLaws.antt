@@ -219,8 +219,8 @@ by_fault u (Some f) sets entries forms exports faults = refl
 by_fault u None sets entries forms exports faults =
     forms_both (code.set_errors (zip (code.set_forms u.number 0 u.forms) sets) ++ code.export_errors faults) (code.form_errors forms)
     ∙ (λ j. (forms_both (code.set_errors (zip (code.set_forms u.number 0 u.forms) sets)) (code.export_errors faults)
-            ∙ (λ i. (ap (λ (ns : List ℕ). seconds (code.set_errors (zip ns sets))) (sets_same u.number 0 u.forms) ∙ set_errors_same (zip (same.set_forms u.number 0 u.forms) sets)) i ++ export_errors_same faults i)) j
-        ++ form_errors_same forms j)
+    ∙ (λ i. (ap (λ (ns : List ℕ). seconds (code.set_errors (zip ns sets))) (sets_same u.number 0 u.forms) ∙ set_errors_same (zip (same.set_forms u.number 0 u.forms) sets)) i ++ export_errors_same faults i)) j
+    ++ form_errors_same forms j)
 
 error_forms : (es : List UnitError) → forms_of es ≡ seconds (map code.error_as es)
 error_forms [] = refl

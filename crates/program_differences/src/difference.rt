@@ -26,11 +26,11 @@ ghost use Rattle.alpha_equal.specs.Points.{spot_as, IsShown};
 
 use crate::both::Programs;
 use crate::listed::{Apart, listed_apart};
-use alpha_equal::numbers::Numbers;
 use crate::plan::{Difference, ExportChange, Plan, Side};
-use alpha_equal::points::{Shown, Spot};
 use crate::reach::in_reach;
 use crate::units::units_apart;
+use alpha_equal::numbers::Numbers;
+use alpha_equal::points::{Shown, Spot};
 use core_tree::units::Program;
 use ls_base::{Mem, Memory, Text};
 use program_leaves::sight::{FormNo, Sight};
@@ -131,13 +131,7 @@ fn meaning_side(
 }
 
 /// What a point is told as.
-fn side_of(
-    alloc: Global,
-    work: &Work,
-    sight: &Sight<'_>,
-    at: FormNo,
-    shown: Shown<'_>,
-) -> Mem<Side>
+fn side_of(alloc: Global, work: &Work, sight: &Sight<'_>, at: FormNo, shown: Shown<'_>) -> Mem<Side>
     requires { (t : ModelShown) × IsShown work.now.symbols at.unit at.form shown t }
     ensures { (leaves : List CoreLeaf) (keywords : List ModelTarget) (names : List ModelName) (table : Table) (t : ModelShown) →
         Sees work.now sight.now leaves keywords names table → IsShown work.now.symbols at.unit at.form shown.entry t →

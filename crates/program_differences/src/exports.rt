@@ -21,9 +21,9 @@ ghost use Rattle.program_differences.specs.Exported.{changes_as, first_given, as
 ghost use Rattle.program_differences.specs.Both.{BothStand, AreBoth, AreNumbered};
 
 use crate::both::{Both, Programs};
+use crate::plan::ExportChange;
 use alpha_equal::compare::agrees;
 use alpha_equal::meanings::seen_of;
-use crate::plan::ExportChange;
 use alpha_equal::points::{Pair, Shown, Spot, Told};
 use core_tree::units::NameUse;
 use ls_base::{Mem, Text};
@@ -136,7 +136,7 @@ fn export_apart<'a>(
     ensures { (p q : ModelProgram) (live : Option AnyOcc → Bool) (asks : List ℕ → List ℕ) (xs ys : List ExportSpec) (e d : ModelEntry) (unit : ℕ) → AreNumbered programs.now p q →
         ((s : List ℕ) → name_or (get_by_text asked.now s) s ≡ asks s) → IsEntry programs.now.work.now.symbols old.now e → IsEntry programs.now.work.now.symbols new.now d →
         before ≡ model_external xs e.name → after ≡ model_external ys d.name → ArePair programs.now.work.now.symbols unit 0 result
-            (first_apart live [] (export_points (program_table p) asks xs e) (export_points (program_table q) (λ s. s) ys d)) }
+        (first_apart live [] (export_points (program_table p) asks xs e) (export_points (program_table q) (λ s. s) ys d)) }
 {
     if !is_asked(asked, old.name.as_str(), new.name.as_str()) {
         return Some(Pair {
@@ -164,7 +164,7 @@ pub fn exports_apart<'a>(
     ensures { (text : LibraryName → List ℕ) (uris : List (List ℕ)) (before after : List Placed) (p q : ModelProgram) (r s : UnitResult) (live : Option AnyOcc → Bool) →
         BothStand text uris before after programs.now p q both.entry r s → AreNumbered programs.now p q → AreGiven p r → AreGiven q s →
         IfOk result (λ found. ArePair programs.now.work.now.symbols both.entry.place 0 found (first_apart live []
-            (exports_at (program_table p) (model_asked (changes_as changes.now) both.entry.place) (Some r)) (exports_at (program_table q) (λ s. s) (Some s)))) }
+        (exports_at (program_table p) (model_asked (changes_as changes.now) both.entry.place) (Some r)) (exports_at (program_table q) (λ s. s) (Some s)))) }
 {
     let old = both.old.exports.as_slice();
     let new = both.new.exports.as_slice();

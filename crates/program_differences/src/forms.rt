@@ -19,6 +19,7 @@ ghost use Rattle.alpha_equal.specs.Data.{IsDatumNode};
 ghost use Rattle.alpha_equal.specs.Filled.{KnowsNumbers};
 ghost use Rattle.alpha_equal.specs.Marks.{mark_of, IsMark, AreMarks};
 
+use crate::rules::slots_of;
 use alpha_equal::data::{DatumNode, datum_nodes};
 use alpha_equal::marks::{Mark, add_form};
 use alpha_equal::meanings::meaning_at;
@@ -26,7 +27,6 @@ use alpha_equal::nodes::Node;
 use alpha_equal::numbers::Numbers;
 use alpha_equal::points::{Point, Seen, Shown, Spot, Told};
 use alpha_equal::quoted::{add_atom, add_number, add_shape, truth_number};
-use crate::rules::slots_of;
 use alpha_equal::slots::fill;
 use core_tree::cores::MacroDef;
 use core_tree::units::ExpandedItem;

@@ -1,4 +1,5 @@
-//! The first place at which two programs aren't the same up to the names that were asked for.
+//! Where two programs first differ: in their lists of units, their forms, the Errors of a unit and its exports; and the units in reach of
+//! a change.
 #![tactic(auto)]
 
 pub mod both;

@@ -18,11 +18,11 @@ ghost use Rattle.program_differences.specs.Listed.{AreAlike};
 ghost use Rattle.alpha_equal.specs.Points.{ArePair};
 
 use crate::both::{Both, Programs};
-use alpha_equal::compare::first_apart;
 use crate::exports::exports_apart;
 use crate::forms::points_of;
 use crate::listed::{Apart, error_apart};
 use crate::plan::ExportChange;
+use alpha_equal::compare::first_apart;
 use alpha_equal::points::Pair;
 use core_tree::units::{ExpandedItem, UnitForm};
 use ls_base::Mem;
@@ -87,12 +87,18 @@ fn forms_apart<'a>(
     ensures { (text : LibraryName → List ℕ) (uris : List (List ℕ)) (before after : List Placed) (p q : ModelProgram) (r s : UnitResult) (is_live : Option AnyOcc → Bool) →
         BothStand text uris before after programs.now p q both.entry r s → AreNumbered programs.now p q → TellsLive live.now is_live →
         IfOk result (λ found. FindsFirst programs.now.work.now.symbols is_live
-            (form_stretches (program_table p) (program_table q) both.entry.place (Some r) (Some s) 0 (max (form_count (Some r)) (form_count (Some s)))) found) }
+        (form_stretches (program_table p) (program_table q) both.entry.place (Some r) (Some s) 0 (max (form_count (Some r)) (form_count (Some s)))) found) }
 {
     let old = both.old.forms.as_slice();
     let new = both.new.forms.as_slice();
     for form in 0..old.len() {
-        let pair = form_apart(alloc, programs, live, unbroken(&old[form]), unbroken(&new[form]))?;
+        let pair = form_apart(
+            alloc,
+            programs,
+            live,
+            unbroken(&old[form]),
+            unbroken(&new[form]),
+        )?;
         if pair.is_some() {
             return Ok(placed(both.place, form, pair));
         }
@@ -167,7 +173,7 @@ pub fn units_apart<'a>(
     ensures { (text : LibraryName → List ℕ) (uris : List (List ℕ)) (before after : List Placed) (p q : ModelProgram) (is_live : Option AnyOcc → Bool) →
         ProgramsStand text uris before after programs.now p q → AreNumbered programs.now p q → ExportsAreGiven p → ExportsAreGiven q → TellsLive live.now is_live →
         IfOk result (λ found. FindsFirst programs.now.work.now.symbols is_live
-            (flat_map (λ unit. unit_stretches p q (changes_as changes.now) unit (result_at p.units unit) (result_at q.units unit)) reach.now) found) }
+        (flat_map (λ unit. unit_stretches p q (changes_as changes.now) unit (result_at p.units unit) (result_at q.units unit)) reach.now) found) }
 {
     for place in reach {
         let found = unit_apart_at(alloc, programs, live, changes, *place)?;

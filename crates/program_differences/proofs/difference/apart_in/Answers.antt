@@ -20,8 +20,8 @@ returns-then-is_some c = λ text uris before after p q is_live tells distinct st
     let rest = flat_map (λ (unit : ℕ). unit_stretches p q (changes_as c.args.changes.now) unit (result_at p.units unit) (result_at q.units unit)) c.args.reach.now in
     found_here work.symbols is_live listed rest c.listed_apart-listed.result (sym c.is_some.ensures ∙ c.if-is_some.true)
     (c.listed_apart-listed.ensures.first work text uris before after p q is_live tells distinct
-        (subst (λ (us : List CodeUnit). UnitsStand work text uris before p 0 us p.units) (sym c.as_slice.ensures) stand.old)
-        (subst (λ (us : List CodeUnit). UnitsStand work text uris after q 0 us q.units) (sym c.as_slice-2.ensures) stand.new))
+    (subst (λ (us : List CodeUnit). UnitsStand work text uris before p 0 us p.units) (sym c.as_slice.ensures) stand.old)
+    (subst (λ (us : List CodeUnit). UnitsStand work text uris after q 0 us q.units) (sym c.as_slice-2.ensures) stand.new))
 
 pub units_apart-requires : goal.units_apart-requires
 units_apart-requires c = record {
@@ -36,7 +36,7 @@ returns c = λ text uris before after p q is_live tells distinct stand numbered 
     let listed = listed_stretches p q 0 (max (length p.units) (length q.units)) in
     let rest = flat_map (λ (unit : ℕ). unit_stretches p q (changes_as c.args.changes.now) unit (result_at p.units unit) (result_at q.units unit)) c.args.reach.now in
     let past = found_past work.symbols is_live listed rest c.listed_apart-listed.result (sym c.is_some.ensures ∙ c.if-is_some.false)
-        (c.listed_apart-listed.ensures.first work text uris before after p q is_live tells distinct
-            (subst (λ (us : List CodeUnit). UnitsStand work text uris before p 0 us p.units) (sym c.as_slice.ensures) stand.old)
-            (subst (λ (us : List CodeUnit). UnitsStand work text uris after q 0 us q.units) (sym c.as_slice-2.ensures) stand.new)) in
+    (c.listed_apart-listed.ensures.first work text uris before after p q is_live tells distinct
+    (subst (λ (us : List CodeUnit). UnitsStand work text uris before p 0 us p.units) (sym c.as_slice.ensures) stand.old)
+    (subst (λ (us : List CodeUnit). UnitsStand work text uris after q 0 us q.units) (sym c.as_slice-2.ensures) stand.new)) in
     subst (AreFound work.symbols _) (sym past) (c.in_ok-units_apart.ensures text uris before after p q is_live stand numbered given others live)

@@ -28,8 +28,7 @@ returns-then-is_none c = λ text uris before after p q tells apart one other giv
 pub difference_where-requires : goal.difference_where-requires
 difference_where-requires c =
     let are = c.in_ok-programs.ensures.told in
-    let h = c.requires in
-    (
+    let h = c.requires in (
       comparable c.in_ok-programs.programs c.args.work.now c.args.old.now c.args.new.now are.0 are.1 are.2 h,
       c.in_ok-programs.ensures.numbered h.text h.uris h.before h.after h.p h.q h.old_stands h.new_stands,
     )

@@ -19,9 +19,9 @@ returns-then-not-is_asked c = λ p q live asks xs ys e d unit numbered asked one
     sym (λ j. bytes_eq ((asked c.as_str.result.now ∙ ap asks (c.as_str.ensures ∙ one.name)) j) ((c.as_str-2.ensures ∙ other.name) j)) ∙ sym c.is_asked.ensures ∙ apart in
     by_name names unit live (program_table p) (program_table q) asks xs ys e d c.in_export.result c.in_export-then-not-is_asked.result tests
     (λ s. subst (λ (o : Option Occ). IsTold names unit 0 c.in_export.result (point AtExport s o (ShowsSymbol e.name))) before
-        (c.in_export.ensures names unit 0 s (ShowsSymbol e.name) (ap ShowsSymbol (sym (c.as_str-then-not-is_asked.ensures ∙ one.name)))))
+    (c.in_export.ensures names unit 0 s (ShowsSymbol e.name) (ap ShowsSymbol (sym (c.as_str-then-not-is_asked.ensures ∙ one.name)))))
     (λ s. subst (λ (o : Option Occ). IsTold names unit 0 c.in_export-then-not-is_asked.result (point AtExport s o (ShowsSymbol d.name))) after
-        (c.in_export-then-not-is_asked.ensures names unit 0 s (ShowsSymbol d.name) (ap ShowsSymbol (sym (c.as_str-then-not-is_asked-2.ensures ∙ other.name)))))
+    (c.in_export-then-not-is_asked.ensures names unit 0 s (ShowsSymbol d.name) (ap ShowsSymbol (sym (c.as_str-then-not-is_asked-2.ensures ∙ other.name)))))
 
 pub returns-then-not-mean_the_same : goal.returns-then-not-mean_the_same
 returns-then-not-mean_the_same c = λ p q live asks xs ys e d unit numbered asked one other before after.
@@ -33,9 +33,9 @@ returns-then-not-mean_the_same c = λ p q live asks xs ys e d unit numbered aske
     by_meaning names unit live (program_table p) (program_table q) asks xs ys e d c.in_export-then-not-mean_the_same.result c.in_export-then-not-mean_the_same-2.result tests
     (sym (c.mean_the_same.ensures p q e.meaning d.meaning numbered one.meaning other.meaning) ∙ apart)
     (λ s. subst (λ (o : Option Occ). IsTold names unit 0 c.in_export-then-not-mean_the_same.result (point AtExport s o (ShowsMeaning e.meaning))) before
-        (c.in_export-then-not-mean_the_same.ensures names unit 0 s (ShowsMeaning e.meaning) (e.meaning, one.meaning unit 0, refl)))
+    (c.in_export-then-not-mean_the_same.ensures names unit 0 s (ShowsMeaning e.meaning) (e.meaning, one.meaning unit 0, refl)))
     (λ s. subst (λ (o : Option Occ). IsTold names unit 0 c.in_export-then-not-mean_the_same-2.result (point AtExport s o (ShowsMeaning d.meaning))) after
-        (c.in_export-then-not-mean_the_same-2.ensures names unit 0 s (ShowsMeaning d.meaning) (d.meaning, other.meaning unit 0, refl)))
+    (c.in_export-then-not-mean_the_same-2.ensures names unit 0 s (ShowsMeaning d.meaning) (d.meaning, other.meaning unit 0, refl)))
 
 pub returns : goal.returns
 returns c = λ p q live asks xs ys e d unit numbered asked one other before after.

@@ -39,8 +39,7 @@ export_apart-pair-requires c =
     let olds : AreEntries names c.as_slice-old.result.now old.r.exports = subst (λ (es : List code_entry.Entry). AreEntries names es old.r.exports) (sym c.as_slice-old.ensures) old.stand.exports in
     let news : AreEntries names c.as_slice-new.result.now new.r.exports = subst (λ (es : List code_entry.Entry). AreEntries names es new.r.exports) (sym c.as_slice-new.ensures) new.stand.exports in
     let one = entry_at names c.as_slice-old.result.now old.r.exports k c.index-old-k.result blank olds (omega arith) in
-    let two = entry_at names c.as_slice-new.result.now new.r.exports k c.index-new-k.result blank news (omega arith) in
-    (
+    let two = entry_at names c.as_slice-new.result.now new.r.exports k c.index-new-k.result blank news (omega arith) in (
       get_or old.r.exports k blank,
       get_or new.r.exports k blank,
       subst (λ (z : code_entry.Entry). IsEntry names z (get_or old.r.exports k blank)) (sym c.index-old-k.is) one.stands,
@@ -71,10 +70,10 @@ returns-then-is_some c = λ text uris before after p q r s live stand numbered g
     let first = c.external_occ-before.ensures m.front m.it m.last (c.as_slice.ensures ∙ m.parted) (ap (λ (i : ℕ). i - k) a ∙ m.count) ∙ m.stands in
     let second = c.external_occ-after.ensures n.front n.it n.last (c.as_slice-in-loop-k.ensures ∙ n.parted) (ap (λ (i : ℕ). i - k) b ∙ n.count) ∙ n.stands in
     let here = c.export_apart-pair.ensures p q live asks xs ys e d place numbered (λ x. ap (λ (o : Option (List ℕ)). name_or o x) (c.in_ok-asked.ensures x) ∙ asked_is place c.args.changes.now x)
-        (subst (λ (z : code_entry.Entry). IsEntry names z e) (sym c.index-old-k.is) one.stands) (subst (λ (z : code_entry.Entry). IsEntry names z d) (sym c.index-new-k.is) two.stands) first second in
+    (subst (λ (z : code_entry.Entry). IsEntry names z e) (sym c.index-old-k.is) one.stands) (subst (λ (z : code_entry.Entry). IsEntry names z d) (sym c.index-new-k.is) two.stands) first second in
     let many : length r.exports ≡ length s.exports = omega (arith, a, b) in
     let whole = c.loop-k.invariant text uris before after p q r s live stand numbered given others
-        ∙ sym (as_many_exports names place live (length r.exports) (length s.exports) (all_exports t asks xs r.exports) (all_exports u (λ x. x) ys s.exports) many) in
+    ∙ sym (as_many_exports names place live (length r.exports) (length s.exports) (all_exports t asks xs r.exports) (all_exports u (λ x. x) ys s.exports) many) in
     a_pair names place 0 c.export_apart-pair.result (first_apart live [] (export_points t asks xs e) (export_points u (λ x. x) ys d)) _ (sym c.is_some.ensures ∙ c.if-is_some.true) here
     (λ pair h. subst (ArePair names place 0 (Some pair)) whole (exports_here names live t u asks xs ys place pair c.as_slice-old.result.now c.as_slice-new.result.now r.exports s.exports k c.index-old-k.result blank blank one again h))
 
@@ -102,7 +101,7 @@ loop-k-preserved c = λ text uris before after p q r s live stand numbered given
     let first = c.external_occ-before.ensures m.front m.it m.last (c.as_slice.ensures ∙ m.parted) (ap (λ (i : ℕ). i - k) a ∙ m.count) ∙ m.stands in
     let second = c.external_occ-after.ensures n.front n.it n.last (c.as_slice-in-loop-k.ensures ∙ n.parted) (ap (λ (i : ℕ). i - k) b ∙ n.count) ∙ n.stands in
     let here = c.export_apart-pair.ensures p q live asks xs ys e d place numbered (λ x. ap (λ (o : Option (List ℕ)). name_or o x) (c.in_ok-asked.ensures x) ∙ asked_is place c.args.changes.now x)
-        (subst (λ (z : code_entry.Entry). IsEntry names z e) (sym c.index-old-k.is) one.stands) (subst (λ (z : code_entry.Entry). IsEntry names z d) (sym c.index-new-k.is) two.stands) first second in
+    (subst (λ (z : code_entry.Entry). IsEntry names z e) (sym c.index-old-k.is) one.stands) (subst (λ (z : code_entry.Entry). IsEntry names z d) (sym c.index-new-k.is) two.stands) first second in
     let none = no_pair names place 0 c.export_apart-pair.result (first_apart live [] (export_points t asks xs e) (export_points u (λ x. x) ys d)) (sym c.is_some.ensures ∙ c.if-is_some.false) here in
     sym (exports_past names live t u asks xs ys c.as_slice-old.result.now c.as_slice-new.result.now r.exports s.exports k c.index-old-k.result blank blank one again none)
     ∙ c.loop-k.invariant text uris before after p q r s live stand numbered given others
@@ -125,5 +124,5 @@ returns c = λ text uris before after p q r s live stand numbered given others.
     let one = drop_all k r.exports (omega (arith, a)) in
     let two = drop_all k s.exports (omega (arith, b)) in
     let whole = (λ j. first_apart live [] (all_exports t asks xs (sym one j)) (all_exports u (λ x. x) ys (sym two j))) ∙ c.loop-k.invariant text uris before after p q r s live stand numbered given others
-        ∙ sym (as_many_exports names place live (length r.exports) (length s.exports) (all_exports t asks xs r.exports) (all_exports u (λ x. x) ys s.exports) many) in
+    ∙ sym (as_many_exports names place live (length r.exports) (length s.exports) (all_exports t asks xs r.exports) (all_exports u (λ x. x) ys s.exports) many) in
     subst (ArePair names place 0 None) whole tt

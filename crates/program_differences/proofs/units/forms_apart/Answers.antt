@@ -82,5 +82,5 @@ returns c = λ text uris before after p q r s is_live stand numbered tells.
     let alike : length s.unit.forms ≡ count = let e = stand.old.count in let f = stand.new.count in let g = stand.count in omega (arith, e, f, g) in
     let many : max count (length s.unit.forms) ≡ count = ap (max count) alike ∙ max_itself count in
     let whole = sym (no_form is_live t u place (Some r) (Some s) c.loop-form.form count (let e = stand.old.count in let size = ap length c.as_slice-old.ensures in omega (arith, e, size))) ∙ c.loop-form.invariant text uris before after p q r s is_live stand numbered tells
-        ∙ ap (λ (m : ℕ). first_among is_live (form_stretches t u place (Some r) (Some s) 0 m)) (sym many) in
+    ∙ ap (λ (m : ℕ). first_among is_live (form_stretches t u place (Some r) (Some s) 0 m)) (sym many) in
     subst (AreFound names None) whole tt
