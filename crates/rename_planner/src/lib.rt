@@ -5,7 +5,7 @@
 pub mod comparing;
 pub mod conditions;
 pub mod faults;
-pub mod planned;
+pub mod planning;
 pub mod preparing;
 pub mod renaming;
 pub mod texts;
