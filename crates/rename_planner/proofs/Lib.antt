@@ -1,1 +1,4 @@
+pub mod ReadingLaws
+pub mod BindLaws
+pub mod ConditionLaws
 pub mod RoundTrip
