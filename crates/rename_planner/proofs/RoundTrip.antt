@@ -222,7 +222,7 @@ module _ (units : ℕ → ℕ) (some : (c : ℕ) → 1 ≤ units c) where
 
 -- ---- in a text
 
-some_units : (e : Encoding) (c : ℕ) → 1 ≤ units_of e c
+pub some_units : (e : Encoding) (c : ℕ) → 1 ≤ units_of e c
 some_units Utf8 c = (len_utf8_bounds c).0
 some_units Utf16 c = go (ltb c 65536)
   where
