@@ -26,7 +26,7 @@ use Rattle.class_edits.specs.Clashes.{has_two}
 use Rattle.class_edits.specs.DocumentEdits as code
 use Rattle.rename_conditions.specs.Opened.{Opened, edits_from, all_edited}
 use Rattle.rename_conditions.specs.Renames.{first_unread, first_too_long, is_reserved}
-use Rattle.rename_planner.specs.ReadAs.{reading_in}
+use Rattle.rename_planner.specs.ReadDocuments.{reading_of}
 use Rattle.rename_planner.specs.ToldRenames.{texts_of}
 
 -- ---- a document that the code tells by its uri, and the definition by its number
@@ -47,30 +47,30 @@ later n d ds (Some uri) (Some m) h = let e : m ≡ n + suc h.0 = let k = h.1 in 
 at_once : (n : ℕ) → n ≡ n + 0
 at_once n = omega arith
 
-pub unread_one : (n : ℕ) (ds : List (List ℕ × Document)) (rs : List Read) → AreReadAs ds rs → IsNumbered n ds (read.first_unread ds rs) (first_unread n (map reading_in rs))
+pub unread_one : (n : ℕ) (ds : List (List ℕ × Document)) (rs : List Read) → AreReadAs ds rs → IsNumbered n ds (read.first_unread ds rs) (first_unread n (map reading_of rs))
 unread_one n [] [] h = tt
 unread_one n [] (r ∷ rs) h = absurd h
 unread_one n (d ∷ ds) [] h = absurd h
 unread_one n (d ∷ ds) (Stops f ∷ rs) h = (0, at_once n, refl)
-unread_one n (d ∷ ds) (Reads es spans ∷ rs) h = later n d ds (read.first_unread ds rs) (first_unread (suc n) (map reading_in rs)) (unread_one (suc n) ds rs h.1)
+unread_one n (d ∷ ds) (Reads es spans ∷ rs) h = later n d ds (read.first_unread ds rs) (first_unread (suc n) (map reading_of rs)) (unread_one (suc n) ds rs h.1)
 
 pub long_one : (w : Opened) (o : Occ) (stem : List ℕ) (n : ℕ) (ds : List (List ℕ × Document)) (rs : List Read) → AreReadAs ds rs →
-    IsNumbered n ds (code.too_long ds (code.edits_from w.links w.program.units stem o n ds rs)) (first_too_long n (all_edited (edits_from w o stem n (texts_of ds) (map reading_in rs)) (texts_of ds)))
+    IsNumbered n ds (code.too_long ds (code.edits_from w.links w.program.units stem o n ds rs)) (first_too_long n (all_edited (edits_from w o stem n (texts_of ds) (map reading_of rs)) (texts_of ds)))
 long_one w o stem n [] [] h = tt
 long_one w o stem n [] (r ∷ rs) h = absurd h
 long_one w o stem n (d ∷ ds) [] h = absurd h
 long_one w o stem n (d ∷ ds) (Reads es spans ∷ rs) h = go (nat_lt max_text (length (edited (class_edits w.links w.program.units stem o n d.1.1 spans) d.1.1)))
   where
-    rest = later n d ds (code.too_long ds (code.edits_from w.links w.program.units stem o (suc n) ds rs)) (first_too_long (suc n) (all_edited (edits_from w o stem (suc n) (texts_of ds) (map reading_in rs)) (texts_of ds))) (long_one w o stem (suc n) ds rs h.1)
+    rest = later n d ds (code.too_long ds (code.edits_from w.links w.program.units stem o (suc n) ds rs)) (first_too_long (suc n) (all_edited (edits_from w o stem (suc n) (texts_of ds) (map reading_of rs)) (texts_of ds))) (long_one w o stem (suc n) ds rs h.1)
     go : (b : Bool) → IsNumbered n (d ∷ ds) (cond b (Some d.0) (code.too_long ds (code.edits_from w.links w.program.units stem o (suc n) ds rs)))
-        (cond b (Some n) (first_too_long (suc n) (all_edited (edits_from w o stem (suc n) (texts_of ds) (map reading_in rs)) (texts_of ds))))
+        (cond b (Some n) (first_too_long (suc n) (all_edited (edits_from w o stem (suc n) (texts_of ds) (map reading_of rs)) (texts_of ds))))
     go true = (0, at_once n, refl)
     go false = rest
 long_one w o stem n (d ∷ ds) (Stops f ∷ rs) h = go (nat_lt max_text (length (edited (class_edits w.links w.program.units stem o n d.1.1 []) d.1.1)))
   where
-    rest = later n d ds (code.too_long ds (code.edits_from w.links w.program.units stem o (suc n) ds rs)) (first_too_long (suc n) (all_edited (edits_from w o stem (suc n) (texts_of ds) (map reading_in rs)) (texts_of ds))) (long_one w o stem (suc n) ds rs h.1)
+    rest = later n d ds (code.too_long ds (code.edits_from w.links w.program.units stem o (suc n) ds rs)) (first_too_long (suc n) (all_edited (edits_from w o stem (suc n) (texts_of ds) (map reading_of rs)) (texts_of ds))) (long_one w o stem (suc n) ds rs h.1)
     go : (b : Bool) → IsNumbered n (d ∷ ds) (cond b (Some d.0) (code.too_long ds (code.edits_from w.links w.program.units stem o (suc n) ds rs)))
-        (cond b (Some n) (first_too_long (suc n) (all_edited (edits_from w o stem (suc n) (texts_of ds) (map reading_in rs)) (texts_of ds))))
+        (cond b (Some n) (first_too_long (suc n) (all_edited (edits_from w o stem (suc n) (texts_of ds) (map reading_of rs)) (texts_of ds))))
     go true = (0, at_once n, refl)
     go false = rest
 

@@ -16,7 +16,8 @@ use Rattle.program_answers.specs.Classed.{IsClassAt, IsClassOf, head_of, standar
 use Rattle.program_answers.specs.ToldAnswers.{document_at, facts_in, name_by, name_there, number_of, text_of}
 use Rattle.program_answers.specs.declared.classes.Class.{Class}
 use Rattle.rename_conditions.specs.Renames.{Refusal, NotBound, IsStandard, unless, first_of, joined_at, standard_names}
-use Rattle.rename_planner.specs.ReadAs.{ComesTo, Holds, read_as}
+use Rattle.rename_planner.specs.Planning.{ComesTo, Holds}
+use Rattle.rename_planner.specs.ReadDocuments.{read_as}
 use Rattle.rename_planner.specs.RenameOutcomes.{IsFaultOf}
 use Rattle.rename_planner.specs.ToldRenames.{identifier_at, identifier_by}
 use Rattle.rename_planner.specs.declared.faults.RenameFault.{RenameFault}

@@ -16,7 +16,8 @@ ghost use Rattle.program_differences.specs.Exported.{changes_as};
 ghost use Rattle.rename_conditions.specs.Readers.{Reader, IsReader};
 ghost use Rattle.workspace_state.specs.Edited.{CanEdit};
 ghost use Rattle.rename_planner.specs.Changes.{all_changes, change_told, named_at, occ_from_end, unit_changes};
-ghost use Rattle.rename_planner.specs.ReadAs.{ComesTo, IsNamed, IsPlanned, named_in, planned_in, read_as};
+ghost use Rattle.rename_planner.specs.Planning.{ComesTo, IsNamed, IsPlanned, named_in, planned_in};
+ghost use Rattle.rename_planner.specs.ReadDocuments.{read_as};
 
 use crate::conditions::{all_read, all_whole, bound, fitting_edits, no_clash, no_standard, stem, symbol};
 use crate::faults::RenameFault;
