@@ -61,12 +61,12 @@ module _ {A B : Type 0} (e : Encoding) (ds : List (List ℕ × Document)) where
   pub lacks : (P : A → B → Type 0) (o : Option A) (why : Refusal) (fault : RenameFault) → o ≡ None → IsFaultOf e ds why fault → ComesTo e ds P (ok_or o why) (Err fault)
   lacks P o why fault q h = subst (λ (x : Option A). ComesTo e ds P (ok_or x why) (Err fault)) (sym q) (fault_refuses e ds why fault h)
 
-  -- there is one, which refuses it
-  pub refused : (o : Option A) (why : A → Refusal) (a : A) (fault : RenameFault) → o ≡ Some a → IsFaultOf e ds (why a) fault → ComesTo {B = B} e ds Holds (unless o why) (Err fault)
-  refused o why a fault q h = subst (λ (x : Option A). ComesTo {B = B} e ds Holds (unless x why) (Err fault)) (sym q) (fault_refuses e ds (why a) fault h)
-
   pub passes : (o : Option A) (why : A → Refusal) (b : B) → o ≡ None → ComesTo e ds Holds (unless o why) (Ok b)
   passes o why b q = subst (λ (x : Option A). ComesTo e ds Holds (unless x why) (Ok b)) (sym q) tt
+
+-- there is one, which refuses it
+pub refused : {A : Type 0} (B : Type 0) (e : Encoding) (ds : List (List ℕ × Document)) (o : Option A) (why : A → Refusal) (a : A) (fault : RenameFault) → o ≡ Some a → IsFaultOf e ds (why a) fault → ComesTo {B = B} e ds Holds (unless o why) (Err fault)
+refused {A} B e ds o why a fault q h = subst (λ (x : Option A). ComesTo {B = B} e ds Holds (unless x why) (Err fault)) (sym q) (fault_refuses e ds (why a) fault h)
 
 -- ---- the answer
 

@@ -1,6 +1,9 @@
 -- The Errors of units in reach, unit by unit.
-use Rattle.std.proofs.Common.{◌≡◌, ◌⊎◌, inl, inr, ℕ, zero, suc, ◌+◌, ◌==◌, ◌<◌, List, [], ◌∷◌, ◌++◌, map, filter, length, take, Bool, true, false, Option, Some, None, Result, Ok, Err, cond, slice_get, get_or, refl, sym, ap, ◌∙◌, subst, arith}
+use Rattle.std.proofs.Common.{◌≡◌, ◌⊎◌, inl, inr, ℕ, zero, suc, ◌+◌, ◌==◌, ◌<◌, List, [], ◌∷◌, ◌++◌, map, filter, length, take, drop, Bool, true, false, Option, Some, None, Result, Ok, Err, cond, slice_get, get_or, refl, sym, ap, ◌∙◌, subst, arith}
 use Rattle.std.specs.List.{flat_map}
+use Rattle.std.proofs.lemmas.Grind.{flat_map-append}
+use Rattle.std.proofs.lemmas.List.{drop_more, take_more, take-append-drop}
+use Rattle.std.proofs.lemmas.List.Concat.{flat_map-cons}
 use Rattle.std.proofs.lemmas.Bool.Decides.{nat_tests}
 use Rattle.ls_base.specs.declared.encoding.Encoding.{Encoding}
 use Rattle.scheme_model.specs.Diagnostics.{Bytes, Diagnostic, Span}
@@ -17,7 +20,7 @@ use Rattle.document_units.specs.UnitFindings.{first_error_at}
 use Rattle.document_units.specs.declared.places.PlacedError.{PlacedError}
 use Rattle.program_answers.specs.Placed.{IsErrorAt}
 use Rattle.program_answers.specs.ToldAnswers.{place_told}
-use Rattle.rename_conditions.specs.Opened.{spans_read}
+use Rattle.rename_conditions.specs.Opened.{Opened, spans_read}
 use Rattle.rename_conditions.specs.Renames as model
 use Rattle.rename_conditions.specs.Renames.{unless, first_of, broken}
 use Rattle.rename_planner.specs.Planning.{ComesTo, Holds, errors_in}
@@ -94,5 +97,16 @@ refuses e ds rs n rest p at h =
 
 -- ---- units one by one
 
-flat_append : {X Y : Type 0} (f : X → List Y) (xs ys : List X) → flat_map f (xs ++ ys) ≡ flat_map f xs ++ flat_map f ys
-flat_append f xs ys = grind arith
+module _ (w : Opened) where
+  abbrev own : ℕ → List Diagnostic
+  own n = errors_at (spans_read w) w.program n
+
+  pub none_more : (units : List ℕ) (i u : ℕ) → i < length units → u ≡ get_or units i u → errors_in w (take i units) ≡ [] → own u ≡ [] → errors_in w (take (i + 1) units) ≡ []
+  none_more units i u lt is none here =
+      ap (flat_map own) (take_more units i u lt ∙ ap (λ n. take i units ++ n ∷ []) (sym is)) ∙ flat_map-append own (take i units) (u ∷ [])
+      ∙ (λ j. none j ++ flat_map own (u ∷ [])) ∙ flat_map-cons own u [] ∙ (λ j. here j ++ [])
+
+  pub found_first : (units : List ℕ) (i u : ℕ) → i < length units → u ≡ get_or units i u → errors_in w (take i units) ≡ [] → errors_in w units ≡ own u ++ errors_in w (drop (i + 1) units)
+  found_first units i u lt is none =
+      ap (flat_map own) (sym (take-append-drop i units)) ∙ flat_map-append own (take i units) (drop i units) ∙ (λ j. none j ++ flat_map own (drop i units))
+      ∙ ap (flat_map own) (drop_more units i u lt ∙ ap (λ n. n ∷ drop (i + 1) units) (sym is)) ∙ flat_map-cons own u (drop (i + 1) units)

@@ -14,3 +14,8 @@ pub mod PrepareLaws
 pub mod ErrorLaws
 pub mod TellsLaws
 pub mod DistinctLaws
+pub mod ChangeLaws
+pub mod TriedLaws
+pub mod SymbolLaws
+pub mod NamedLaws
+pub mod PlannedLaws

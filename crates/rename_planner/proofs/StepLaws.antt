@@ -48,10 +48,10 @@ standard_first ds rs o = ap (λ (names : List (List ℕ)). head_of (ordered_by i
 
 -- ---- documents by their numbers
 
-pub document_refuses : {B : Type 0} (e : Encoding) (ds : List (List ℕ × Document)) (uri : List ℕ) (o : Option ℕ) (why : ℕ → Refusal) (fault : RenameFault) →
+pub document_refuses : (B : Type 0) (e : Encoding) (ds : List (List ℕ × Document)) (uri : List ℕ) (o : Option ℕ) (why : ℕ → Refusal) (fault : RenameFault) →
     IsNumbered 0 ds (Some uri) o → ((m : ℕ) → uri ≡ (document_at ds m).0 → IsFaultOf e ds (why m) fault) → ComesTo {B = B} e ds Holds (unless o why) (Err fault)
-document_refuses e ds uri None why fault h told = absurd h
-document_refuses e ds uri (Some m) why fault h told = fault_refuses e ds (why m) fault (told m (from_first ds uri m h))
+document_refuses B e ds uri None why fault h told = absurd h
+document_refuses B e ds uri (Some m) why fault h told = fault_refuses e ds (why m) fault (told m (from_first ds uri m h))
 
 pub no_document : {B : Type 0} (e : Encoding) (ds : List (List ℕ × Document)) (o : Option ℕ) (why : ℕ → Refusal) (b : B) → IsNumbered 0 ds None o → ComesTo e ds Holds (unless o why) (Ok b)
 no_document e ds None why b h = tt

@@ -98,6 +98,7 @@ fn no_error(ws: &Workspace, units: &[u32]) -> Result<(), RenameFault>
     ensures { (rs : List Read) → AreReadAs (entries ws.now.texts) rs →
         ComesTo ws.now.encoding (entries ws.now.texts) Holds (model.unless (model.first_of (errors_in (read_as (entries ws.now.texts) rs) units.now)) model.broken) result }
 {
+    let _program = ws.program();
     for unit in units {
         if let Some(PlacedError { place, code }) = ws.first_error(*unit)? {
             return Err(RenameFault::BrokenUnit { place, code });
