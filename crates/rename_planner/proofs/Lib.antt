@@ -19,3 +19,7 @@ pub mod TriedLaws
 pub mod SymbolLaws
 pub mod NamedLaws
 pub mod PlannedLaws
+pub mod CompareLaws
+pub mod RenameLaws
+pub mod UsesLaws
+pub mod LoopLaws

@@ -1,7 +1,10 @@
 -- The edits as they are told can be tried: read again, they are the edits that they were made of.
 use Rattle.std.proofs.Common.{◌≡◌, ◌≤◌, ◌<◌, ℕ, zero, suc, ◌+◌, List, [], ◌∷◌, ◌++◌, map, length, Bool, true, false, cond, Option, Some, None, refl, sym, ap, ◌∙◌, subst, slice_get, arith}
 use Rattle.std.specs.Prelude.{nat_lt}
+use Rattle.std.specs.FinMap.{entries}
+use Rattle.std.specs.Option.{option_map}
 use Rattle.std.specs.Str.{bytes_eq, IsUtf8}
+use Rattle.std.proofs.lemmas.Option.{slice_get-map}
 use Rattle.std.proofs.lemmas.Bool.{ltb-false}
 use Rattle.std.proofs.lemmas.Slice.Eq.{bytes_eq-Decides}
 use Rattle.ls_base.specs.Limits.{max_text}
@@ -11,15 +14,17 @@ use Rattle.ls_base.specs.declared.encoding.Encoding.{Encoding}
 use Rattle.scheme_model.specs.declared.Occ.{Occ}
 use Rattle.scheme_model.specs.Program.{UnitResult}
 use Rattle.scheme_model.specs.Spelling.{Link}
-use Rattle.document_store.specs.Texts.{Document}
+use Rattle.document_store.specs.Texts.{Document, Texts}
 use Rattle.document_units.specs.Readings.{Read, AreReadAs, IsReadAs, program_in, spans_in}
 use Rattle.program_answers.specs.ToldAnswers.{facts_in}
 use Rattle.text_edits.specs.Edits.{Edit, edited}
 use Rattle.text_edits.specs.Members.{class_edits, identifiers_of, members_of, name_of}
 use Rattle.text_edits.specs.Views.{AreCuts, edit_of, edit_told}
 use Rattle.text_edits.specs.declared.edits.Edit as code
-use Rattle.class_edits.specs.DocumentEdits.{CanEditAll, edits_from, edits_of_class, seen, told, told_of, too_long}
-use Rattle.workspace_state.specs.Edited.{CanEdit, edit_in, edits_for, edits_in}
+use Rattle.class_edits.specs.DocumentEdits.{CanEditAll, all_edited, edits_from, edits_of_class, seen, told, told_of, too_long}
+use Rattle.workspace_state.specs.Edited.{CanEdit, edit_in, edited_documents, edits_for, edits_in}
+use Rattle.rename_planner.specs.ToldRenames.{texts_of}
+use Rattle.rename_planner.proofs.DistinctLaws.{uris_distinct}
 use Rattle.rename_planner.proofs.ClassEnds.{class_back, told_back}
 
 -- the edits at a place, and none where there is none
@@ -115,3 +120,31 @@ fits_at (x ∷ ds) (es ∷ all) n d c h at = let same : length all ≡ length ds
     go more false q zero k there =
         let same : x ≡ d = cc in subst (λ (t : List ℕ × Document). length (edited es t.1.1) ≤ max_text) same (ltb-false max_text (length (edited es x.1.1)) q)
     go more false q (suc n) k there = more n k there
+
+-- ---- all together
+
+-- the edited texts are those that the edits of each document make
+pub texts_made : (e : Encoding) (edits : List DocEdits) (ds : List (List ℕ × Document)) (all : List (List Edit)) → length all ≡ length ds → ((n : ℕ) (d : List ℕ × Document) → slice_get ds n ≡ Some d → edits_in e edits d ≡ nth all n) →
+    texts_of (edited_documents e edits ds) ≡ all_edited ds all
+texts_made e edits [] all c h = refl
+texts_made e edits (d ∷ ds) [] c h = absurd cc
+texts_made e edits (d ∷ ds) (es ∷ all) c h =
+    let same : length all ≡ length ds = cc in
+    let first = h 0 d refl in
+    let rest = texts_made e edits ds all same (λ n x at. h (suc n) x at) in
+    λ j. edited (first j) d.1.1 ∷ rest j
+
+-- the edits can be tried
+pub can_try : (e : Encoding) (edits : List DocEdits) (ds : List (List ℕ × Document)) (all : List (List code.Edit)) → CanEditAll ds all → too_long ds (seen all) ≡ None → length (seen all) ≡ length ds →
+    ((n : ℕ) (d : List ℕ × Document) → slice_get ds n ≡ Some d → edits_in e edits d ≡ nth (seen all) n) → CanEdit e edits ds
+can_try e edits ds all can fits c h = record {
+  cuts = λ n d at. subst (AreCuts d.1.1 0) (sym (h n d at)) (cuts_at ds all n d can at);
+  fit = λ n d at. subst (λ es. length (edited es d.1.1) ≤ max_text) (sym (h n d at)) (fits_at ds (seen all) n d c fits at);
+}
+
+-- open documents stand apart
+pub stand_apart : (texts : Texts) → Apart (entries texts)
+stand_apart texts m n x y a b same =
+    let first : slice_get (map (λ (d : List ℕ × Document). d.0) (entries texts)) m ≡ Some x.0 = slice_get-map (λ (d : List ℕ × Document). d.0) (entries texts) m ∙ ap (option_map (λ (d : List ℕ × Document). d.0)) a in
+    let second : slice_get (map (λ (d : List ℕ × Document). d.0) (entries texts)) n ≡ Some y.0 = slice_get-map (λ (d : List ℕ × Document). d.0) (entries texts) n ∙ ap (option_map (λ (d : List ℕ × Document). d.0)) b in
+    uris_distinct texts m n x.0 first (second ∙ ap (λ (u : List ℕ). Some u) (sym same))
