@@ -110,3 +110,8 @@ module _ (w : Opened) where
   found_first units i u lt is none =
       ap (flat_map own) (sym (take-append-drop i units)) ∙ flat_map-append own (take i units) (drop i units) ∙ (λ j. none j ++ flat_map own (drop i units))
       ∙ ap (flat_map own) (drop_more units i u lt ∙ ap (λ n. n ∷ drop (i + 1) units) (sym is)) ∙ flat_map-cons own u (drop (i + 1) units)
+
+pub any_default : (xs : List ℕ) (i a b : ℕ) → i < length xs → get_or xs i a ≡ get_or xs i b
+any_default [] i a b lt = absurd (omega (arith, lt))
+any_default (x ∷ xs) zero a b lt = refl
+any_default (x ∷ xs) (suc i) a b lt = any_default xs i a b (omega (arith, lt))

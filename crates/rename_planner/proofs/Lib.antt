@@ -10,7 +10,6 @@ pub mod MemberLaws
 pub mod EditLaws
 pub mod PlaceLaws
 pub mod StepLaws
-pub mod PrepareLaws
 pub mod ErrorLaws
 pub mod TellsLaws
 pub mod DistinctLaws
@@ -23,3 +22,4 @@ pub mod CompareLaws
 pub mod RenameLaws
 pub mod UsesLaws
 pub mod LoopLaws
+pub mod PrepareLaws
