@@ -1,12 +1,24 @@
 -- Units and exports one by one.
-use Rattle.std.proofs.Common.{◌≡◌, ◌≤◌, ◌<◌, ℕ, suc, ◌+◌, ◌-◌, List, [], ◌∷◌, ◌++◌, length, drop, get_or, Option, refl, sym, ap, ◌∙◌, arith, append_assoc, append-nil}
+use Rattle.std.proofs.Common.{◌≡◌, ◌⊎◌, inl, inr, slice_get, Some, subst, ◌≤◌, ◌<◌, ℕ, suc, ◌+◌, ◌-◌, List, [], ◌∷◌, ◌++◌, length, drop, get_or, Option, refl, sym, ap, ◌∙◌, arith, append_assoc, append-nil}
+use Rattle.std.proofs.lemmas.Bool.{cases_lt}
 use Rattle.std.proofs.lemmas.List.{at_drop_all, drop_more, length-drop}
 use Rattle.scheme_model.specs.declared.Occ.{Occ}
 use Rattle.rename_model.specs.SameProgram.{ExportChange}
 use Rattle.syntax_tree.specs.declared.units.Entry.{Entry}
 use Rattle.core_tree.specs.declared.units.NameUse.{NameUse}
 use Rattle.core_tree.specs.declared.units.Unit.{Unit}
+use Rattle.document_store.specs.Texts.{Document}
+use Rattle.rename_planner.specs.Planning.{IsOpenText}
 use Rattle.rename_planner.specs.Changes.{all_changes, change_told, changes_among, occ_from_end, unit_changes}
+
+-- of one text more it is known
+pub seen_more : (ds : List (List ℕ × Document)) (i : ℕ) → ((n : ℕ) (d : List ℕ × Document) → n < i → slice_get ds n ≡ Some d → IsOpenText d.1.1) → ((d : List ℕ × Document) → slice_get ds i ≡ Some d → IsOpenText d.1.1) →
+    (n : ℕ) (d : List ℕ × Document) → n < i + 1 → slice_get ds n ≡ Some d → IsOpenText d.1.1
+seen_more ds i seen here n d lt at = go (cases_lt n i)
+  where
+    go : (n < i) ⊎ (i ≤ n) → IsOpenText d.1.1
+    go (inl h) = seen n d h at
+    go (inr h) = let e : n ≡ i = omega (arith, lt, h) in here d (subst (λ k. slice_get ds k ≡ Some d) e at)
 
 module _ (name : Occ → Option (List ℕ)) where
   pub unit_more : (units : List Unit) (i : ℕ) (u : Unit) (old new total : List ExportChange) → i < length units → u ≡ get_or units i u → new ≡ old ++ unit_changes name i u → old ++ all_changes name i (drop i units) ≡ total →
