@@ -10,10 +10,10 @@ pub returns-in_err-no_error : goal.returns-in_err-no_error
 returns-in_err-no_error c = λ rs o are is.
     let ds = entries c.args.ws.now.texts in
     let units = reach_errors ds rs o c.args.class.now c.as_slice.result.now is (c.as_slice.ensures ∙ c.in_ok-units.ensures rs are) in
-    subst (λ (xs : List Diagnostic). ComesTo c.args.ws.now.encoding ds Holds (unless (first_of xs) broken) (Err c.in_err-no_error.field-0.0)) units (c.in_err-no_error.ensures rs are)
+    subst (λ (xs : List Diagnostic). ComesTo {B = Unit {0}} c.args.ws.now.encoding ds Holds (unless (first_of xs) broken) (Err c.in_err-no_error.field-0.0)) units (c.in_err-no_error.ensures rs are)
 
 pub returns : goal.returns
 returns c = λ rs o are is.
     let ds = entries c.args.ws.now.texts in
     let units = reach_errors ds rs o c.args.class.now c.as_slice.result.now is (c.as_slice.ensures ∙ c.in_ok-units.ensures rs are) in
-    subst (λ (xs : List Diagnostic). ComesTo c.args.ws.now.encoding ds Holds (unless (first_of xs) broken) (Ok c.in_ok-no_error.field-0)) units (c.in_ok-no_error.ensures rs are)
+    subst (λ (xs : List Diagnostic). ComesTo {B = Unit {0}} c.args.ws.now.encoding ds Holds (unless (first_of xs) broken) (Ok c.in_ok-no_error.field-0)) units (c.in_ok-no_error.ensures rs are)
