@@ -1,6 +1,7 @@
 -- Conditions one behind another.
 use Rattle.std.proofs.Common.{◌≡◌, ℕ, List, map, Option, Some, None, Result, Ok, Err, refl, sym, ap, ◌∙◌, subst}
 use Rattle.std.specs.Option.{ok_or}
+use Rattle.std.specs.Result.{IsErrAnd}
 use Rattle.ls_base.specs.declared.encoding.Encoding.{Encoding}
 use Rattle.document_store.specs.Texts.{Document}
 use Rattle.scheme_model.specs.declared.Occ.{Occ}
@@ -22,6 +23,11 @@ memory_comes e ds P (Err refusal) = tt
 -- memory ran out
 pub at_memory : {A B : Type 0} (e : Encoding) (ds : List (List ℕ × Document)) (P : A → B → Type 0) (s : Result A Refusal) (fault : RenameFault) → fault ≡ faults.Memory → ComesTo e ds P s (Err fault)
 at_memory e ds P s fault h = subst (λ f. ComesTo e ds P s (Err f)) (sym h) (memory_comes e ds P s)
+
+-- a fault that is handed on
+pub err_goes : {A B : Type 0} (e : Encoding) (ds : List (List ℕ × Document)) (P : A → B → Type 0) (s : Result A Refusal) (r : Result B RenameFault) (fault : RenameFault) → IsErrAnd r (λ x. x ≡ fault) → ComesTo e ds P s (Err fault) → ComesTo e ds P s r
+err_goes e ds P s (Ok b) fault h k = absurd h
+err_goes e ds P s (Err x) fault h k = subst (λ f. ComesTo e ds P s (Err f)) (sym h) k
 
 -- a condition fails, and so the rest isn't tested
 pub bind_err : {A B C D : Type 0} (e : Encoding) (ds : List (List ℕ × Document)) (P : A → B → Type 0) (Q : C → D → Type 0) (s : Result A Refusal) (f : A → Result C Refusal) (fault : RenameFault) →
