@@ -41,6 +41,11 @@ pub bind_ok : {A B C D : Type 0} (e : Encoding) (ds : List (List ℕ × Document
 bind_ok e ds P Q (Ok a) f b r h k = k a refl h
 bind_ok e ds P Q (Err refusal) f b r h k = absurd h
 
+-- what comes out where all hold
+pub comes_ok : {A B : Type 0} (e : Encoding) (ds : List (List ℕ × Document)) (P : A → B → Type 0) (s : Result A Refusal) (b : B) → ComesTo e ds P s (Ok b) → (a : A) × (s ≡ Ok a) × P a b
+comes_ok e ds P (Ok a) b h = (a, refl, h)
+comes_ok e ds P (Err refusal) b h = absurd h
+
 pub bind_assoc : {A B C : Type 0} (s : Result A Refusal) (f : A → Result B Refusal) (g : B → Result C Refusal) → (s >>= f) >>= g ≡ s >>= λ a. f a >>= g
 bind_assoc (Ok a) f g = refl
 bind_assoc (Err refusal) f g = refl

@@ -46,8 +46,8 @@ named_among ls stem (m ∷ ms) p = go (named_among ls stem ms p) (same_occ m p) 
 within : (a b : ℕ) → nat_lt (a + suc b) (suc b) ≡ false
 within a b = grind (arith, nat_tests)
 
-not_none : (b : ℕ) → (suc b == 0) ≡ false
-not_none b = refl
+not_zero : (b : ℕ) → (suc b == 0) ≡ false
+not_zero b = grind (arith, nat_tests)
 
 at_seam : {X : Type 0} (xs : List X) (y : X) (zs : List X) → slice_get (xs ++ y ∷ zs) (length xs) ≡ Some y
 at_seam [] y zs = refl
@@ -62,7 +62,8 @@ from_end ns front n last e = ap (λ (xs : List code_name.NameUse). occ_from_end 
     left = omega (arith, count)
     there : occ_from_end (front ++ n ∷ last) (suc (length last)) ≡ n.target.occ
     there =
-        ap (λ (b : Bool). cond b None (place_in (slice_get (front ++ n ∷ last) (length (front ++ n ∷ last) - suc (length last))))) (ap (λ k. nat_lt k (suc (length last))) count ∙ within (length front) (length last))
+        ap (λ (b : Bool). cond b None (place_in (slice_get (front ++ n ∷ last) (length (front ++ n ∷ last) - suc (length last)))))
+        ((λ j. not_zero (length last) j || (ap (λ k. nat_lt k (suc (length last))) count ∙ within (length front) (length last)) j))
         ∙ ap (λ k. place_in (slice_get (front ++ n ∷ last) k)) left ∙ ap place_in (at_seam front n last)
 
 end_of : (ns : List code_name.NameUse) (place : Option Occ) (behind k : ℕ) → behind ≡ suc k → NamedAt ns place behind → occ_from_end ns (suc k) ≡ place
@@ -74,7 +75,7 @@ end_of ns place behind k e at =
 module _ (w : Opened) (o : Occ) (stem : List ℕ) (name : Occ → Option (List ℕ)) (named : (p : Occ) → name p ≡ name_of (members_of w.links stem o) p) where
   abbrev told_at : UnitResult → Entry → Option Occ → List ExportChange
   told_at r e None = []
-  told_at r e (Some p) = if is_member (class_in w o) p then record { unit = r.unit.number; old = e.name; new = (member_of w.links stem p).name } ∷ [] else []
+  told_at r e (Some p) = cond (is_member (class_in w o) p) (record { unit = r.unit.number; old = e.name; new = (member_of w.links stem p).name } ∷ []) []
 
   change_is : (r : UnitResult) (e : Entry) → export_change w o stem r e ≡ told_at r e (external_occ r.unit.exports e.name)
   change_is r e = refl

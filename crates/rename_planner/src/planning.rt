@@ -101,7 +101,7 @@ fn told(
     class: &Class,
     stem: &str,
     all: &[Items<Edit>],
-) -> Result<Planned, RenameFault>
+) -> Mem<Planned>
     requires made { CanEditAll (entries ws.now.texts) all.now }
     requires fit { too_long (entries ws.now.texts) (seen all.now) ≡ None }
     ensures exact { (rs : List Read) (o : AnyOcc) → AreReadAs (entries ws.now.texts) rs → IsClassOf (entries ws.now.texts) (facts_in rs) o class.now → clashing (facts_in rs).links o ≡ [] →
