@@ -60,7 +60,7 @@ module _ (r : Reader) (is : IsReader r) (e : Encoding) (texts : Texts) (rs : Lis
       first_difference (units_of (map data_in rs)) (program_in rs) (program_in ts) (plan_as p.plan) ≡ difference_by r w c.0 c.1
   difference_is p c ts is_planned there =
       let same : program_in ts ≡ program_read r (edited_in w c.0 c.1) =
-        sym (program_is_read r is (entries (edited_texts e p.edits texts)) ts there) ∙ ap (program_read r) (now_edited p c is_planned) in
+      sym (program_is_read r is (entries (edited_texts e p.edits texts)) ts there) ∙ ap (program_read r) (now_edited p c is_planned) in
       difference_same p.plan.class (plan_in w c.0 c.1).members is_planned.members (units_of (map data_in rs)) (program_in rs) (program_in ts) (changes_as p.plan.exports) (plan_in w c.0 c.1).exports is_planned.exports
       ∙ ap (λ q. first_difference (units_of (map data_in rs)) (program_in rs) q (plan_in w c.0 c.1)) same
 

@@ -37,7 +37,7 @@ returns-in_err-edits-clause-steps g c = λ r is free.
     let texts = c.args.ws.now.texts in
     let row = some_row (entries texts) in
     let none = not_counted r is e texts row.0 row.1 c.args.uri.now c.args.position c.args.new_name.now c.in_err-edits.field-0.0
-      (λ q. free (handed c.from_residual.result c.in_err-edits.field-0.0 c.from_residual.ensures.1 ∙ ap (λ f. Err f) q)) (c.in_err-edits.ensures.exact r row.0 is row.1) in
+    (λ q. free (handed c.from_residual.result c.in_err-edits.field-0.0 c.from_residual.ensures.1 ∙ ap (λ f. Err f) q)) (c.in_err-edits.ensures.exact r row.0 is row.1) in
     adds_none c.args.steps.now (rename_uses r e (entries texts) c.args.uri.now c.args.position c.args.new_name.now) none
 
 pub returns-in_err-compare-clause-answer : goal.returns-in_err-compare-clause-answer
