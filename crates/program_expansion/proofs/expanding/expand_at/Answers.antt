@@ -20,8 +20,8 @@ use Rattle.program_leaves.specs.Formed.{IsFormed}
 use Rattle.unit_imports.specs.EntriesMeant.{ExportsMean, HaveMeaning}
 use Rattle.document_units.specs.Places.{SameHead, AreHeads, AreHeadsIn, AreFoundIn, ArePlaces}
 use Rattle.unit_scopes.proofs.ImportLaws.{same_trees}
-use Rattle.unit_scopes.proofs.OutcomeLaws.{trees_on}
-use Rattle.form_expansion.proofs.BenchLaws.{bench_in}
+use Rattle.unit_scopes.proofs.OutcomeLaws.{grows_on, trees_on}
+use Rattle.form_expansion.proofs.BenchLaws.{bench_in, grows_named}
 use Rattle.program_expansion.proofs.CameKept.{have_kept, libraries_kept}
 use Rattle.program_expansion.proofs.TurnCited.{turn_of}
 use Rattle.program_expansion.proofs.UnitCame.{goes_in}

@@ -15,10 +15,11 @@ use Rattle.core_tree.specs.declared.units.UnitForm as core
 use Rattle.library_table.specs.UnitsRead.{form_of, forms_of}
 use Rattle.library_table.specs.declared.units.UnitForm.{UnitForm}
 use Rattle.unit_scopes.specs.Opened.{AreNumbered}
+use Rattle.unit_scopes.specs.Outcomes.{Grows}
 use Rattle.unit_scopes.specs.State.{is_program}
 use Rattle.unit_scopes.specs.declared.scope.Imported.{Imported}
 use Rattle.unit_scopes.proofs.ImportLaws.{same_trees}
-use Rattle.unit_scopes.proofs.OutcomeLaws.{trees_on}
+use Rattle.unit_scopes.proofs.OutcomeLaws.{grows_on, trees_on}
 use Rattle.form_expansion.specs.Begun.{IsImport}
 use Rattle.program_leaves.specs.Formed.{IsFormed}
 use Rattle.program_expansion.specs.UnitResults.{expanded_after, with_unit}
@@ -26,7 +27,7 @@ use Rattle.form_expansion.specs.Forms.{AreFormed, Unfolds}
 use Rattle.program_expansion.specs.UnitsFound.{in_the_end}
 use Rattle.document_units.specs.UnitFindings.{IsFoundOf}
 use Rattle.document_units.specs.WereRead.{WereRead}
-use Rattle.form_expansion.proofs.BenchLaws.{bench_in}
+use Rattle.form_expansion.proofs.BenchLaws.{bench_in, grows_by, grows_named}
 use Rattle.program_expansion.proofs.ImportedNames.{are_numbered}
 use Rattle.program_expansion.proofs.CameKept.{libraries_kept}
 use Rattle.unit_imports.proofs.MeaningLaws.{entries_kept, mean_kept, names_on}
@@ -35,6 +36,8 @@ use Rattle.program_expansion.proofs.UnitLaws.{imports_given, unit_begun}
 use Rattle.program_expansion.proofs.UnitNumbers.{own_numbers, searched_numbers, with_own}
 use Rattle.program_expansion.proofs.UnitsTurns.{all_mean, formed_on, of_some}
 use Rattle.program_expansion.proofs.expanding.expand_unit.Goals as goal
+use Rattle.program_expansion.proofs.expanding.expand_unit.Goals.{After-begin_unit, After-expand_forms, After-finished}
+use Rattle.program_expansion.proofs.expanding.expand_unit.Given.{Over}
 
 pub begin_unit-requires-clause-numbered : goal.begin_unit-requires-clause-numbered
 begin_unit-requires-clause-numbered g c =
@@ -218,3 +221,21 @@ returns-in-None-clause-libraries g c = λ known knows. c.in_ok-expanded.ensures.
 
 pub returns-in_ok-came-in-Some-clause-libraries : goal.returns-in_ok-came-in-Some-clause-libraries
 returns-in_ok-came-in-Some-clause-libraries g c = λ known knows. c.in_ok-expanded.ensures.stays.libraries known (c.in_ok-begin_unit.ensures.knows known knows)
+
+-- ---- what the work keeps, whatever is answered
+
+begun : (g : Over) (c : After-begin_unit g) → Grows c.args.bench.now.work c.begin_unit.new.work c.args.bench.now.region
+begun g c =
+    let b = c.args.bench.now in let w = c.imported.new.work in
+    grows_on b.work w c.begin_unit.new.work b.region (grows_named b.work w b.region c.imported.ensures.trees c.imported.ensures.names)
+    (grows_named w c.begin_unit.new.work b.region c.begin_unit.ensures.trees c.begin_unit.ensures.names)
+
+expanded : (g : Over) (c : After-expand_forms g) → Grows c.args.bench.now.work c.expand_forms.new.bench.work c.args.bench.now.region
+expanded g c =
+    let b = c.args.bench.now in
+    grows_on b.work c.begin_unit.new.work c.expand_forms.new.bench.work b.region (begun g c.After-begin_unit) c.expand_forms.ensures.grows
+
+ended : (g : Over) (c : After-finished g) → Grows c.args.bench.now.work c.finished.new.work c.args.bench.now.region
+ended g c =
+    let b = c.args.bench.now in let w = c.expand_forms.new.bench.work in
+    grows_on b.work w c.finished.new.work b.region (expanded g c.After-expand_forms) (grows_named w c.finished.new.work b.region c.finished.ensures.trees c.finished.ensures.names)
