@@ -56,7 +56,7 @@ module _ (old new : Work) (trees : KeepsTrees old new) (names : KeepsNames old.s
   external_kept : (unit : ℕ) (n : code.NameUse) (x : ExportSpec) → IsExternal old.symbols unit n x → IsExternal new.symbols unit n x
   external_kept unit n x h = record { ident = names.idents n.target.ident (Written unit x.outer.name) h.ident; place = h.place }
 
-  names_kept : (unit : ℕ) (cs : List code.NameUse) (ms : List NameUse) (xs : List ExportSpec) → AreNames old.symbols unit cs ms xs → AreNames new.symbols unit cs ms xs
+  pub names_kept : (unit : ℕ) (cs : List code.NameUse) (ms : List NameUse) (xs : List ExportSpec) → AreNames old.symbols unit cs ms xs → AreNames new.symbols unit cs ms xs
   names_kept unit cs ms xs h = record {
     told = h.told;
     match = match_kept (IsName old.symbols unit) (IsName new.symbols unit) (name_kept unit) cs h.told h.match;
