@@ -4,3 +4,4 @@ pub mod OthersLaws  -- Documents other than the one of an event stay, and so do 
 pub mod NewsTold  -- Lists as the code keeps them, by uri
 pub mod NoTexts  -- A workspace without documents
 pub mod IndexedLaws  -- The index of the program of the open documents
+pub mod EditedLaws  -- Edited documents stand in the order of their uris, as those before

@@ -1,12 +1,13 @@
 -- The texts of open documents once they are edited (LSP 3.17, TextEdit): the ranges of a document are those of its text as it was.
 use Rattle.std.specs.Prelude.{◌≡◌, ℕ, ◌≤◌, List, [], ◌∷◌, map, length, Some, slice_get, if◌then◌else◌}
+use Rattle.std.specs.FinMap.{entries, from_sorted}
 use Rattle.std.specs.Str.{bytes_eq}
 use Rattle.ls_base.specs.Limits.{max_text}
 use Rattle.ls_base.specs.Positions.{offset_of}
 use Rattle.ls_base.specs.declared.answers.DocEdits.{DocEdits}
 use Rattle.ls_base.specs.declared.answers.TextEdit.{TextEdit}
 use Rattle.ls_base.specs.declared.encoding.Encoding.{Encoding}
-use Rattle.document_store.specs.Texts.{Document}
+use Rattle.document_store.specs.Texts.{Document, Texts}
 use Rattle.text_edits.specs.Edits.{Edit, edited}
 use Rattle.text_edits.specs.Views.{AreCuts}
 
@@ -28,6 +29,10 @@ edited_document encoding ds d = (d.0, (d.1.0, edited (edits_in encoding ds d) d.
 
 abbrev pub edited_documents : Encoding → List DocEdits → List (List ℕ × Document) → List (List ℕ × Document)
 edited_documents encoding ds texts = map (edited_document encoding ds) texts
+
+-- all texts, edited
+abbrev pub edited_texts : Encoding → List DocEdits → Texts → Texts
+edited_texts encoding ds texts = from_sorted (edited_documents encoding ds (entries texts))
 
 -- the edits of each document are for bytes of its text one behind another, which begin and end between characters, and what they leave
 -- isn't too long

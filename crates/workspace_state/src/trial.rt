@@ -109,7 +109,7 @@ pub fn edited_store(
     encoding: Encoding,
 ) -> Mem<Store>
     requires { spec.CanEdit encoding edits.now (entries texts.now) }
-    ensures { IfOk result (λ store. entries store ≡ spec.edited_documents encoding edits.now (entries texts.now)) }
+    ensures { IfOk result (λ store. store ≡ spec.edited_texts encoding edits.now texts.now) }
 {
     let mut store = Store::new(alloc);
     for n in 0..MAX_DOCUMENTS as u32 {

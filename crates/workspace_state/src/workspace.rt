@@ -19,7 +19,7 @@ ghost use Rattle.program_answers.specs.ToldAnswers.{answer_of, facts_in, name_th
 ghost use Rattle.program_answers.specs.Placed.{IsErrorAt, IsIn, IsPlace, form_bytes};
 ghost use Rattle.document_units.specs.Places.{spans_of};
 ghost use Rattle.document_units.specs.UnitFindings.{first_error_at};
-ghost use Rattle.workspace_state.specs.Edited.{CanEdit, edited_documents};
+ghost use Rattle.workspace_state.specs.Edited.{CanEdit, edited_texts};
 ghost use Rattle.workspace_state.specs.Events.{leaves, event_of, fault_of, uri_of};
 ghost use Rattle.syntax_tree.specs.Names.{KeepsNames};
 ghost use Rattle.syntax_tree.specs.Works.{KeepsTrees};
@@ -191,8 +191,7 @@ impl Workspace {
         ensures trees { KeepsTrees self.old.expansion.work self.new.expansion.work }
         ensures names { KeepsNames self.old.expansion.work.symbols self.new.expansion.work.symbols }
         // The trial's program is that of the edited texts.
-        ensures trial { (texts : store.Texts) → entries texts ≡ edited_documents self.old.encoding edits.now (entries self.old.texts) →
-            IfOk result (λ trial. IsProgramOfTexts texts self.new.expansion.work trial.program) }
+        ensures trial { IfOk result (λ trial. IsProgramOfTexts (edited_texts self.old.encoding edits.now self.old.texts) self.new.expansion.work trial.program) }
         ensures formed { IfOk result (λ trial. AreFormedIn self.new.expansion.work trial.program.units) }
     {
         let alloc = self.alloc;
