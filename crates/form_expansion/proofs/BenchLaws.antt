@@ -84,3 +84,10 @@ grows_by b c h = record { trees = h.trees; names = h.names; regions = h.regions;
 -- a call behind others, in their region
 pub grows_behind : (b c : Bench) (w : Work) → Grows b.work c.work b.region → c.region ≡ b.region → Grows c.work w c.region → Grows b.work w b.region
 grows_behind b c w first same next = grows_on b.work c.work w b.region first (subst (λ (r : Region). Grows c.work w r) same next)
+
+pub grows_then : (b c : Bench) (w : Work) → Stays b c → Grows c.work w c.region → Grows b.work w b.region
+grows_then b c w first next = grows_behind b c w (grows_by b c first) first.region next
+
+-- names were added twice
+pub grows_twice : (a b c : Work) (r : Region) → b.trees ≡ a.trees → KeepsNames a.symbols b.symbols → c.trees ≡ b.trees → KeepsNames b.symbols c.symbols → Grows a c r
+grows_twice a b c r first names next more = grows_on a b c r (grows_named a b r first names) (grows_named b c r next more)

@@ -1,6 +1,6 @@
 -- All forms are gone through, and what they set aside is expanded.
 use Rattle.std.proofs.Common.{sym, ◌∙◌}
-use Rattle.form_expansion.proofs.BenchLaws.{stays_on}
+use Rattle.form_expansion.proofs.BenchLaws.{grows_then, stays_on}
 use Rattle.form_expansion.proofs.FormsHold.{held_bench}
 use Rattle.form_expansion.proofs.FormsUnfold.{passing_unfolds, can_finish_all, finishing_unfolds, all_unfolds}
 use Rattle.library_table.specs.UnitsRead.{forms_of}
@@ -57,3 +57,12 @@ returns-clause-unfolds g c = λ known ls s p knows stands own fresh number forms
 pub returns-clause-count : goal.returns-clause-count
 returns-clause-count g c =
     c.in_ok-expanded.ensures.count (sym c.is_large-2.ensures ∙ c.if-is_large-2.false) ∙ c.in_ok-declared.ensures.count (sym c.is_large.ensures ∙ c.if-is_large.false)
+
+pub returns-in_err-expanded-clause-grows : goal.returns-in_err-expanded-clause-grows
+returns-in_err-expanded-clause-grows g c = grows_then c.args.bench.now c.declare_all.new.bench c.finish_all.new.bench.work c.in_ok-declared.ensures.stays c.finish_all.ensures.grows
+
+pub returns-then-is_large-2-clause-grows : goal.returns-then-is_large-2-clause-grows
+returns-then-is_large-2-clause-grows g c = grows_then c.args.bench.now c.declare_all.new.bench c.finish_all.new.bench.work c.in_ok-declared.ensures.stays c.finish_all.ensures.grows
+
+pub returns-clause-grows : goal.returns-clause-grows
+returns-clause-grows g c = grows_then c.args.bench.now c.declare_all.new.bench c.finish_all.new.bench.work c.in_ok-declared.ensures.stays c.finish_all.ensures.grows

@@ -7,8 +7,6 @@ use Rattle.scheme_model.specs.Program.{unit_result, with_entries}
 use Rattle.scheme_model.specs.ScopedProgram.{scoped_start_of}
 use Rattle.scheme_model.specs.UnitExpansion.{Formed}
 use Rattle.syntax_tree.specs.Names.{KeepsNames}
-use Rattle.syntax_tree.specs.declared.trees.Work.{Work}
-use Rattle.syntax_tree.specs.declared.trees.table.Region.{Region}
 use Rattle.syntax_tree.specs.declared.units.Entry.{Entry}
 use Rattle.core_tree.specs.Names.{AllMatch}
 use Rattle.core_tree.specs.Units.{FormsStand, AreDefinitions, definitions_from, defined_by}
@@ -17,7 +15,6 @@ use Rattle.core_tree.specs.declared.units.UnitForm as core
 use Rattle.library_table.specs.UnitsRead.{form_of, forms_of}
 use Rattle.library_table.specs.declared.units.UnitForm.{UnitForm}
 use Rattle.unit_scopes.specs.Opened.{AreNumbered}
-use Rattle.unit_scopes.specs.Outcomes.{Grows}
 use Rattle.unit_scopes.specs.State.{is_program}
 use Rattle.unit_scopes.specs.declared.scope.Imported.{Imported}
 use Rattle.unit_scopes.proofs.ImportLaws.{same_trees}
@@ -29,7 +26,7 @@ use Rattle.form_expansion.specs.Forms.{AreFormed, Unfolds}
 use Rattle.program_expansion.specs.UnitsFound.{in_the_end}
 use Rattle.document_units.specs.UnitFindings.{IsFoundOf}
 use Rattle.document_units.specs.WereRead.{WereRead}
-use Rattle.form_expansion.proofs.BenchLaws.{bench_in, grows_named}
+use Rattle.form_expansion.proofs.BenchLaws.{bench_in, grows_named, grows_twice}
 use Rattle.program_expansion.proofs.ImportedNames.{are_numbered}
 use Rattle.program_expansion.proofs.CameKept.{libraries_kept}
 use Rattle.unit_imports.proofs.MeaningLaws.{entries_kept, mean_kept, names_on}
@@ -38,10 +35,6 @@ use Rattle.program_expansion.proofs.UnitLaws.{imports_given, unit_begun}
 use Rattle.program_expansion.proofs.UnitNumbers.{own_numbers, searched_numbers, with_own}
 use Rattle.program_expansion.proofs.UnitsTurns.{all_mean, formed_on, of_some}
 use Rattle.program_expansion.proofs.expanding.expand_unit.Goals as goal
-
--- names were added twice
-begun : (a b d : Work) (r : Region) → b.trees ≡ a.trees → KeepsNames a.symbols b.symbols → d.trees ≡ b.trees → KeepsNames b.symbols d.symbols → Grows a d r
-begun a b d r first names next more = grows_on a b d r (grows_named a b r first names) (grows_named b d r next more)
 
 pub begin_unit-requires-clause-numbered : goal.begin_unit-requires-clause-numbered
 begin_unit-requires-clause-numbered g c =
@@ -235,32 +228,32 @@ returns-in_err-imports-clause-grows g c =
 pub returns-in_err-begin_unit-clause-grows : goal.returns-in_err-begin_unit-clause-grows
 returns-in_err-begin_unit-clause-grows g c =
     let b = c.args.bench.now in
-    begun b.work c.imported.new.work c.begin_unit.new.work b.region c.imported.ensures.trees c.imported.ensures.names c.begin_unit.ensures.trees c.begin_unit.ensures.names
+    grows_twice b.work c.imported.new.work c.begin_unit.new.work b.region c.imported.ensures.trees c.imported.ensures.names c.begin_unit.ensures.trees c.begin_unit.ensures.names
 
 pub returns-in_err-expanded-clause-grows : goal.returns-in_err-expanded-clause-grows
 returns-in_err-expanded-clause-grows g c =
     let b = c.args.bench.now in
     grows_on b.work c.begin_unit.new.work c.expand_forms.new.bench.work b.region
-    (begun b.work c.imported.new.work c.begin_unit.new.work b.region c.imported.ensures.trees c.imported.ensures.names c.begin_unit.ensures.trees c.begin_unit.ensures.names) c.expand_forms.ensures.grows
+    (grows_twice b.work c.imported.new.work c.begin_unit.new.work b.region c.imported.ensures.trees c.imported.ensures.names c.begin_unit.ensures.trees c.begin_unit.ensures.names) c.expand_forms.ensures.grows
 
 pub returns-in-None-clause-grows : goal.returns-in-None-clause-grows
 returns-in-None-clause-grows g c =
     let b = c.args.bench.now in
     grows_on b.work c.begin_unit.new.work c.expand_forms.new.bench.work b.region
-    (begun b.work c.imported.new.work c.begin_unit.new.work b.region c.imported.ensures.trees c.imported.ensures.names c.begin_unit.ensures.trees c.begin_unit.ensures.names) c.expand_forms.ensures.grows
+    (grows_twice b.work c.imported.new.work c.begin_unit.new.work b.region c.imported.ensures.trees c.imported.ensures.names c.begin_unit.ensures.trees c.begin_unit.ensures.names) c.expand_forms.ensures.grows
 
 pub returns-in_err-forms-in-Some-clause-grows : goal.returns-in_err-forms-in-Some-clause-grows
 returns-in_err-forms-in-Some-clause-grows g c =
     let b = c.args.bench.now in
     grows_on b.work c.begin_unit.new.work c.expand_forms.new.bench.work b.region
-    (begun b.work c.imported.new.work c.begin_unit.new.work b.region c.imported.ensures.trees c.imported.ensures.names c.begin_unit.ensures.trees c.begin_unit.ensures.names) c.expand_forms.ensures.grows
+    (grows_twice b.work c.imported.new.work c.begin_unit.new.work b.region c.imported.ensures.trees c.imported.ensures.names c.begin_unit.ensures.trees c.begin_unit.ensures.names) c.expand_forms.ensures.grows
 
 pub returns-in_err-came-in-Some-clause-grows : goal.returns-in_err-came-in-Some-clause-grows
 returns-in_err-came-in-Some-clause-grows g c =
     let b = c.args.bench.now in let w = c.expand_forms.new.bench.work in
     grows_on b.work w c.finished.new.work b.region
     (grows_on b.work c.begin_unit.new.work w b.region
-    (begun b.work c.imported.new.work c.begin_unit.new.work b.region c.imported.ensures.trees c.imported.ensures.names c.begin_unit.ensures.trees c.begin_unit.ensures.names) c.expand_forms.ensures.grows)
+    (grows_twice b.work c.imported.new.work c.begin_unit.new.work b.region c.imported.ensures.trees c.imported.ensures.names c.begin_unit.ensures.trees c.begin_unit.ensures.names) c.expand_forms.ensures.grows)
     (grows_named w c.finished.new.work b.region c.finished.ensures.trees c.finished.ensures.names)
 
 pub returns-in_ok-came-in-Some-clause-grows : goal.returns-in_ok-came-in-Some-clause-grows
@@ -268,7 +261,7 @@ returns-in_ok-came-in-Some-clause-grows g c =
     let b = c.args.bench.now in let w = c.expand_forms.new.bench.work in
     grows_on b.work w c.finished.new.work b.region
     (grows_on b.work c.begin_unit.new.work w b.region
-    (begun b.work c.imported.new.work c.begin_unit.new.work b.region c.imported.ensures.trees c.imported.ensures.names c.begin_unit.ensures.trees c.begin_unit.ensures.names) c.expand_forms.ensures.grows)
+    (grows_twice b.work c.imported.new.work c.begin_unit.new.work b.region c.imported.ensures.trees c.imported.ensures.names c.begin_unit.ensures.trees c.begin_unit.ensures.names) c.expand_forms.ensures.grows)
     (grows_named w c.finished.new.work b.region c.finished.ensures.trees c.finished.ensures.names)
 
 pub returns-in-None-clause-region : goal.returns-in-None-clause-region
