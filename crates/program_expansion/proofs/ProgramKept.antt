@@ -12,8 +12,7 @@ use Rattle.core_tree.specs.declared.units.Unit as code_unit
 use Rattle.expansion_laws.proofs.PartsStay.{forms_on}
 use Rattle.program_leaves.specs.Formed.{AreFormedIn}
 use Rattle.unit_imports.proofs.MeaningLaws.{entries_kept}
-use Rattle.program_expansion.proofs.CameKept.{definitions_kept, names_kept}
-use Rattle.program_expansion.proofs.UnitsTurns.{formed_on}
+use Rattle.program_expansion.proofs.NamesKept.{definitions_kept, names_kept}
 
 module _ (old new : Work) (trees : KeepsTrees old new) (names : KeepsNames old.symbols new.symbols) where
   unit_kept : (text : LibraryName → List ℕ) (uris : List (List ℕ)) (all : List Placed) (p : Program) (place : ℕ) (c : code_unit.Unit) (r : UnitResult) →
@@ -25,9 +24,9 @@ module _ (old new : Work) (trees : KeepsTrees old new) (names : KeepsNames old.s
     name = h.name;
     count = h.count;
     forms = forms_on old new trees names place c.forms r.forms 0 h.forms;
-    definitions = definitions_kept old new trees names (reverse (definitions_from 0 c.forms)) (defined_by place (program_table p)) h.definitions;
+    definitions = definitions_kept old.symbols new.symbols names (reverse (definitions_from 0 c.forms)) (defined_by place (program_table p)) h.definitions;
     imports = h.imports;
-    names = names_kept old new trees names place c.names (unit_names all p r) (externals p.table r) h.names;
+    names = names_kept old.symbols new.symbols names place c.names (unit_names all p r) (externals p.table r) h.names;
     seconds = h.seconds;
     entries = entries_kept old.symbols new.symbols names c.entries r.entries h.entries;
     exports = entries_kept old.symbols new.symbols names c.exports r.exports h.exports;
@@ -45,4 +44,4 @@ module _ (old new : Work) (trees : KeepsTrees old new) (names : KeepsNames old.s
   program_kept text uris all c p h = units_kept text uris all p 0 c.units p.units h
 
   pub all_formed_on : (us : List code_unit.Unit) → AreFormedIn old us → AreFormedIn new us
-  all_formed_on us h n u at = formed_on old new trees names n u.forms (h n u at)
+  all_formed_on us h n u at = let formed = h n u at in (formed.0, forms_on old new trees names n u.forms formed.0 0 formed.1)
