@@ -1,5 +1,7 @@
 -- The nth document is there, with its edits.
-use Rattle.std.proofs.Common.{◌≡◌, ◌<◌, ℕ, ℤ, List, map, slice_get, option_map, Option, Some, None, Bool, true, false, cond, not, length, refl, sym, ap, ◌∙◌, subst, arith}
+use mir.Val.{SFits}
+use Rattle.std.proofs.Common.{◌≡◌, ◌<◌, ℕ, ℤ, List, map, slice_get, option_map, Option, Some, None, Bool, true, false, cond, not, length, refl, sym, ap, ◌∙◌, subst, arith, rules, w64, to_z, of_z}
+use Rattle.std.proofs.lemmas.Int.{to_z-of_z}
 use Rattle.std.specs.FinMap.{entries, insert}
 use Rattle.document_store.specs.Texts.{Document, Refusal, Texts, TooLong, TooMany, added, has_room, is_long}
 use Rattle.document_units.specs.Stored.{CopiesTo, opened}
@@ -47,10 +49,12 @@ edited_text-requires c =
 
 pub returns-in-Ok-clause-copies : goal.returns-in-Ok-clause-copies
 returns-in-Ok-clause-copies c =
+    let fits : SFits w64 c.in-Some.field-0.version = search rules in
     let d = c.in-Some.field-0 in let ds = entries c.args.texts.now in let n = c.args.n in
     let at = there c.args.texts.now c.store.result.now n d c.store.ensures c.in-Some.ensures.exact in
     let is : map edit_of c.as_slice.result.now ≡ map (edit_in c.args.encoding (text_of ds n)) c.edits_for.result.now = ap (λ (es : List code.Edit). map edit_of es) c.as_slice.ensures.value ∙ c.in_ok-edits.ensures in
     let all = whole ds n (opened d) at (edit_in c.args.encoding) c.as_slice.result.now c.edits_for.result.now (edits_for c.args.edits.now d.uri.now) is c.edits_for.ensures in
     subst (λ (o : Option (List ℕ × Document)). CopiesTo c.args.store.now c.add.new.self (option_map (edited_document c.args.encoding c.args.edits.now) o)) (sym at)
-    (added_one c.args.store.now c.add.new.self d.uri.now d.version c.as_str.result.now c.in-Ok.ensures.event
+    (added_one c.args.store.now c.add.new.self d.uri.now (to_z w64 (of_z w64 d.version)) c.as_str.result.now c.in-Ok.ensures.event
+    ∙ ap (λ (v : ℤ). insert c.args.store.now d.uri.now (v, c.as_str.result.now)) (to_z-of_z w64 d.version fits)
     ∙ ap (λ (t : List ℕ). insert c.args.store.now d.uri.now (d.version, t)) (c.as_str.ensures ∙ c.in_ok-text.ensures ∙ ap (λ (es : List Edit). edited es d.text.now) all))
