@@ -29,3 +29,5 @@ pub mod DocumentsData  -- The data of the documents are those that their texts a
 pub mod HeadsStand  -- The heads of units that were listed are those of the program's units
 pub mod HeadsOf  -- The heads of units have what the units do, as these were listed, judged and worked on
 pub mod UnitNumbers  -- The forms that a unit comes to have the numbers of those that are expanded (R7RS 5.1)
+pub mod ProgramKept  -- The units of a program stand for the same in a work that has grown
+pub mod NamesKept  -- Definitions and names stand for the same once names are added

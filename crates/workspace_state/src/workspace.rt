@@ -19,18 +19,22 @@ ghost use Rattle.program_answers.specs.ToldAnswers.{answer_of, facts_in, name_th
 ghost use Rattle.program_answers.specs.Placed.{IsErrorAt, IsIn, IsPlace, form_bytes};
 ghost use Rattle.document_units.specs.Places.{spans_of};
 ghost use Rattle.document_units.specs.UnitFindings.{first_error_at};
+ghost use Rattle.workspace_state.specs.Edited.{CanEdit, edited_texts};
 ghost use Rattle.workspace_state.specs.Events.{leaves, event_of, fault_of, uri_of};
+ghost use Rattle.syntax_tree.specs.Names.{KeepsNames};
+ghost use Rattle.syntax_tree.specs.Works.{KeepsTrees};
 ghost use Rattle.program_answers.specs.Updates.{Publishes};
 ghost use Rattle.program_expansion.specs.UsesInTurn.{uses_in};
 
 use crate::events::{DocEvent, Updated};
 use crate::expansion::{Expansion, Indexed};
 use crate::texts::{After, after_event};
+use crate::trial::{Trial, edited_store};
 use core_tree::units::Program;
 use document_store::Store;
 use document_units::findings::Sorted;
 use document_units::places::PlacedError;
-use ls_base::{Answer, Encoding, Items, Mem, Place, Pos, Query, Steps, Text};
+use ls_base::{Answer, DocEdits, Encoding, Items, Mem, Place, Pos, Query, Steps, Text};
 use program_answers::answers::answer;
 use program_answers::asked::Asked;
 use program_answers::classes::{Class, class_at, standard_at};
@@ -177,6 +181,37 @@ impl Workspace {
         self.expansion.work()
     }
 
+    /// Tries edits: the program that the texts are with them, over the trees and names of this workspace, which answers as before,
+    /// also where memory ran out. The edits of a document are for bytes of its text one behind another; those of one that isn't open
+    /// change nothing.
+    pub fn try_edits<L: Ledger>(
+        &mut self,
+        edits: &Items<DocEdits>,
+        steps: &mut Steps<L>,
+    ) -> Mem<Trial>
+        requires { CanEdit self.old.encoding edits.now (entries self.old.texts) }
+        ensures texts { self.new.texts ≡ self.old.texts }
+        ensures encoding { self.new.encoding ≡ self.old.encoding }
+        // The program is as before, and what it stands for stands in what the trees and names grew to.
+        ensures program { self.new.expansion.program ≡ self.old.expansion.program }
+        ensures trees { KeepsTrees self.old.expansion.work self.new.expansion.work }
+        ensures names { KeepsNames self.old.expansion.work.symbols self.new.expansion.work.symbols }
+        // The trial's program is that of the edited texts.
+        ensures trial { IfOk result (λ trial. IsProgramOfTexts (edited_texts self.old.encoding edits.now self.old.texts) self.new.expansion.work trial.program) }
+        ensures formed { IfOk result (λ trial. AreFormedIn self.new.expansion.work trial.program.units) }
+    {
+        let alloc = self.alloc;
+        let store = edited_store(alloc, &self.texts, edits.as_slice(), self.encoding)?;
+        let program = self.expansion.try_program(alloc, &store, steps)?;
+        Ok(Trial::of(program))
+    }
+
+    /// Ends a trial.
+    pub fn end_trial(&mut self, _trial: Trial)
+        ensures { self.new ≡ self.old }
+    {
+    }
+
     /// The place of a token, in one of the documents, of which there is one.
     pub fn place_of(&self, occ: Occ) -> Mem<Place>
         requires { 0 < length (entries self.now.texts) }
@@ -287,11 +322,11 @@ fn read_all<L: Ledger>(alloc: Global, store: Store, steps: &mut Steps<L>) -> Mem
     ensures found { (rs : List Read) → AreReadAs (entries store) rs → IfOk result (λ read. AreFoundOf rs read.1.findings.items) }
     ensures steps { (rs : List Read) → AreReadAs (entries store) rs → OnOk result (steps.new ≡ steps.old + uses_in rs) }
 {
-    let reading = read_program(alloc, &store, steps)?;
+    let mut work = Work::new(alloc);
+    let reading = read_program(alloc, &store, &mut work, steps)?;
     let Reading {
         documents,
         heads,
-        work,
         program,
         findings,
         errors,
