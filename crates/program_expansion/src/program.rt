@@ -51,7 +51,7 @@ use expander::Libraries;
 use form_expansion::forms::Bench;
 use form_expansion::prelude::begin;
 use library_table::KnownLibraries;
-use ls_base::{Items, Mem, Memory, Steps};
+use ls_base::{Items, Mem, Steps};
 use program_findings::diagnosing::tell_unread;
 use program_findings::sorted_findings::{add, first_error, none};
 use std::alloc::Global;
@@ -99,17 +99,11 @@ pub fn read_program<L: Ledger>(
         region,
         scope,
     };
-    match work_on(alloc, &mut bench, documents.as_slice(), steps) {
-        Ok(worked) => {
-            *work = bench.work;
-            let Worked { units, expanded } = worked;
-            Ok(collect(alloc, documents, units, expanded)?)
-        }
-        Err(Memory) => {
-            *work = bench.work;
-            Err(Memory)
-        }
-    }
+    let came = work_on(alloc, &mut bench, documents.as_slice(), steps);
+    *work = bench.work;
+    let worked = came?;
+    let Worked { units, expanded } = worked;
+    Ok(collect(alloc, documents, units, expanded)?)
 }
 
 /// Expands the units of documents on a bench in which the prelude stands, and no unit else.

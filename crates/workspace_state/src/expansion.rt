@@ -1,5 +1,7 @@
 //! The program of the open documents, with the trees that it is over, and the index of it once that was collected.
-ghost use Rattle.std.specs.Prelude.{◌≡◌, [], IfOk};
+ghost use Rattle.std.specs.Prelude.{◌≡◌, ◌+◌, [], List, IfOk, OnOk};
+ghost use Rattle.std.specs.FinMap.{entries};
+ghost use Rattle.document_units.specs.Readings.{Read, AreReadAs};
 ghost use Rattle.program_leaves.specs.Formed.{AreFormedIn};
 ghost use Rattle.core_tree.specs.Units.{IsProgramOf};
 ghost use Rattle.workspace_state.specs.Expansions.{IsIndexFor};
@@ -7,6 +9,7 @@ ghost use Rattle.workspace_state.specs.Indexed.{index_in};
 ghost use Rattle.workspace_state.specs.ProgramOfTexts.{IsProgramOfTexts};
 ghost use Rattle.syntax_tree.specs.Names.{KeepsNames};
 ghost use Rattle.syntax_tree.specs.Works.{KeepsTrees};
+ghost use Rattle.program_expansion.specs.UsesInTurn.{uses_in};
 
 use arrow_index::index::Index;
 use core_tree::units::Program;
@@ -113,6 +116,7 @@ impl Expansion {
         ensures names { KeepsNames self.old.work.symbols self.new.work.symbols }
         ensures of_texts { IfOk result (IsProgramOfTexts store.now self.new.work) }
         ensures formed { IfOk result (λ program. AreFormedIn self.new.work program.units) }
+        ensures steps { (rs : List Read) → AreReadAs (entries store.now) rs → OnOk result (steps.new ≡ steps.old + uses_in rs) }
     {
         self.index = None;
         let reading = read_program(alloc, store, &mut self.work, steps)?;

@@ -3,6 +3,7 @@
 
 mod events;
 mod expansion;
+mod reach;
 mod texts;
 mod trial;
 mod workspace;

@@ -125,7 +125,7 @@ returns-clause-steps g c = λ ds have spelled spells written.
     let sources : AreSourcesOf spelled us v.sources.items = forgotten_sources spelled us v.heads.items u.sources.items v.sources.items listed.read heads c.in_ok-order.ensures.forgotten in
     let goes : GoesOn _ scoped_before = record {
       state = prelude_state prelude;
-      stands = record { layout = [] ∷ []; notes = []; stands = c.know.ensures.rests c.in_ok-bench.bench.work ([] ∷ []) (prelude_state prelude) [] c.in_ok-bench.ensures.stands };
+      stands = record { layout = [] ∷ []; notes = []; stands = c.know.ensures.rests c.args.bench.now.work ([] ∷ []) (prelude_state prelude) [] c.requires.stands };
       continues = prelude_continues;
     } in
     c.in_ok-expanded.ensures.steps spelled us (known_in ds) (c.as_slice-2.ensures ∙ c.in_ok-order.ensures.turns spelled spells us listed.units listed.listed) many finds knows goes heads sources
