@@ -3,7 +3,7 @@
 use Rattle.std.specs.Prelude.{ℕ, suc, List, [], ◌∷◌, map, filter, Bool, true, false, Option, Some, None, if◌then◌else◌}
 use Rattle.std.specs.List.{flat_map}
 use Rattle.scheme_model.specs.declared.Occ.{Occ}
-use Rattle.scheme_model.specs.Diagnostics.{Bytes, bytes_of}
+use Rattle.scheme_model.specs.Diagnostics.{Bytes, Span, bytes_of}
 use Rattle.scheme_model.specs.Program.{Placed, UnitResult, Program, ExportSpec, program_of, units_of}
 use Rattle.scheme_model.specs.Spelling.{Link, links_of, class_of, is_member}
 use Rattle.rename_model.specs.Reach.{in_reach}
@@ -36,8 +36,12 @@ opened r texts =
       links = links_of units program;
     }
 
+-- the bytes of the tokens of each document
+abbrev pub spans_read : Opened → List (List Span)
+spans_read w = map spans_in w.readings
+
 abbrev pub place_of : Opened → Occ → Bytes
-place_of w o = bytes_of (map spans_in w.readings) w.program.units o
+place_of w o = bytes_of (spans_read w) w.program.units o
 
 -- ---- the class of an identifier
 
