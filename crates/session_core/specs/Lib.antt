@@ -6,3 +6,4 @@ pub mod Counted  -- The macro uses that messages lead to (R7RS 4.3)
 pub mod Stepped  -- One step of a session, from the bytes of a body to the messages that answer it
 pub mod Agreement  -- The store's definition of what events make of the texts, in the words of a session's
 pub mod Events  -- What the server tells of a document event (LSP 3.17, text synchronisation)
+pub mod Renamed  -- What the server tells of a rename (LSP 3.17, textDocument/rename)
