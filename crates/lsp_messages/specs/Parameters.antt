@@ -12,7 +12,7 @@ use Rattle.lsp_messages.specs.declared.fault.Fault.{Fault}
 use Rattle.lsp_messages.specs.declared.fault.Fault.TheVariants.{Unknown}
 use Rattle.lsp_messages.specs.declared.message.At.{At}
 use Rattle.lsp_messages.specs.declared.message.Call.{Call}
-use Rattle.lsp_messages.specs.declared.message.Call.TheVariants.{Initialize, Shutdown, Ask}
+use Rattle.lsp_messages.specs.declared.message.Call.TheVariants.{Initialize, Shutdown, Ask, Rename}
 use Rattle.lsp_messages.specs.declared.message.Note.{Note}
 use Rattle.lsp_messages.specs.declared.message.Note.TheVariants.{Exit, Opened, Changed, Closed}
 use Rattle.lsp_messages.specs.Encodings.{agreed_encoding}
@@ -71,6 +71,14 @@ references_asked message = do
   declaration ← asks_declaration message
   asked_there (References declaration) message
 
+-- a rename of what stands at a position (RenameParams)
+abbrev pub rename_asked : Data → Result Call Fault
+rename_asked message = do
+  at ← place_in message
+  params ← field_at (codes "params") message
+  new_name ← text_at (codes "newName") params
+  Ok (Rename at new_name)
+
 -- what a request asks, by its method
 abbrev pub call_of : List ℕ → Data → Result Call Fault
 call_of method message =
@@ -80,6 +88,7 @@ call_of method message =
     else if bytes_eq method (codes "textDocument/references") then references_asked message
     else if bytes_eq method (codes "textDocument/documentHighlight") then asked_there Highlights message
     else if bytes_eq method (codes "textDocument/prepareRename") then asked_there Prepare message
+    else if bytes_eq method (codes "textDocument/rename") then rename_asked message
     else if bytes_eq method (codes "scheme/arrows") then arrows_asked message
     else Err Unknown
 

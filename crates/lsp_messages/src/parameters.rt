@@ -27,6 +27,7 @@ pub(crate) fn call(alloc: Global, method: &str, message: &Value) -> Result<Call,
         "textDocument/references" => Ok(references(alloc, message)?),
         "textDocument/documentHighlight" => Ok(asked(alloc, message, Query::Highlights)?),
         "textDocument/prepareRename" => Ok(asked(alloc, message, Query::Prepare)?),
+        "textDocument/rename" => Ok(rename(alloc, message)?),
         "scheme/arrows" => Ok(arrows(alloc, message)?),
         _ => Err(ReadError::Fault(Fault::Unknown)),
     }
@@ -95,6 +96,15 @@ fn references(alloc: Global, message: &Value) -> Result<Call, ReadError>
 {
     let declaration = declaration(message)?;
     Ok(asked(alloc, message, Query::References { declaration })?)
+}
+
+/// A rename of what stands at a position.
+fn rename(alloc: Global, message: &Value) -> Result<Call, ReadError>
+    ensures { Gives (λ c. c) result (spec.rename_asked (view message.now)) }
+{
+    let at = place(alloc, message)?;
+    let new_name = Text::of(alloc, text(field(message, "params")?, "newName")?)?;
+    Ok(Call::Rename { at, new_name })
 }
 
 /// The arrows of a document.
