@@ -8,6 +8,7 @@
 ;;; Code:
 
 (require 'cl-lib)
+(require 'rx)
 (require 'jsonrpc)
 (require 'eglot)
 
@@ -16,9 +17,10 @@
 (defun scheme-ls--place (text)
   "The place that TEXT is, `URI:LINE:CHARACTER', or nil."
   (when (string-match "\\`\\(\\S-+\\):\\([0-9]+\\):\\([0-9]+\\)\\'" text)
-    (list (eglot--uri-to-path (match-string 1 text))
-          (string-to-number (match-string 2 text))
-          (string-to-number (match-string 3 text)))))
+    (let ((uri (match-string 1 text))
+          (line (string-to-number (match-string 2 text)))
+          (character (string-to-number (match-string 3 text))))
+      (list (eglot--uri-to-path uri) line character))))
 
 (defun scheme-ls--place-text (place)
   (pcase-let ((`(,file ,line ,character) place))

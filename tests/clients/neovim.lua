@@ -331,12 +331,13 @@ function steps.rename_name(step)
   vim.wait(patience, function() return answered or #said > told end, 10)
   vim.lsp.handlers['textDocument/rename'] = handler
   vim.cmd('doautocmd TextChanged')
-  return said[told + 1]
+  local text = said[told + 1] or ''
+  if step.says and not text:find(step.says, 1, true) or not step.says and text ~= '' then fail('what is said of a rename: ' .. text) end
 end
 
 -- The text of a document, which may stand in a buffer that nobody has seen.
-function steps.text(step)
-  local buffer = buffer_of(step.text)
+function steps.holds(step)
+  local buffer = buffer_of(step.holds)
   return vim.api.nvim_buf_get_lines(buffer, 0, -1, true)
 end
 
