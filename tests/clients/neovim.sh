@@ -43,7 +43,7 @@ if [ -n "$SESSION_FILE" ]; then
     run_steps questions "$program"
     exit
 fi
-for it in questions libraries; do
+for it in questions libraries renames; do
     SESSION_SERVER=$program SESSION_FILE=$room/$it.session run_steps $it "$top/tests/sessions/proxy" || exit
     "$here/wire" "$room/$it.session" || exit
 done
