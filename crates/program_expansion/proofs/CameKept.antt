@@ -1,26 +1,21 @@
 -- What units came to stands for the same in a work that has only grown.
-use Rattle.std.proofs.Common.{◌≡◌, ℕ, List, [], ◌∷◌, ◌++◌, length, Option, Some, None, refl, sym, subst}
+use Rattle.std.proofs.Common.{◌≡◌, ℕ, List, [], ◌++◌, length, Option, Some, None, refl, sym, subst}
 use Rattle.std.specs.Prelude.{reverse}
-use Rattle.scheme_model.specs.Program.{Placed, Prepared, Program, SetResult, UnitResult, result_at, exports_if, names_of_unit, export_all, unit_result, with_refused, ExportSpec, ImportSpec}
+use Rattle.scheme_model.specs.Program.{Placed, Prepared, Program, SetResult, UnitResult, result_at, exports_if, names_of_unit, export_all, unit_result, with_refused, ImportSpec}
 use Rattle.scheme_model.specs.ProgramArrows.{import_uses, unit_names}
 use Rattle.scheme_model.specs.Spelling.{second_places}
 use Rattle.std.specs.List.{flat_map}
 use Rattle.scheme_model.specs.UnitExpansion.{Formed}
 use Rattle.scheme_model.specs.ScopedProgram.{ScopedProgress}
-use Rattle.scheme_model.specs.Substitution.{Defined}
-use Rattle.scheme_model.specs.Ident.{Written}
 use Rattle.scheme_model.specs.Requirements.{LibraryName}
 use Rattle.scheme_model.specs.Entries as model
-use Rattle.scheme_model.specs.Live.{NameUse, all_export_uses}
+use Rattle.scheme_model.specs.Live.{all_export_uses}
 use Rattle.syntax_tree.specs.Names.{Names, KeepsNames}
 use Rattle.syntax_tree.specs.Meant.{AreEntries}
 use Rattle.syntax_tree.specs.Works.{KeepsTrees}
 use Rattle.syntax_tree.specs.declared.trees.Work.{Work}
 use Rattle.syntax_tree.specs.declared.units.Entry.{Entry}
-use Rattle.core_tree.specs.Names.{AllMatch}
-use Rattle.core_tree.specs.Units.{FormsStand, definitions_from, defined_by, externals, given_exports, IsDefinition, AreDefinitions, IsName, IsExternal, AreNames}
-use Rattle.core_tree.specs.declared.cores.Binder.{Binder}
-use Rattle.core_tree.specs.declared.units.NameUse as code
+use Rattle.core_tree.specs.Units.{FormsStand, definitions_from, defined_by, externals, given_exports, AreDefinitions, AreNames}
 use Rattle.expansion_laws.proofs.PartsStay.{forms_on}
 use Rattle.program_expansion.specs.UnitResults.{CameTo, ComesTo, IsCome, HaveCome, so_far}
 use Rattle.unit_imports.specs.Defined.{FindsNames}

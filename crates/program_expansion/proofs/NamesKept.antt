@@ -1,5 +1,5 @@
 -- Definitions and names stand for the same once names are added.
-use Rattle.std.proofs.Common.{◌≡◌, ℕ, List, [], ◌∷◌}
+use Rattle.std.proofs.Common.{ℕ, List, [], ◌∷◌}
 use Rattle.scheme_model.specs.Program.{ExportSpec}
 use Rattle.scheme_model.specs.Substitution.{Defined}
 use Rattle.scheme_model.specs.Ident.{Written}
