@@ -97,6 +97,13 @@ impl Workspace {
         self.encoding = encoding;
     }
 
+    /// The encoding of positions.
+    pub fn encoding(&self) -> Encoding
+        ensures { result ≡ self.now.encoding }
+    {
+        self.encoding
+    }
+
     /// Takes an event in, reads all documents and expands their units. Published are the list of the event's document, and each that
     /// isn't as before; after a refusal that leaves the documents as they were nothing is. After want of memory the documents are as
     /// before.
