@@ -1,6 +1,6 @@
 -- Edited documents stand in the order of their uris, as those before.
-use Rattle.std.proofs.Common.{◌≡◌, ◌<◌, List, ◌∷◌, [], ℕ, zero, suc, length, slice_get, Some, arith, map, Bool, ◌&&◌, refl, sym, ap, ◌∙◌, subst, T, nat_cmp}
-use Rattle.std.specs.FinMap.{entries, entries_sorted, from_sorted, entries-from_sorted}
+use Rattle.std.proofs.Common.{◌≡◌, ◌<◌, List, ◌∷◌, [], ℕ, zero, suc, length, slice_get, Some, arith, Bool, ◌&&◌, refl, sym, ap, subst, T, nat_cmp}
+use Rattle.std.specs.FinMap.{entries, entries_sorted, entries-from_sorted}
 use Rattle.std.specs.FinMap.Entries.{below_all, is_sorted}
 use Rattle.std.specs.Cmp.Lexicographic.{slice_cmp}
 use Rattle.std.specs.Ordering.{is_lt}

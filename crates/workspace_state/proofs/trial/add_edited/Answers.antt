@@ -1,6 +1,6 @@
 -- The nth document is there, with its edits.
 use mir.Val.{SFits}
-use Rattle.std.proofs.Common.{◌≡◌, ◌<◌, ℕ, ℤ, List, map, slice_get, option_map, Option, Some, None, Bool, true, false, cond, not, length, refl, sym, ap, ◌∙◌, subst, arith, rules, w64, to_z, of_z}
+use Rattle.std.proofs.Common.{◌≡◌, ℕ, ℤ, List, map, slice_get, option_map, Option, Some, None, Bool, true, false, cond, not, sym, ap, ◌∙◌, subst, rules, w64, to_z, of_z}
 use Rattle.std.proofs.lemmas.Int.{to_z-of_z}
 use Rattle.std.specs.FinMap.{entries, insert}
 use Rattle.document_store.specs.Texts.{Document, Refusal, Texts, TooLong, TooMany, added, has_room, is_long}
@@ -11,7 +11,7 @@ use Rattle.program_answers.specs.ToldAnswers.{text_of}
 use Rattle.text_edits.specs.Edits.{Edit, edited}
 use Rattle.text_edits.specs.Views.{AreCuts, edit_of}
 use Rattle.text_edits.specs.declared.edits.Edit as code
-use Rattle.workspace_state.specs.Edited.{edit_in, edits_for, edits_in, edited_document}
+use Rattle.workspace_state.specs.Edited.{edit_in, edits_for, edited_document}
 use Rattle.workspace_state.proofs.EditedLaws.{text_at}
 use Rattle.workspace_state.proofs.trial.add_edited.Goals as goal
 

@@ -1,13 +1,12 @@
 -- Each turn adds one document more, edited, and there are no more than turns.
-use Rattle.std.proofs.Common.{◌≡◌, ◌≤◌, ℕ, suc, List, map, slice_get, option_map, Option, sym, ap, ◌∙◌, take, length, arith, add-one, refl, nat_cmp, subst}
+use Rattle.std.proofs.Common.{◌≡◌, ◌≤◌, ℕ, suc, List, slice_get, option_map, sym, ap, ◌∙◌, take, length, arith, add-one, nat_cmp}
 use Rattle.std.specs.FinMap.{entries, len-entries, len-empty, empty}
 use Rattle.std.specs.Cmp.Lexicographic.{slice_cmp}
 use Rattle.std.proofs.lemmas.List.{length-map, nil_from_length}
 use Rattle.std.proofs.lemmas.Option.{slice_get-map}
 use Rattle.document_store.specs.Texts.{Document, Texts}
 use Rattle.document_units.proofs.Copies.{copied_more, copied_all}
-use Rattle.document_units.specs.Stored.{CopiesTo}
-use Rattle.workspace_state.specs.Edited.{edited_document, edited_documents, edited_texts}
+use Rattle.workspace_state.specs.Edited.{edited_document, edited_texts}
 use Rattle.workspace_state.proofs.EditedLaws.{edited_entries}
 use Rattle.workspace_state.proofs.trial.edited_store.Goals as goal
 

@@ -1,5 +1,5 @@
 -- The program's units import what those of the texts' program do.
-use Rattle.std.proofs.Common.{List, map, sym, subst}
+use Rattle.std.proofs.Common.{map, sym, subst}
 use Rattle.std.specs.FinMap.{entries}
 use Rattle.scheme_model.specs.Program.{units_of}
 use Rattle.scheme_tokens.specs.LibraryNames.{library_text}
