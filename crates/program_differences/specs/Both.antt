@@ -12,7 +12,10 @@ use Rattle.core_tree.specs.declared.units.ExpandedItem.{ExpandedItem}
 use Rattle.core_tree.specs.declared.units.Unit.{Unit as CodeUnit}
 use Rattle.program_differences.specs.declared.both.Programs.{Programs}
 use Rattle.program_differences.specs.declared.both.Both.{Both}
+use Rattle.core_tree.specs.declared.units.Program.{Program as CodeProgram}
 use Rattle.alpha_equal.specs.Filled.{KnowsNumbers}
+use Rattle.program_differences.specs.Exported.{ExportsAreGiven}
+use Rattle.program_differences.specs.Listed.{TellsApart, AreDistinct}
 
 -- the documents have these uris, and libraries' names are written so
 pub record BothStand (text : LibraryName → List ℕ) (uris : List (List ℕ)) (before after : List Placed) (c : Programs) (p q : Program) (b : Both) (r s : UnitResult) : Type 0 where
@@ -58,3 +61,18 @@ pub record AreItems (work : Work) (items : List ExpandedItem) : Type 0 where
   pub form : ℕ
   pub ps : Parts
   pub stand : ItemsStand work unit form items ps
+
+-- two programs that can be compared
+pub record AreComparable (work : Work) (old new : CodeProgram) : Type 0 where
+  pub text : LibraryName → List ℕ
+  pub uris : List (List ℕ)
+  pub before : List Placed
+  pub after : List Placed
+  pub p : Program
+  pub q : Program
+  pub tells : TellsApart text p q
+  pub distinct : AreDistinct uris
+  pub old_stands : ProgramStands work text uris before old p
+  pub new_stands : ProgramStands work text uris after new q
+  pub old_given : ExportsAreGiven p
+  pub new_given : ExportsAreGiven q

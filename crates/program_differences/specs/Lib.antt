@@ -4,3 +4,4 @@ pub mod Listed  -- The lists of units of the code, compared by document, kind, n
 pub mod Exported  -- The names that exports are asked to have, and exports as they are given
 pub mod Both  -- What two programs of the code and a unit of both stand for
 pub mod Reached  -- Which units are in reach, by a mark for each
+pub mod Differences  -- What plans and differences of the code stand for

@@ -34,7 +34,7 @@ ReadsAs text None = (ds : List Datum) → ¬ IsReading (chars text) ds
 ReadsAs text (Some r) = (ts : List Token) × TextReads (chars text) ts None × (r.spans ≡ map span_of ts) × IsReading (chars text) r.items
 
 abbrev pub IsSymbolOf : List ℕ → Option (List ℕ) → Type 0
-IsSymbolOf text None = (name : List ℕ) → ¬ IsIdentifier name (chars text)
+IsSymbolOf text None = (name : List ℕ) → IsUtf8 name → ¬ IsIdentifier (chars name) (chars text)
 IsSymbolOf text (Some name) = IsUtf8 name × IsIdentifier (chars name) (chars text)
 
 pub record IsReader (r : Reader) : Type 0 where

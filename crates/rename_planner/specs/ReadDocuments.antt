@@ -1,0 +1,23 @@
+-- The open documents with their program, by how they are read.
+use Rattle.std.specs.Prelude.{ℕ, List, map, Option, Some, None}
+use Rattle.scheme_model.specs.Program.{units_of}
+use Rattle.scheme_model.specs.Spelling.{links_of}
+use Rattle.document_store.specs.Texts.{Document}
+use Rattle.document_units.specs.Readings.{Read, Reads, Stops, data_in, program_in}
+use Rattle.rename_conditions.specs.Opened.{Opened}
+use Rattle.rename_conditions.specs.Readers.{Reading}
+use Rattle.rename_planner.specs.ToldRenames.{texts_of}
+
+abbrev pub reading_of : Read → Option Reading
+reading_of (Reads ds spans) = Some (record { items = ds; spans = spans })
+reading_of (Stops f) = None
+
+abbrev pub read_as : List (List ℕ × Document) → List Read → Opened
+read_as ds rs =
+    let units = units_of (map data_in rs) in record {
+      texts = texts_of ds;
+      readings = map reading_of rs;
+      units = units;
+      program = program_in rs;
+      links = links_of units (program_in rs);
+    }
