@@ -4,12 +4,13 @@ use Rattle.std.specs.Prelude.{ℕ, suc, List, [], ◌∷◌, map, filter, Bool, 
 use Rattle.std.specs.List.{flat_map}
 use Rattle.scheme_model.specs.declared.Occ.{Occ}
 use Rattle.scheme_model.specs.Diagnostics.{Bytes, Span, bytes_of}
-use Rattle.scheme_model.specs.Program.{Placed, UnitResult, Program, ExportSpec, program_of, units_of}
+use Rattle.scheme_model.specs.Entries.{Entry}
+use Rattle.scheme_model.specs.Program.{Placed, UnitResult, Program, program_of, units_of}
 use Rattle.scheme_model.specs.Spelling.{Link, links_of, class_of, is_member}
 use Rattle.rename_model.specs.Reach.{in_reach}
-use Rattle.rename_model.specs.SameProgram.{ExportChange, Plan}
+use Rattle.rename_model.specs.SameProgram.{ExportChange, Plan, external_occ}
 use Rattle.text_edits.specs.Edits.{Edit, edited}
-use Rattle.text_edits.specs.Members.{class_edits, member_of}
+use Rattle.text_edits.specs.Members.{class_edits, is_part, member_of}
 use Rattle.rename_conditions.specs.Readers.{Reading, Reader, document_in, spans_in}
 
 -- the texts in the order of their documents, how each reads, and their program with its links
@@ -45,8 +46,9 @@ place_of w o = bytes_of (spans_read w) w.program.units o
 
 -- ---- the class of an identifier
 
+-- its members, each of which has a prefix
 abbrev pub class_in : Opened → Occ → List Occ
-class_in w o = class_of w.links o
+class_in w o = filter (is_part w.links) (class_of w.links o)
 
 -- the units with an occurrence of the class, and those that import them, directly or not
 abbrev pub reach_in : Opened → Occ → List ℕ
@@ -86,16 +88,17 @@ told_edits es = filter (λ (e : DocEdits). are_some e.edits) es
 
 -- ---- what is asked to change
 
--- an export whose external name is a member has its new name
-abbrev pub export_change : Opened → Occ → (stem : List ℕ) → (unit : ℕ) → ExportSpec → List ExportChange
-export_change w o stem unit x = by_place x.outer.occ
+-- what a unit exports under a name that is a member has its new name
+abbrev pub export_change : Opened → Occ → (stem : List ℕ) → UnitResult → Entry → List ExportChange
+export_change w o stem r e = by_place (external_occ r.unit.exports e.name)
   where
     by_place : Option Occ → List ExportChange
     by_place None = []
-    by_place (Some p) = if is_member (class_in w o) p then record { unit = unit; old = x.outer.name; new = (member_of w.links stem p).name } ∷ [] else []
+    by_place (Some p) =
+        if is_member (class_in w o) p then record { unit = r.unit.number; old = e.name; new = (member_of w.links stem p).name } ∷ [] else []
 
 abbrev pub export_changes : Opened → Occ → (stem : List ℕ) → List ExportChange
-export_changes w o stem = flat_map (λ (r : UnitResult). flat_map (export_change w o stem r.unit.number) r.unit.exports) w.program.units
+export_changes w o stem = flat_map (λ (r : UnitResult). flat_map (export_change w o stem r) r.exports) w.program.units
 
 abbrev pub plan_in : Opened → Occ → (stem : List ℕ) → Plan
 plan_in w o stem = record { members = class_in w o; exports = export_changes w o stem }

@@ -1,10 +1,12 @@
 -- Renames of the code and what they stand for: the edits, or the fault by which a rename is refused.
-use Rattle.std.specs.Prelude.{◌≡◌, ℕ, ◌<◌, List, [], map, Result, Ok, Err}
+use Rattle.std.specs.Prelude.{◌≡◌, ℕ, List, map, Result, Ok, Err}
 use Rattle.ls_base.specs.declared.answers.DocEdits as told
 use Rattle.ls_base.specs.declared.encoding.Encoding.{Encoding}
 use Rattle.document_store.specs.Texts.{Document}
 use Rattle.program_answers.specs.ToldAnswers.{document_at, place_told}
 use Rattle.program_differences.specs.Differences.{IsDifference}
+use Rattle.rename_model.specs.Difference.{Difference}
+use Rattle.scheme_model.specs.Diagnostics.{Bytes}
 use Rattle.rename_conditions.specs.Opened.{DocEdits}
 use Rattle.rename_conditions.specs.Renames as model
 use Rattle.rename_planner.specs.ToldRenames.{document_told}

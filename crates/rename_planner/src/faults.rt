@@ -1,6 +1,7 @@
 //! Why a rename is refused.
 use ls_base::{Memory, Place, Text};
 use program_differences::plan::Difference;
+use std::alloc::AllocError;
 
 /// Why a rename is refused. Tested in this order, but for want of memory, which may come at any point.
 #[derive(Debug, Drop)]
@@ -25,4 +26,26 @@ pub enum RenameFault {
     Limit(Text),
     /// The programs differ: the first difference.
     Differs(Difference),
+}
+
+impl From<Memory> for RenameFault {
+    ghost use Rattle.std.specs.Prelude.{◌≡◌};
+    ghost use Rattle.rename_planner.specs.declared.faults.RenameFault.TheVariants as fault;
+
+    ghost from_gives = { λ _ e. e ≡ fault.Memory };
+
+    fn from(_: Memory) -> Self {
+        RenameFault::Memory
+    }
+}
+
+impl From<AllocError> for RenameFault {
+    ghost use Rattle.std.specs.Prelude.{◌≡◌};
+    ghost use Rattle.rename_planner.specs.declared.faults.RenameFault.TheVariants as fault;
+
+    ghost from_gives = { λ _ e. e ≡ fault.Memory };
+
+    fn from(_: AllocError) -> Self {
+        RenameFault::Memory
+    }
 }

@@ -1,0 +1,66 @@
+-- The conditions one by one, from what the code's calls say.
+use Rattle.std.proofs.Common.{◌≡◌, ◌⊎◌, inl, inr, ◌↔◌, ℕ, zero, suc, ◌==◌, List, [], ◌∷◌, ◌++◌, map, filter, length, Bool, true, false, Option, Some, None, Result, Ok, Err, cond, refl, sym, ap, ◌∙◌, subst, arith}
+use Rattle.std.specs.Prelude.{◌&&◌}
+use Rattle.std.specs.Option.{ok_or, option_map}
+use Rattle.ls_base.specs.declared.encoding.Encoding.{Encoding}
+use Rattle.ls_base.specs.declared.places.Pos.{Pos}
+use Rattle.scheme_model.specs.declared.Occ.{Occ}
+use Rattle.scheme_model.specs.Answers.{Facts, ordered_by, is_bound}
+use Rattle.scheme_model.specs.Entries.{is_below}
+use Rattle.scheme_model.specs.Sites.{name_at}
+use Rattle.scheme_model.specs.Spelling.{class_of, is_joined, standard_origins}
+use Rattle.document_store.specs.Texts.{Document}
+use Rattle.document_units.specs.Places.{spans_of}
+use Rattle.document_units.specs.Readings.{Read, AreReadAs, program_in}
+use Rattle.program_answers.specs.Classed.{IsClassAt, IsClassOf, head_of, standard_for}
+use Rattle.program_answers.specs.ToldAnswers.{document_at, facts_in, name_by, name_there, number_of, text_of}
+use Rattle.program_answers.specs.declared.classes.Class.{Class}
+use Rattle.rename_conditions.specs.Renames.{Refusal, NotBound, IsStandard, unless, first_of, joined_at, standard_names}
+use Rattle.rename_planner.specs.ReadAs.{ComesTo, Holds, read_as}
+use Rattle.rename_planner.specs.RenameOutcomes.{IsFaultOf}
+use Rattle.rename_planner.specs.ToldRenames.{identifier_at, identifier_by}
+use Rattle.rename_planner.specs.declared.faults.RenameFault.{RenameFault}
+use Rattle.rename_planner.specs.declared.faults.RenameFault.TheVariants as faults
+use Rattle.rename_planner.proofs.BindLaws.{fault_refuses}
+use Rattle.rename_planner.proofs.ConditionLaws.{IsNumbered, from_first, standards_same}
+use Rattle.rename_planner.proofs.ReadingLaws.{spans_as}
+use Rattle.ls_base.specs.Positions.{offset_of}
+
+-- ---- the class
+
+pub class_there : (e : Encoding) (ds : List (List ℕ × Document)) (f : Facts) (at : Option Occ) (c : Class) → IsClassAt ds f at (Some c) → ComesTo e ds (IsClassOf ds f) (ok_or (joined_at f.links at) NotBound) (Ok c)
+class_there e ds f None c h = absurd h
+class_there e ds f (Some o) c h = subst (λ (b : Bool). ComesTo e ds (IsClassOf ds f) (ok_or (cond b (Some o) None) NotBound) (Ok c)) (sym h.joined) h
+
+pub no_class : (e : Encoding) (ds : List (List ℕ × Document)) (f : Facts) (at : Option Occ) → IsClassAt ds f at None → ComesTo e ds (IsClassOf ds f) (ok_or (joined_at f.links at) NotBound) (Err faults.NotBound)
+no_class e ds f None h = refl
+no_class e ds f (Some o) h = subst (λ (b : Bool). ComesTo e ds (IsClassOf ds f) (ok_or (cond b (Some o) None) NotBound) (Err faults.NotBound)) (sym h) refl
+
+-- a class has a document
+pub has_document : (e : Encoding) (ds : List (List ℕ × Document)) (rs : List Read) (uri : List ℕ) (position : Pos) (c : Class) → IsClassAt ds (facts_in rs) (name_there e ds rs uri position) (Some c) → (ds ≡ [] → ⊥)
+has_document e ds rs uri position c h none = subst (λ (xs : List (List ℕ × Document)). IsClassAt ds (facts_in rs) (name_there e xs rs uri position) (Some c)) none h
+
+-- ---- standard names
+
+pub standard_first : (ds : List (List ℕ × Document)) (rs : List Read) (o : Occ) → first_of (standard_names (read_as ds rs) o) ≡ standard_for (facts_in rs) (Some o)
+standard_first ds rs o = ap (λ (names : List (List ℕ)). head_of (ordered_by is_below names)) (standards_same (facts_in rs).links (class_of (facts_in rs).links o))
+
+-- ---- documents by their numbers
+
+pub document_refuses : {B : Type 0} (e : Encoding) (ds : List (List ℕ × Document)) (uri : List ℕ) (o : Option ℕ) (why : ℕ → Refusal) (fault : RenameFault) →
+    IsNumbered 0 ds (Some uri) o → ((m : ℕ) → uri ≡ (document_at ds m).0 → IsFaultOf e ds (why m) fault) → ComesTo {B = B} e ds Holds (unless o why) (Err fault)
+document_refuses e ds uri None why fault h told = absurd h
+document_refuses e ds uri (Some m) why fault h told = fault_refuses e ds (why m) fault (told m (from_first ds uri m h))
+
+pub no_document : {B : Type 0} (e : Encoding) (ds : List (List ℕ × Document)) (o : Option ℕ) (why : ℕ → Refusal) (b : B) → IsNumbered 0 ds None o → ComesTo e ds Holds (unless o why) (Ok b)
+no_document e ds None why b h = tt
+no_document e ds (Some m) why b h = absurd h
+
+-- ---- the identifier at a position
+
+pub identifier_same : (e : Encoding) (ds : List (List ℕ × Document)) (rs : List Read) (uri : List ℕ) (position : Pos) → identifier_at e ds (read_as ds rs) uri position ≡ name_there e ds rs uri position
+identifier_same e ds rs uri position = by (number_of ds uri)
+  where
+    by : (n : Option ℕ) → identifier_by e ds (read_as ds rs) n position ≡ name_by e ds rs n position
+    by None = refl
+    by (Some n) = ap (λ spans. name_at spans (program_in rs).units n (offset_of e (text_of ds n) position)) (spans_as rs)
