@@ -1,6 +1,7 @@
 -- Conditions one behind another.
 use Rattle.std.proofs.Common.{◌≡◌, ℕ, List, map, Option, Some, None, Result, Ok, Err, refl, sym, ap, ◌∙◌, subst}
 use Rattle.std.specs.Option.{ok_or}
+use Rattle.std.specs.Result.{IsErrAnd}
 use Rattle.ls_base.specs.declared.encoding.Encoding.{Encoding}
 use Rattle.document_store.specs.Texts.{Document}
 use Rattle.scheme_model.specs.declared.Occ.{Occ}
@@ -9,7 +10,7 @@ use Rattle.text_edits.specs.Members.{prefix_of, stem_of}
 use Rattle.rename_conditions.specs.Readers.{Reader}
 use Rattle.rename_conditions.specs.Opened.{Opened, DocEdits, edits_in, edited_in, told_edits}
 use Rattle.rename_conditions.specs.Renames.{Refusal, NotBound, IsStandard, BadName, Unreadable, PrefixLost, PrefixClash, BrokenUnit, TooLong, Differs, ◌>>=◌, unless, first_of, joined_at, standard_names, new_symbol, first_unread, clashes, errors_in_reach, first_too_long, difference_by, broken, rename_in}
-use Rattle.rename_planner.specs.ReadAs.{ComesTo, Holds, fitting_in, named_in, planned_in}
+use Rattle.rename_planner.specs.Planning.{ComesTo, Holds, fitting_in, named_in, planned_in}
 use Rattle.rename_planner.specs.RenameOutcomes.{IsFaultOf, RefusesAs, AnswersAs}
 use Rattle.rename_planner.specs.ToldRenames.{document_told}
 use Rattle.rename_planner.specs.declared.faults.RenameFault.{RenameFault}
@@ -23,6 +24,11 @@ memory_comes e ds P (Err refusal) = tt
 pub at_memory : {A B : Type 0} (e : Encoding) (ds : List (List ℕ × Document)) (P : A → B → Type 0) (s : Result A Refusal) (fault : RenameFault) → fault ≡ faults.Memory → ComesTo e ds P s (Err fault)
 at_memory e ds P s fault h = subst (λ f. ComesTo e ds P s (Err f)) (sym h) (memory_comes e ds P s)
 
+-- a fault that is handed on
+pub err_goes : {A B : Type 0} (e : Encoding) (ds : List (List ℕ × Document)) (P : A → B → Type 0) (s : Result A Refusal) (r : Result B RenameFault) (fault : RenameFault) → IsErrAnd r (λ x. x ≡ fault) → ComesTo e ds P s (Err fault) → ComesTo e ds P s r
+err_goes e ds P s (Ok b) fault h k = absurd h
+err_goes e ds P s (Err x) fault h k = subst (λ f. ComesTo e ds P s (Err f)) (sym h) k
+
 -- a condition fails, and so the rest isn't tested
 pub bind_err : {A B C D : Type 0} (e : Encoding) (ds : List (List ℕ × Document)) (P : A → B → Type 0) (Q : C → D → Type 0) (s : Result A Refusal) (f : A → Result C Refusal) (fault : RenameFault) →
     ComesTo e ds P s (Err fault) → ComesTo e ds Q (s >>= f) (Err fault)
@@ -34,6 +40,11 @@ pub bind_ok : {A B C D : Type 0} (e : Encoding) (ds : List (List ℕ × Document
     ComesTo e ds P s (Ok b) → ((a : A) → s ≡ Ok a → P a b → ComesTo e ds Q (f a) r) → ComesTo e ds Q (s >>= f) r
 bind_ok e ds P Q (Ok a) f b r h k = k a refl h
 bind_ok e ds P Q (Err refusal) f b r h k = absurd h
+
+-- what comes out where all hold
+pub comes_ok : {A B : Type 0} (e : Encoding) (ds : List (List ℕ × Document)) (P : A → B → Type 0) (s : Result A Refusal) (b : B) → ComesTo e ds P s (Ok b) → (a : A) × (s ≡ Ok a) × P a b
+comes_ok e ds P (Ok a) b h = (a, refl, h)
+comes_ok e ds P (Err refusal) b h = absurd h
 
 pub bind_assoc : {A B C : Type 0} (s : Result A Refusal) (f : A → Result B Refusal) (g : B → Result C Refusal) → (s >>= f) >>= g ≡ s >>= λ a. f a >>= g
 bind_assoc (Ok a) f g = refl
@@ -61,12 +72,12 @@ module _ {A B : Type 0} (e : Encoding) (ds : List (List ℕ × Document)) where
   pub lacks : (P : A → B → Type 0) (o : Option A) (why : Refusal) (fault : RenameFault) → o ≡ None → IsFaultOf e ds why fault → ComesTo e ds P (ok_or o why) (Err fault)
   lacks P o why fault q h = subst (λ (x : Option A). ComesTo e ds P (ok_or x why) (Err fault)) (sym q) (fault_refuses e ds why fault h)
 
-  -- there is one, which refuses it
-  pub refused : (o : Option A) (why : A → Refusal) (a : A) (fault : RenameFault) → o ≡ Some a → IsFaultOf e ds (why a) fault → ComesTo {B = B} e ds Holds (unless o why) (Err fault)
-  refused o why a fault q h = subst (λ (x : Option A). ComesTo {B = B} e ds Holds (unless x why) (Err fault)) (sym q) (fault_refuses e ds (why a) fault h)
-
   pub passes : (o : Option A) (why : A → Refusal) (b : B) → o ≡ None → ComesTo e ds Holds (unless o why) (Ok b)
   passes o why b q = subst (λ (x : Option A). ComesTo e ds Holds (unless x why) (Ok b)) (sym q) tt
+
+-- there is one, which refuses it
+pub refused : {A : Type 0} (B : Type 0) (e : Encoding) (ds : List (List ℕ × Document)) (o : Option A) (why : A → Refusal) (a : A) (fault : RenameFault) → o ≡ Some a → IsFaultOf e ds (why a) fault → ComesTo {B = B} e ds Holds (unless o why) (Err fault)
+refused {A} B e ds o why a fault q h = subst (λ (x : Option A). ComesTo {B = B} e ds Holds (unless x why) (Err fault)) (sym q) (fault_refuses e ds (why a) fault h)
 
 -- ---- the answer
 

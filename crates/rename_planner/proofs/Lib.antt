@@ -1,9 +1,25 @@
-pub mod ReadingLaws  -- Documents that are read so, as a reader reads them
-pub mod BindLaws  -- Conditions one behind another
-pub mod ConditionLaws  -- The conditions of the code and those of the definition
-pub mod MemberLaws  -- The occurrences that a class has parts for are its members that have a prefix, and what is told by its members is told by them
-pub mod EditLaws  -- The edits as they are told, and the edited texts, are those of the definition
-pub mod PlaceLaws  -- Places of the code as they are told
 pub mod RoundTrip  -- The offset of the position of an offset is the offset, where this stands between characters and not within the end of a line
-pub mod StepLaws  -- The conditions one by one, from what the code's calls say
-pub mod PrepareLaws  -- Nothing is prepared exactly where no identifier is bound or a standard name spells it
+pub mod NameEnds
+pub mod NamedTokens
+pub mod ClassEnds
+pub mod ReadersAgree
+pub mod ReadingLaws
+pub mod BindLaws
+pub mod ConditionLaws
+pub mod MemberLaws
+pub mod EditLaws
+pub mod PlaceLaws
+pub mod StepLaws
+pub mod ErrorLaws
+pub mod TellsLaws
+pub mod DistinctLaws
+pub mod ChangeLaws
+pub mod TriedLaws
+pub mod SymbolLaws
+pub mod NamedLaws
+pub mod PlannedLaws
+pub mod CompareLaws
+pub mod RenameLaws
+pub mod UsesLaws
+pub mod LoopLaws
+pub mod PrepareLaws

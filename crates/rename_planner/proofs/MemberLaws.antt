@@ -2,7 +2,7 @@
 use Rattle.std.proofs.Common.{◌≡◌, ◌⊎◌, inl, inr, ◌↔◌, ℕ, zero, suc, ◌==◌, List, [], ◌∷◌, ◌++◌, map, filter, length, Bool, true, false, Option, Some, None, cond, refl, sym, ap, ◌∙◌, subst, arith}
 use Rattle.std.specs.Prelude.{nat_lt, ◌||◌}
 use Rattle.std.specs.List.{Contains, list_any}
-use Rattle.std.proofs.lemmas.Bool.{or_cases}
+use Rattle.std.proofs.lemmas.Bool.{lt-ltb, or_cases}
 use Rattle.scheme_model.specs.declared.Occ.{Occ}
 use Rattle.scheme_model.specs.Entries.{same_occ}
 use Rattle.scheme_model.specs.Program.{Placed, Program, UnitResult, is_in}
@@ -26,21 +26,20 @@ use Rattle.text_edits.specs.Members.{is_part}
 in_filter : {X : Type 0} (f : X → Bool) (x : X) (xs : List X) → IsIn x xs → f x ≡ true → IsIn x (filter f xs)
 in_filter f x [] h t = absurd h
 in_filter f x (y ∷ ys) (inl e) t = subst (λ (b : Bool). IsIn x (cond b (y ∷ filter f ys) (filter f ys))) (sym (ap f e ∙ t)) (inl e)
-in_filter f x (y ∷ ys) (inr h) t = go (f y)
+in_filter f x (y ∷ ys) (inr h) t = go (f y) (in_filter f x ys h t)
   where
-    rest = in_filter f x ys h t
-    go : (b : Bool) → IsIn x (cond b (y ∷ filter f ys) (filter f ys))
-    go true = inr rest
-    go false = rest
+    go : (b : Bool) → IsIn x (filter f ys) → IsIn x (cond b (y ∷ filter f ys) (filter f ys))
+    go true rest = inr rest
+    go false rest = rest
 
 from_filter : {X : Type 0} (f : X → Bool) (x : X) (xs : List X) → IsIn x (filter f xs) → IsIn x xs × (f x ≡ true)
 from_filter f x [] h = absurd h
-from_filter f x (y ∷ ys) h = go (f y) refl h
+from_filter f x (y ∷ ys) h = go (from_filter f x ys) (f y) refl h
   where
-    go : (b : Bool) → f y ≡ b → IsIn x (cond b (y ∷ filter f ys) (filter f ys)) → IsIn x (y ∷ ys) × (f x ≡ true)
-    go true e (inl k) = (inl k, ap f (sym k) ∙ e)
-    go true e (inr k) = let r = from_filter f x ys k in (inr r.0, r.1)
-    go false e k = let r = from_filter f x ys k in (inr r.0, r.1)
+    go : (IsIn x (filter f ys) → IsIn x ys × (f x ≡ true)) → (b : Bool) → f y ≡ b → IsIn x (cond b (y ∷ filter f ys) (filter f ys)) → IsIn x (y ∷ ys) × (f x ≡ true)
+    go more true e (inl k) = (inl k, ap f (sym k) ∙ e)
+    go more true e (inr k) = let r = more k in (inr r.0, r.1)
+    go more false e k = let r = more k in (inr r.0, r.1)
 
 same_filter : {X : Type 0} (f g : X → Bool) → ((x : X) → f x ≡ g x) → (xs : List X) → filter f xs ≡ filter g xs
 same_filter f g h [] = refl
@@ -60,7 +59,7 @@ has_first ls x s h = some (prefixes_of ls x []) h
   where
     some : (ts : List (List ℕ)) → IsIn s ts → nat_lt 0 (length ts) ≡ true
     some [] k = absurd k
-    some (t ∷ ts) k = refl
+    some (t ∷ ts) k = lt-ltb 0 (length (t ∷ ts)) (omega arith)
 
 pub parts_members : (ls : List Link) (o : Occ) (parts : List ClassPart) → AreParts (map bare_part parts) ls o → (x : Occ) →
     is_member (map (λ (p : ClassPart). p.occ) parts) x ≡ is_member (filter (is_part ls) (class_of ls o)) x
@@ -93,11 +92,11 @@ any_in f (p ∷ os) o (inr h) t = or_right (f p) (list_any f os) (any_in f os o 
 
 any_from : (f : Occ → Bool) (os : List Occ) → list_any f os ≡ true → (o : Occ) × IsIn o os × (f o ≡ true)
 any_from f [] h = absurd cc
-any_from f (p ∷ os) h = by (or_cases (f p) (list_any f os) h)
+any_from f (p ∷ os) h = by (any_from f os) (or_cases (f p) (list_any f os) h)
   where
-    by : (f p ≡ true) ⊎ (list_any f os ≡ true) → (o : Occ) × IsIn o (p ∷ os) × (f o ≡ true)
-    by (inl e) = (p, inl refl, e)
-    by (inr e) = let r = any_from f os e in (r.0, inr r.1, r.2)
+    by : (list_any f os ≡ true → (o : Occ) × IsIn o os × (f o ≡ true)) → (f p ≡ true) ⊎ (list_any f os ≡ true) → (o : Occ) × IsIn o (p ∷ os) × (f o ≡ true)
+    by more (inl e) = (p, inl refl, e)
+    by more (inr e) = let r = more e in (r.0, inr r.1, r.2)
 
 module _ (os ps : List Occ) (same : (o : Occ) → is_member os o ≡ is_member ps o) where
   any_same : (f : Occ → Bool) → list_any f os ≡ list_any f ps

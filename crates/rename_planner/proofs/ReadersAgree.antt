@@ -40,7 +40,7 @@ module _ (r : Reader) (is : IsReader r) where
   readings_are (d ∷ ds) (q ∷ rs) h =
       let first = one d.1.1 (r.read d.1.1) q (is.reads d.1.1) h.0 in let rest = readings_are ds rs h.1 in λ j. first j ∷ rest j
 
-  documents_are : (ds : List D) (rs : List Read) → AreReadAs ds rs → map (λ text. document_in (r.read text)) (texts_of ds) ≡ map data_in rs
+  pub documents_are : (ds : List D) (rs : List Read) → AreReadAs ds rs → map (λ text. document_in (r.read text)) (texts_of ds) ≡ map data_in rs
   documents_are [] [] h = refl
   documents_are [] (q ∷ rs) h = absurd h
   documents_are (d ∷ ds) [] h = absurd h

@@ -8,7 +8,7 @@ ghost use Rattle.program_differences.specs.Differences.{plan_as};
 ghost use Rattle.program_expansion.specs.UsesInTurn.{uses_in};
 ghost use Rattle.workspace_state.specs.Edited.{CanEdit, edited_texts};
 ghost use Rattle.rename_conditions.specs.Renames as model;
-ghost use Rattle.rename_planner.specs.ReadAs.{ComesTo, Holds};
+ghost use Rattle.rename_planner.specs.Planning.{ComesTo, Holds};
 
 use crate::faults::RenameFault;
 use ls_base::{DocEdits, Items, Steps};

@@ -14,7 +14,8 @@ ghost use Rattle.class_edits.specs.DocumentEdits.{CanEditAll, edits_of_class, se
 ghost use Rattle.rename_conditions.specs.Readers.{Reader, IsReader};
 ghost use Rattle.rename_conditions.specs.Opened.{edited_in};
 ghost use Rattle.rename_conditions.specs.Renames as model;
-ghost use Rattle.rename_planner.specs.ReadAs.{ComesTo, Holds, Same, errors_in, read_as};
+ghost use Rattle.rename_planner.specs.Planning.{ComesTo, Holds, Same, errors_in};
+ghost use Rattle.rename_planner.specs.ReadDocuments.{read_as};
 
 use crate::faults::RenameFault;
 use class_edits::{class_edits, first_clash, first_too_long};
@@ -97,6 +98,7 @@ fn no_error(ws: &Workspace, units: &[u32]) -> Result<(), RenameFault>
     ensures { (rs : List Read) → AreReadAs (entries ws.now.texts) rs →
         ComesTo ws.now.encoding (entries ws.now.texts) Holds (model.unless (model.first_of (errors_in (read_as (entries ws.now.texts) rs) units.now)) model.broken) result }
 {
+    let _program = ws.program();
     for unit in units {
         if let Some(PlacedError { place, code }) = ws.first_error(*unit)? {
             return Err(RenameFault::BrokenUnit { place, code });

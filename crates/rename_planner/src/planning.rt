@@ -1,11 +1,11 @@
 //! What a rename comes to before programs are compared: its edits, and what the programs are compared by.
-ghost use Rattle.std.specs.Prelude.{◌≡◌, ◌<◌, ◌++◌, ℕ, suc, [], ◌∷◌, List, length, map, None, IfOk, OnOk};
+ghost use Rattle.std.specs.Prelude.{◌≡◌, ◌<◌, ◌≤◌, ◌++◌, ℕ, [], List, length, map, slice_get, None, Some, IfOk, OnOk};
 ghost use Rattle.std.specs.BTreeMap.{get};
 ghost use Rattle.std.specs.FinMap.{entries};
-ghost use Rattle.std.specs.List.{flat_map};
-ghost use Rattle.std.specs.Option.{ok_or, option_map};
+ghost use Rattle.std.specs.Option.{option_map};
+ghost use Rattle.ls_base.specs.Limits.{max_documents};
 ghost use Rattle.scheme_model.specs.declared.Occ.{Occ as AnyOcc};
-ghost use Rattle.core_tree.specs.declared.units.NameUse.{NameUse as AnyName};
+ghost use Rattle.document_store.specs.Texts.{Document as Entered};
 ghost use Rattle.document_units.specs.Readings.{Read, AreReadAs};
 ghost use Rattle.program_answers.specs.Classed.{IsClassOf};
 ghost use Rattle.program_answers.specs.ToldAnswers.{facts_in, name_there};
@@ -16,7 +16,8 @@ ghost use Rattle.program_differences.specs.Exported.{changes_as};
 ghost use Rattle.rename_conditions.specs.Readers.{Reader, IsReader};
 ghost use Rattle.workspace_state.specs.Edited.{CanEdit};
 ghost use Rattle.rename_planner.specs.Changes.{all_changes, change_told, named_at, occ_from_end, unit_changes};
-ghost use Rattle.rename_planner.specs.ReadAs.{ComesTo, IsNamed, IsPlanned, named_in, planned_in, read_as};
+ghost use Rattle.rename_planner.specs.Planning.{ComesTo, IsNamed, IsOpenText, IsPlanned, named_in, planned_in};
+ghost use Rattle.rename_planner.specs.ReadDocuments.{read_as};
 
 use crate::conditions::{all_read, all_whole, bound, fitting_edits, no_clash, no_standard, stem, symbol};
 use crate::faults::RenameFault;
@@ -24,7 +25,10 @@ use class_edits::members::members;
 use class_edits::told_edits;
 use core_tree::units::{NameUse, Unit};
 use document_units::form_numbers::number_of;
+use document_units::opened::{Opened, nth};
+use ls_base::limits::MAX_DOCUMENTS;
 use ls_base::{DocEdits, Items, Mem, Pos, Text};
+use program_answers::open::Open;
 use program_differences::plan::{ExportChange, Plan};
 use scheme_model::Occ;
 use std::alloc::Global;
@@ -97,7 +101,7 @@ fn told(
     class: &Class,
     stem: &str,
     all: &[Items<Edit>],
-) -> Result<Planned, RenameFault>
+) -> Mem<Planned>
     requires made { CanEditAll (entries ws.now.texts) all.now }
     requires fit { too_long (entries ws.now.texts) (seen all.now) ≡ None }
     ensures exact { (rs : List Read) (o : AnyOcc) → AreReadAs (entries ws.now.texts) rs → IsClassOf (entries ws.now.texts) (facts_in rs) o class.now → clashing (facts_in rs).links o ≡ [] →
@@ -106,6 +110,7 @@ fn told(
     ensures tried { (rs : List Read) (o : AnyOcc) → AreReadAs (entries ws.now.texts) rs → seen all.now ≡ edits_of_class (entries ws.now.texts) rs stem.now o →
         IfOk result (λ planned. CanEdit ws.now.encoding planned.edits (entries ws.now.texts)) }
 {
+    see_texts(ws.open());
     let edits = told_edits(alloc, ws.open(), all, ws.encoding())?;
     let parts = class.parts.as_slice();
     let members = members(alloc, parts, stem)?;
@@ -113,6 +118,25 @@ fn told(
     let exports = changes(alloc, ws.program().units.as_slice(), &members)?;
     let plan = Plan { class, exports };
     Ok(Planned { edits, plan })
+}
+
+/// What is known of each open text. It changes nothing.
+fn see_texts(texts: &Open)
+    ensures { (n : ℕ) (d : List ℕ × Entered) → slice_get (entries texts.now) n ≡ Some d → IsOpenText d.1.1 }
+{
+    for n in 0..MAX_DOCUMENTS as u32 {
+        see_text(texts, n);
+    }
+}
+
+/// What is known of the nth.
+fn see_text(texts: &Open, n: u32)
+    ensures text { (d : List ℕ × Entered) → slice_get (entries texts.now) n ≡ Some d → IsOpenText d.1.1 }
+    ensures few { length (entries texts.now) ≤ max_documents }
+{
+    if let Some(Opened { text, .. }) = nth(texts.store(), n) {
+        let _shown = text.len();
+    }
 }
 
 /// Where the parts of a class stand.

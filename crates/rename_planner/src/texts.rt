@@ -12,7 +12,7 @@ ghost use Rattle.program_differences.specs.declared.plan.Difference.{Difference 
 ghost use Rattle.rename_conditions.specs.Readers.{Reader, IsReader};
 ghost use Rattle.rename_conditions.specs.Opened.{place_of};
 ghost use Rattle.rename_conditions.specs.Renames.{Refusal};
-ghost use Rattle.rename_planner.specs.ReadAs.{read_as};
+ghost use Rattle.rename_planner.specs.ReadDocuments.{read_as};
 ghost use Rattle.rename_planner.specs.RefusalTexts as spec;
 ghost use Rattle.rename_planner.specs.RenameOutcomes.{IsFaultOf};
 ghost use Rattle.rename_planner.specs.ToldRenames.{opened_as};

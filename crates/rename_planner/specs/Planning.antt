@@ -1,22 +1,24 @@
--- Documents that are read so, as renames take them, and the conditions of a rename as far as they compare no programs.
-use Rattle.std.specs.Prelude.{◌≡◌, ℕ, List, [], map, Option, Some, None, Result, Ok, Err}
+-- The conditions of a rename by their code and by the definition, as far as they compare no programs.
+use Rattle.std.specs.Prelude.{◌≡◌, ◌≤◌, ℕ, List, [], length, map, Option, Some, None, Result, Ok, Err}
 use Rattle.std.specs.List.{flat_map}
 use Rattle.std.specs.Option.{ok_or}
+use Rattle.std.specs.Str.{IsUtf8}
+use Rattle.ls_base.specs.Limits.{max_text}
 use Rattle.ls_base.specs.declared.encoding.Encoding.{Encoding}
 use Rattle.scheme_model.specs.declared.Occ.{Occ}
 use Rattle.scheme_model.specs.Diagnostics.{Diagnostic}
-use Rattle.scheme_model.specs.Program.{units_of, result_at}
-use Rattle.scheme_model.specs.Spelling.{is_member, links_of}
+use Rattle.scheme_model.specs.Program.{result_at}
+use Rattle.scheme_model.specs.Spelling.{is_member}
 use Rattle.rename_model.specs.SameProgram.{Plan}
 use Rattle.document_store.specs.Texts.{Document}
-use Rattle.document_units.specs.Readings.{Read, Reads, Stops, data_in, program_in}
+use Rattle.document_units.specs.Readings.{Read}
 use Rattle.program_answers.specs.Classed.{IsClassOf}
 use Rattle.program_answers.specs.ToldAnswers.{facts_in}
 use Rattle.text_edits.specs.Members.{prefix_of, stem_of}
-use Rattle.rename_conditions.specs.Readers.{Reading, Reader}
 use Rattle.rename_conditions.specs.Opened.{Opened, DocEdits, spans_read, edits_in, edited_in, plan_in, told_edits}
 use Rattle.rename_conditions.specs.Renames as model
 use Rattle.rename_conditions.specs.Renames.{Refusal, ◌>>=◌, unless, first_of}
+use Rattle.workspace_state.specs.Edited.{edited_documents}
 use Rattle.rename_planner.specs.ToldRenames.{document_told, texts_of}
 use Rattle.rename_planner.specs.RenameOutcomes.{RefusesAs}
 use Rattle.rename_planner.specs.declared.faults.RenameFault.{RenameFault}
@@ -25,21 +27,10 @@ use Rattle.rename_planner.specs.declared.planning.Named.{Named}
 use Rattle.rename_planner.specs.declared.planning.Planned.{Planned}
 use Rattle.program_differences.specs.Exported.{changes_as}
 
--- ---- documents
-
-abbrev pub reading_in : Read → Option Reading
-reading_in (Reads ds spans) = Some (record { items = ds; spans = spans })
-reading_in (Stops f) = None
-
--- the open documents with their program, where these are read so
-abbrev pub read_as : List (List ℕ × Document) → List Read → Opened
-read_as ds rs = record {
-  texts = texts_of ds;
-  readings = map reading_in rs;
-  units = units_of (map data_in rs);
-  program = program_in rs;
-  links = links_of (units_of (map data_in rs)) (program_in rs);
-}
+-- what is known of each open text
+pub record IsOpenText (text : List ℕ) : Type 0 where
+  pub utf8 : IsUtf8 text
+  pub short : length text ≤ max_text
 
 -- ---- conditions
 
@@ -92,5 +83,6 @@ pub record IsNamed (ds : List (List ℕ × Document)) (rs : List Read) (c : Occ 
 -- what is told of the edits, and the occurrences and exports by which programs are compared
 pub record IsPlanned (encoding : Encoding) (ds : List (List ℕ × Document)) (w : Opened) (c : Occ × List ℕ) (p : Planned) : Type 0 where
   pub edits : p.edits ≡ map (document_told encoding ds) (told_edits (edits_in w c.0 c.1))
+  pub texts : texts_of (edited_documents encoding p.edits ds) ≡ edited_in w c.0 c.1
   pub members : (o : Occ) → is_member p.plan.class o ≡ is_member (plan_in w c.0 c.1).members o
   pub exports : changes_as p.plan.exports ≡ (plan_in w c.0 c.1).exports
