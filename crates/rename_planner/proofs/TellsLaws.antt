@@ -26,11 +26,11 @@ PreparedProper p = IfProper p.placed.source.name
 
 libraries_proper : (known : Known) (ds : List Datum) → Each SourceProper (libraries_in known ds)
 libraries_proper known [] = tt
-libraries_proper known (d ∷ ds) = go (is_library d)
+libraries_proper known (d ∷ ds) = go (libraries_proper known ds) (is_library d)
   where
-    go : (b : Bool) → Each SourceProper (cond b (library_of known d ∷ libraries_in known ds) (libraries_in known ds))
-    go true = (unit_proper known d (behind_head d), libraries_proper known ds)
-    go false = libraries_proper known ds
+    go : Each SourceProper (libraries_in known ds) → (b : Bool) → Each SourceProper (cond b (library_of known d ∷ libraries_in known ds) (libraries_in known ds))
+    go rest true = (unit_proper known d (behind_head d), rest)
+    go rest false = rest
 
 program_proper : (ds : List Datum) → Each SourceProper (program_in ds)
 program_proper [] = tt
@@ -51,11 +51,11 @@ prepared_proper all n (u ∷ us) h = (h.0, prepared_proper all (suc n) us h.1)
 
 found_proper : (rs : List UnitResult) (place : ℕ) (r : UnitResult) → Each PreparedProper (map (λ (r : UnitResult). r.unit) rs) → result_at rs place ≡ Some r → PreparedProper r.unit
 found_proper [] place r h e = absurd cc
-found_proper (x ∷ rs) place r h e = go (x.unit.number == place) e
+found_proper (x ∷ rs) place r h e = go (found_proper rs place r h.1) (x.unit.number == place) e
   where
-    go : (b : Bool) → cond b (Some x) (result_at rs place) ≡ Some r → PreparedProper r.unit
-    go true k = let same : x ≡ r = cc in subst (λ (y : UnitResult). PreparedProper y.unit) same h.0
-    go false k = found_proper rs place r h.1 k
+    go : (result_at rs place ≡ Some r → PreparedProper r.unit) → (b : Bool) → cond b (Some x) (result_at rs place) ≡ Some r → PreparedProper r.unit
+    go rest true k = let same : x ≡ r = cc in subst (λ (y : UnitResult). PreparedProper y.unit) same h.0
+    go rest false k = rest k
 
 name_proper : (ds : List Document) (n : LibraryName) → IsNameIn (program_of ds) n → IsProper n
 name_proper ds n is =
