@@ -1,7 +1,8 @@
 -- What is planned and compared is the rename.
-use Rattle.std.proofs.Common.{◌≡◌, ◌+◌, ℕ, List, map, Bool, true, false, cond, Option, Some, None, Result, Ok, Err, refl, sym, ap, ◌∙◌, subst}
+use Rattle.std.proofs.Common.{◌≡◌, ◌+◌, ℕ, List, map, Bool, true, false, cond, Option, Some, None, Result, Ok, Err, refl, sym, ap, ◌∙◌, subst, arith}
 use Rattle.std.specs.FinMap.{entries}
 use Rattle.std.specs.Option.{ok_or}
+use Rattle.std.specs.Result.{IsErrAnd}
 use Rattle.ls_base.specs.declared.answers.DocEdits as told
 use Rattle.ls_base.specs.declared.encoding.Encoding.{Encoding}
 use Rattle.ls_base.specs.declared.places.Pos.{Pos}
@@ -13,6 +14,7 @@ use Rattle.document_store.specs.Texts.{Document, Texts}
 use Rattle.document_units.specs.Readings.{Read, AreReadAs, data_in, program_in}
 use Rattle.program_answers.specs.ToldAnswers.{name_there}
 use Rattle.program_differences.specs.Differences.{plan_as}
+use Rattle.program_differences.specs.declared.plan.Difference as code
 use Rattle.program_differences.specs.Exported.{changes_as}
 use Rattle.program_expansion.specs.UsesInTurn.{uses_in}
 use Rattle.text_edits.specs.Members.{prefix_of, stem_of}
@@ -33,6 +35,7 @@ use Rattle.rename_planner.proofs.MemberLaws.{difference_same}
 use Rattle.rename_planner.proofs.ReadersAgree.{opened_is_read, program_is_read}
 use Rattle.rename_planner.proofs.ReadingLaws.{uses_one}
 use Rattle.rename_planner.proofs.StepLaws.{identifier_same}
+use Rattle.rename_planner.proofs.UsesLaws.{IsUntried, planned_untried, texts_led, tried, untried}
 
 module _ (r : Reader) (is : IsReader r) (e : Encoding) (texts : Texts) (rs : List Read) (are : AreReadAs (entries texts) rs) where
   abbrev ds : List (List ℕ × Document)
@@ -57,7 +60,7 @@ module _ (r : Reader) (is : IsReader r) (e : Encoding) (texts : Texts) (rs : Lis
       first_difference (units_of (map data_in rs)) (program_in rs) (program_in ts) (plan_as p.plan) ≡ difference_by r w c.0 c.1
   difference_is p c ts is_planned there =
       let same : program_in ts ≡ program_read r (edited_in w c.0 c.1) =
-        sym (program_is_read r is (entries (edited_texts e p.edits texts)) ts there) ∙ ap (program_read r) (now_edited p c is_planned) in
+      sym (program_is_read r is (entries (edited_texts e p.edits texts)) ts there) ∙ ap (program_read r) (now_edited p c is_planned) in
       difference_same p.plan.class (plan_in w c.0 c.1).members is_planned.members (units_of (map data_in rs)) (program_in rs) (program_in ts) (changes_as p.plan.exports) (plan_in w c.0 c.1).exports is_planned.exports
       ∙ ap (λ q. first_difference (units_of (map data_in rs)) (program_in rs) q (plan_in w c.0 c.1)) same
 
@@ -84,3 +87,74 @@ module _ (r : Reader) (is : IsReader r) (e : Encoding) (texts : Texts) (rs : Lis
       renamed_now h = answer_from (Ok p.edits) (bind_ok e ds (IsPlanned e ds w) (AreEdits e ds) planned (compared_in r w) p (Ok p.edits) h1 (λ c q is_planned.
           bind_ok {B = Unit {0}} e ds Holds (AreEdits e ds) (unless (difference_by r w c.0 c.1) Differs) _ tt (Ok p.edits)
           (subst (λ o. ComesTo {B = Unit {0}} e ds Holds (unless o Differs) (Ok tt)) (difference_is p c ts is_planned there) h) (λ a k l. is_planned.edits)))
+
+-- ---- what fails before programs are compared
+
+no_difference : {A B : Type 0} (e : Encoding) (ds : List (List ℕ × Document)) (P : A → B → Type 0) (s : Result A Refusal) (d : code.Difference) → IsUntried s → ComesTo e ds P s (Err (faults.Differs d)) → ⊥
+no_difference e ds P (Ok a) d h k = absurd cc
+no_difference e ds P (Err refusal) d h k =
+    let was : is_tried (Err refusal) ≡ true = ap (λ (x : Refusal). is_tried (Err x)) k.1 in
+    let same : true ≡ false = sym was ∙ h in
+    absurd cc
+
+pub never_differs : (e : Encoding) (ds : List (List ℕ × Document)) (w : Opened) (at : Option Occ) (symbol : Option (List ℕ)) (d : code.Difference) (fault : RenameFault) →
+    fault ≡ faults.Differs d → ComesTo e ds (IsPlanned e ds w) (planned_in w at symbol) (Err fault) → ⊥
+never_differs e ds w at symbol d fault same h =
+    no_difference e ds (IsPlanned e ds w) (planned_in w at symbol) d (planned_untried w at symbol) (subst (λ (f : RenameFault). ComesTo e ds (IsPlanned e ds w) (planned_in w at symbol) (Err f)) same h)
+
+refusal_there : {A B : Type 0} (e : Encoding) (ds : List (List ℕ × Document)) (P : A → B → Type 0) (s : Result A Refusal) (fault : RenameFault) → (fault ≡ faults.Memory → ⊥) → ComesTo e ds P s (Err fault) → (refusal : Refusal) × (s ≡ Err refusal)
+refusal_there e documents P (Ok a) fault free h = absurd (free h)
+refusal_there e documents P (Err refusal) fault free h = (refusal, refl)
+
+value_there : {A B : Type 0} (e : Encoding) (ds : List (List ℕ × Document)) (P : A → B → Type 0) (s : Result A Refusal) (b : B) → ComesTo e ds P s (Ok b) → (a : A) × (s ≡ Ok a) × P a b
+value_there e documents P (Ok a) b h = (a, refl, h)
+value_there e documents P (Err refusal) b h = absurd h
+
+-- a fault is handed on
+pub handed : {X : Type 0} (result : Result X RenameFault) (fault : RenameFault) → IsErrAnd result (λ f. f ≡ fault) → result ≡ Err fault
+handed (Ok x) fault h = absurd h
+handed (Err f) fault h = ap (λ (g : RenameFault). Err g) h
+
+pub handed_as : {X : Type 0} (result : Result X RenameFault) (fault other : RenameFault) → IsErrAnd result (λ f. f ≡ fault) → result ≡ Err other → fault ≡ other
+handed_as (Ok x) fault other h k = absurd h
+handed_as (Err f) fault other h k = let same : f ≡ other = cc in sym h ∙ same
+
+abbrev pub fault_in : Result (Unit {0}) RenameFault → RenameFault
+fault_in (Ok x) = faults.Memory
+fault_in (Err f) = f
+
+-- ---- the macro uses that are counted
+
+pub adds_none : (n m : ℕ) → m ≡ 0 → n ≡ n + m
+adds_none n m h = omega (arith, h)
+
+module _ (r : Reader) (is : IsReader r) (e : Encoding) (texts : Texts) (rs : List Read) (are : AreReadAs (entries texts) rs) (uri : List ℕ) (position : Pos) (new : List ℕ) where
+  abbrev read : Opened
+  read = read_as (entries texts) rs
+
+  abbrev place : Option Occ
+  place = name_there e (entries texts) rs uri position
+
+  abbrev uses_by : Bool → ℕ
+  uses_by b = cond b (text_uses r (edited_by (opened_as r (entries texts)) (identifier_at e (entries texts) (opened_as r (entries texts)) uri position) (r.symbol new))) 0
+
+  tried_as : (b : Bool) → is_tried (rename_in r read place new) ≡ b → rename_uses r e (entries texts) uri position new ≡ uses_by b
+  tried_as b h = ap uses_by (ap is_tried (rename_is r is e texts rs are uri position new) ∙ h)
+
+  pub not_counted : (fault : RenameFault) → (fault ≡ faults.Memory → ⊥) → ComesTo e (entries texts) (IsPlanned e (entries texts) read) (planned_in read place (r.symbol new)) (Err fault) → rename_uses r e (entries texts) uri position new ≡ 0
+  not_counted fault free h =
+      let there = refusal_there e (entries texts) (IsPlanned e (entries texts) read) (planned_in read place (r.symbol new)) fault free h in
+      tried_as false (untried r read place new there.0 there.1)
+
+  edited_as : edited_by (opened_as r (entries texts)) (identifier_at e (entries texts) (opened_as r (entries texts)) uri position) (r.symbol new) ≡ edited_by read place (r.symbol new)
+  edited_as =
+      let o = opened_is_read r is (entries texts) rs are in
+      (λ j. edited_by (o j) (identifier_at e (entries texts) (o j) uri position) (r.symbol new)) ∙ ap (λ at. edited_by read at (r.symbol new)) (identifier_same e (entries texts) rs uri position)
+
+  pub counted : (p : Planned) → ComesTo e (entries texts) (IsPlanned e (entries texts) read) (planned_in read place (r.symbol new)) (Ok p) →
+      (ts : List Read) → AreReadAs (entries (edited_texts e p.edits texts)) ts → rename_uses r e (entries texts) uri position new ≡ uses_in ts
+  counted p h ts there =
+      let it = value_there e (entries texts) (IsPlanned e (entries texts) read) (planned_in read place (r.symbol new)) p h in
+      tried_as true (tried r read place new it.0 it.1)
+      ∙ ap (text_uses r) (edited_as ∙ texts_led read place (r.symbol new) it.0 it.1 ∙ sym (now_edited r is e texts rs are p it.0 it.2))
+      ∙ uses_one r is (entries (edited_texts e p.edits texts)) ts there

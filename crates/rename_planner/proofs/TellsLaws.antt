@@ -60,7 +60,7 @@ found_proper (x ∷ rs) place r h e = go (found_proper rs place r h.1) (x.unit.n
 name_proper : (ds : List Document) (n : LibraryName) → IsNameIn (program_of ds) n → IsProper n
 name_proper ds n is =
     let all : Each PreparedProper (map (λ (r : UnitResult). r.unit) (program_of ds).units) =
-      subst (Each PreparedProper) (sym (results_in_order ds)) (prepared_proper (units_of ds) 0 (units_of ds) (placed_proper (known_in ds) 0 ds)) in
+    subst (Each PreparedProper) (sym (results_in_order ds)) (prepared_proper (units_of ds) 0 (units_of ds) (placed_proper (known_in ds) 0 ds)) in
     subst IfProper is.name (found_proper (program_of ds).units is.place is.unit all is.there)
 
 pub names_tell : (ds es : List Document) → TellsApart library_text (program_of ds) (program_of es)

@@ -13,7 +13,7 @@ use Rattle.rename_planner.specs.ToldRenames.{edited_by, is_tried}
 use Rattle.rename_planner.proofs.BindLaws.{compared_in, rename_parted}
 
 -- a rename that is refused so isn't tried
-abbrev IsUntried : {A : Type 0} → Result A Refusal → Type 0
+abbrev pub IsUntried : {A : Type 0} → Result A Refusal → Type 0
 IsUntried (Ok a) = Unit {0}
 IsUntried (Err refusal) = is_tried (Err refusal) ≡ false
 
@@ -29,7 +29,7 @@ then_both : {A B : Type 0} (s : Result A Refusal) (f : A → Result B Refusal) �
 then_both (Ok a) f h k = k a
 then_both (Err refusal) f h k = h
 
-planned_untried : (w : Opened) (at : Option Occ) (symbol : Option (List ℕ)) → IsUntried (planned_in w at symbol)
+pub planned_untried : (w : Opened) (at : Option Occ) (symbol : Option (List ℕ)) → IsUntried (planned_in w at symbol)
 planned_untried w at symbol = then_both (named_in w at symbol) (fitting_in w)
     (then_or (joined_at w.links at) NotBound _ refl (λ o. then_unless (first_of (standard_names w o)) IsStandard _ (λ s. refl) (then_or (new_symbol symbol) BadName _ refl (λ name.
     then_unless (first_unread 0 w.readings) Unreadable _ (λ n. refl) (then_or (stem_of (prefix_of w.links o) name) (PrefixLost (prefix_of w.links o)) _ refl (λ stem. tt))))))

@@ -17,24 +17,24 @@ use Rattle.rename_planner.proofs.comparing.compare.Goals as goal
 pub first_difference-found-requires : goal.first_difference-found-requires
 first_difference-found-requires g c =
     let was : IsProgramOfTexts c.args.ws.now.texts c.work.result.now c.program.result.now =
-      subst (λ w. IsProgramOfTexts c.args.ws.now.texts w c.program.result.now) (sym c.work.ensures) (subst (λ t. IsProgramOfTexts t c.try_edits.new.self.expansion.work c.program.result.now) c.try_edits.ensures.texts c.program.ensures.of_texts) in
+    subst (λ w. IsProgramOfTexts c.args.ws.now.texts w c.program.result.now) (sym c.work.ensures) (subst (λ t. IsProgramOfTexts t c.try_edits.new.self.expansion.work c.program.result.now) c.try_edits.ensures.texts c.program.ensures.of_texts) in
     let now : IsProgramOfTexts (edited_texts c.args.ws.now.encoding c.args.edits.now c.args.ws.now.texts) c.work.result.now c.program-2.result.now =
-      subst (λ w. IsProgramOfTexts (edited_texts c.args.ws.now.encoding c.args.edits.now c.args.ws.now.texts) w c.program-2.result.now) (sym c.work.ensures)
-      (subst (IsProgramOfTexts (edited_texts c.args.ws.now.encoding c.args.edits.now c.args.ws.now.texts) c.try_edits.new.self.expansion.work) (sym c.program-2.ensures) c.in_ok-trial.ensures.trial) in
+    subst (λ w. IsProgramOfTexts (edited_texts c.args.ws.now.encoding c.args.edits.now c.args.ws.now.texts) w c.program-2.result.now) (sym c.work.ensures)
+    (subst (IsProgramOfTexts (edited_texts c.args.ws.now.encoding c.args.edits.now c.args.ws.now.texts) c.try_edits.new.self.expansion.work) (sym c.program-2.ensures) c.in_ok-trial.ensures.trial) in
     comparable c.args.ws.now.encoding c.args.edits.now c.args.ws.now.texts c.work.result.now c.program.result.now c.program-2.result.now was now
 
 -- src/comparing.rt:22:1
 pub returns-in-Some-clause-exact : goal.returns-in-Some-clause-exact
 returns-in-Some-clause-exact g c = λ rs ts are there.
     let was : IsProgramOfTexts c.args.ws.now.texts c.work.result.now c.program.result.now =
-      subst (λ w. IsProgramOfTexts c.args.ws.now.texts w c.program.result.now) (sym c.work.ensures) (subst (λ t. IsProgramOfTexts t c.try_edits.new.self.expansion.work c.program.result.now) c.try_edits.ensures.texts c.program.ensures.of_texts) in
+    subst (λ w. IsProgramOfTexts c.args.ws.now.texts w c.program.result.now) (sym c.work.ensures) (subst (λ t. IsProgramOfTexts t c.try_edits.new.self.expansion.work c.program.result.now) c.try_edits.ensures.texts c.program.ensures.of_texts) in
     let now : IsProgramOfTexts (edited_texts c.args.ws.now.encoding c.args.edits.now c.args.ws.now.texts) c.work.result.now c.program-2.result.now =
-      subst (λ w. IsProgramOfTexts (edited_texts c.args.ws.now.encoding c.args.edits.now c.args.ws.now.texts) w c.program-2.result.now) (sym c.work.ensures)
-      (subst (IsProgramOfTexts (edited_texts c.args.ws.now.encoding c.args.edits.now c.args.ws.now.texts) c.try_edits.new.self.expansion.work) (sym c.program-2.ensures) c.in_ok-trial.ensures.trial) in
+    subst (λ w. IsProgramOfTexts (edited_texts c.args.ws.now.encoding c.args.edits.now c.args.ws.now.texts) w c.program-2.result.now) (sym c.work.ensures)
+    (subst (IsProgramOfTexts (edited_texts c.args.ws.now.encoding c.args.edits.now c.args.ws.now.texts) c.try_edits.new.self.expansion.work) (sym c.program-2.ensures) c.in_ok-trial.ensures.trial) in
     let found = c.in_ok-difference.ensures library_text (uris_of (entries c.args.ws.now.texts)) (units_of (map data_in rs)) (units_of (map data_in ts)) (program_in rs) (program_in ts)
-      (names_tell (map data_in rs) (map data_in ts)) (uris_distinct c.args.ws.now.texts) (was rs are)
-      (new_stands c.args.ws.now.encoding c.args.edits.now c.args.ws.now.texts c.work.result.now c.program-2.result.now ts now there)
-      (exports_are_given (map data_in rs)) (exports_are_given (map data_in ts)) in
+    (names_tell (map data_in rs) (map data_in ts)) (uris_distinct c.args.ws.now.texts) (was rs are)
+    (new_stands c.args.ws.now.encoding c.args.edits.now c.args.ws.now.texts c.work.result.now c.program-2.result.now ts now there)
+    (exports_are_given (map data_in rs)) (exports_are_given (map data_in ts)) in
     differs c.args.ws.now.encoding (entries c.args.ws.now.texts) c.in-Some.difference (difference.first_difference (units_of (map data_in rs)) (program_in rs) (program_in ts) (plan_as c.args.plan.now))
     (subst (λ f. AreOne f (difference.first_difference (units_of (map data_in rs)) (program_in rs) (program_in ts) (plan_as c.args.plan.now))) c.in-Some.is found)
 
@@ -42,13 +42,13 @@ returns-in-Some-clause-exact g c = λ rs ts are there.
 pub returns-in-None-clause-exact : goal.returns-in-None-clause-exact
 returns-in-None-clause-exact g c = λ rs ts are there.
     let was : IsProgramOfTexts c.args.ws.now.texts c.work.result.now c.program.result.now =
-      subst (λ w. IsProgramOfTexts c.args.ws.now.texts w c.program.result.now) (sym c.work.ensures) (subst (λ t. IsProgramOfTexts t c.try_edits.new.self.expansion.work c.program.result.now) c.try_edits.ensures.texts c.program.ensures.of_texts) in
+    subst (λ w. IsProgramOfTexts c.args.ws.now.texts w c.program.result.now) (sym c.work.ensures) (subst (λ t. IsProgramOfTexts t c.try_edits.new.self.expansion.work c.program.result.now) c.try_edits.ensures.texts c.program.ensures.of_texts) in
     let now : IsProgramOfTexts (edited_texts c.args.ws.now.encoding c.args.edits.now c.args.ws.now.texts) c.work.result.now c.program-2.result.now =
-      subst (λ w. IsProgramOfTexts (edited_texts c.args.ws.now.encoding c.args.edits.now c.args.ws.now.texts) w c.program-2.result.now) (sym c.work.ensures)
-      (subst (IsProgramOfTexts (edited_texts c.args.ws.now.encoding c.args.edits.now c.args.ws.now.texts) c.try_edits.new.self.expansion.work) (sym c.program-2.ensures) c.in_ok-trial.ensures.trial) in
+    subst (λ w. IsProgramOfTexts (edited_texts c.args.ws.now.encoding c.args.edits.now c.args.ws.now.texts) w c.program-2.result.now) (sym c.work.ensures)
+    (subst (IsProgramOfTexts (edited_texts c.args.ws.now.encoding c.args.edits.now c.args.ws.now.texts) c.try_edits.new.self.expansion.work) (sym c.program-2.ensures) c.in_ok-trial.ensures.trial) in
     let found = c.in_ok-difference.ensures library_text (uris_of (entries c.args.ws.now.texts)) (units_of (map data_in rs)) (units_of (map data_in ts)) (program_in rs) (program_in ts)
-      (names_tell (map data_in rs) (map data_in ts)) (uris_distinct c.args.ws.now.texts) (was rs are)
-      (new_stands c.args.ws.now.encoding c.args.edits.now c.args.ws.now.texts c.work.result.now c.program-2.result.now ts now there)
-      (exports_are_given (map data_in rs)) (exports_are_given (map data_in ts)) in
+    (names_tell (map data_in rs) (map data_in ts)) (uris_distinct c.args.ws.now.texts) (was rs are)
+    (new_stands c.args.ws.now.encoding c.args.edits.now c.args.ws.now.texts c.work.result.now c.program-2.result.now ts now there)
+    (exports_are_given (map data_in rs)) (exports_are_given (map data_in ts)) in
     same_program (Unit {0}) tt c.args.ws.now.encoding (entries c.args.ws.now.texts) (difference.first_difference (units_of (map data_in rs)) (program_in rs) (program_in ts) (plan_as c.args.plan.now))
     (subst (λ f. AreOne f (difference.first_difference (units_of (map data_in rs)) (program_in rs) (program_in ts) (plan_as c.args.plan.now))) c.in-None.is found)
