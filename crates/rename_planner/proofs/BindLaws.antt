@@ -133,14 +133,17 @@ rename_parted r w at new =
             ≡ (t >>= λ stem. unless (first_of (clashes w o)) PrefixClash >>= λ done. unless (first_of (errors_in_reach w o)) broken >>= λ done. unless (first_too_long 0 (edited_in w o stem)) TooLong >>= λ done. compared_in r w (o, stem))
         by_s (Err f) = refl
         by_s (Ok stem) = fitting_assoc r w (o, stem)
+
         by_d : (name : List ℕ) (t : Result (Unit {0}) Refusal) → (t >>= λ done. s o name >>= λ stem. Ok (o, stem)) >>= (λ x. fitting_in w x >>= compared_in r w)
             ≡ (t >>= λ done. s o name >>= λ stem. unless (first_of (clashes w o)) PrefixClash >>= λ done. unless (first_of (errors_in_reach w o)) broken >>= λ done. unless (first_too_long 0 (edited_in w o stem)) TooLong >>= λ done. compared_in r w (o, stem))
         by_d name (Err f) = refl
         by_d name (Ok x) = by_s (s o name)
+
         by_c : (t : Result (List ℕ) Refusal) → (t >>= λ name. d >>= λ done. s o name >>= λ stem. Ok (o, stem)) >>= (λ x. fitting_in w x >>= compared_in r w)
             ≡ (t >>= λ name. d >>= λ done. s o name >>= λ stem. unless (first_of (clashes w o)) PrefixClash >>= λ done. unless (first_of (errors_in_reach w o)) broken >>= λ done. unless (first_too_long 0 (edited_in w o stem)) TooLong >>= λ done. compared_in r w (o, stem))
         by_c (Err f) = refl
         by_c (Ok name) = by_d name d
+
         by_b : (t : Result (Unit {0}) Refusal) → (t >>= λ done. c >>= λ name. d >>= λ done. s o name >>= λ stem. Ok (o, stem)) >>= (λ x. fitting_in w x >>= compared_in r w)
             ≡ (t >>= λ done. c >>= λ name. d >>= λ done. s o name >>= λ stem. unless (first_of (clashes w o)) PrefixClash >>= λ done. unless (first_of (errors_in_reach w o)) broken >>= λ done. unless (first_too_long 0 (edited_in w o stem)) TooLong >>= λ done. compared_in r w (o, stem))
         by_b (Err f) = refl

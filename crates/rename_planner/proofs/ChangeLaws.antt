@@ -58,8 +58,10 @@ from_end ns front n last e = ap (λ (xs : List code_name.NameUse). occ_from_end 
   where
     count : length (front ++ n ∷ last) ≡ length front + suc (length last)
     count = length-append front (n ∷ last)
+
     left : length (front ++ n ∷ last) - suc (length last) ≡ length front
     left = omega (arith, count)
+
     there : occ_from_end (front ++ n ∷ last) (suc (length last)) ≡ n.target.occ
     there =
         ap (λ (b : Bool). cond b None (place_in (slice_get (front ++ n ∷ last) (length (front ++ n ∷ last) - suc (length last)))))
@@ -110,10 +112,10 @@ module _ (w : Opened) (o : Occ) (stem : List ℕ) (name : Occ → Option (List �
         let it = at (length before) d (omega (arith, count)) in
         let same : get_or r.exports (length before) d ≡ d = ap (λ (ys : List Entry). get_or ys (length before) d) e ∙ at_place before d ds in
         let place : occ_from_end ns (suc (length es)) ≡ external_occ r.unit.exports d.name =
-          end_of ns (external_occ r.unit.exports (get_or r.exports (length before) d).name) (length r.exports - length before) (length es) (omega (arith, count, many)) it
-          ∙ ap (λ (y : Entry). external_occ r.unit.exports y.name) same in
+        end_of ns (external_occ r.unit.exports (get_or r.exports (length before) d).name) (length r.exports - length before) (length es) (omega (arith, count, many)) it
+        ∙ ap (λ (y : Entry). external_occ r.unit.exports y.name) same in
         let first : change_told name unit x.name (occ_from_end ns (suc (length es))) ≡ export_change w o stem r d =
-          told_so r unit x.name d (occ_from_end ns (suc (length es))) number h.0.name ∙ ap (told_at r d) place in
+        told_so r unit x.name d (occ_from_end ns (suc (length es))) number h.0.name ∙ ap (told_at r d) place in
         let rest = exports_changed (before ++ d ∷ []) es ds (e ∙ sym (append_assoc before (d ∷ []) ds)) h.1 in
         (λ j. first j ++ rest j) ∙ sym (flat_map-cons (export_change w o stem r) d ds)
 
@@ -127,7 +129,7 @@ module _ (w : Opened) (o : Occ) (stem : List ℕ) (name : Occ → Option (List �
     units_changed k (c ∷ cs) [] h given = absurd h
     units_changed k (c ∷ cs) (r ∷ us) h given =
         let one : unit_changes name k c ≡ flat_map (export_change w o stem r) r.exports =
-          exports_changed r k c.names work.symbols (sym h.0.number) (λ i d lt. named_from_end work.symbols k c.names _ p.table r i d h.0.names (given 0 r refl) lt) [] c.exports r.exports refl h.0.exports in
+        exports_changed r k c.names work.symbols (sym h.0.number) (λ i d lt. named_from_end work.symbols k c.names _ p.table r i d h.0.names (given 0 r refl) lt) [] c.exports r.exports refl h.0.exports in
         let rest = units_changed (suc k) cs us h.1 (λ n q there. given (suc n) q there) in
         (λ j. one j ++ rest j) ∙ sym (flat_map-cons (λ (r : UnitResult). flat_map (export_change w o stem r) r.exports) r us)
 

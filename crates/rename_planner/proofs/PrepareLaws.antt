@@ -128,6 +128,7 @@ module _ (r : Reader) (is : IsReader r) (e : Encoding) (texts : Texts) (rs : Lis
       at : (n : ℕ) (o : Option Occ) → answer_told e ds (answer_at f n o Prepare) ≡ told_at o
       at n None = refl
       at n (Some o) = refl
+
       go : (n : Option ℕ) → answer_told e ds (answer_by e ds rs n position Prepare) ≡ told_at (name_by e ds rs n position)
       go None = refl
       go (Some n) = at n (name_at (spans_of rs) (program_in rs).units n (offset_of e (text_of ds n) position))
@@ -147,8 +148,10 @@ module _ (r : Reader) (is : IsReader r) (e : Encoding) (texts : Texts) (rs : Lis
     where
       unnamed : is_bound f o ≡ false → IsUnnamed (rename_in r w (Some o) new)
       unnamed b = subst IsUnnamed (sym (rename_there o)) (unnamed_by r w o new (is_joined f.links o) (standard_origins f.links (class_of f.links o)) b)
+
       named : is_bound f o ≡ true → IsUnnamed (rename_in r w (Some o) new) → ⊥
       named b u = named_by r w o new (is_joined f.links o) (standard_origins f.links (class_of f.links o)) b (subst IsUnnamed (rename_there o) u)
+
       go : (p : Option code.Prepared) (b : Bool) → is_bound f o ≡ b → prepared_told p ≡ answer_told e ds (cond b (Prepared (f.bytes o)) Nothing) → (p ≡ None → IsUnnamed (rename_in r w (Some o) new)) × (IsUnnamed (rename_in r w (Some o) new) → p ≡ None)
       go None true b k = absurd cc
       go None false b k = (λ q. unnamed b, λ u. refl)

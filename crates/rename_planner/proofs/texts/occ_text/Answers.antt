@@ -16,7 +16,6 @@ use Rattle.rename_planner.specs.RefusalTexts as spec
 use Rattle.rename_planner.specs.RenameOutcomes.{IsFaultOf}
 use Rattle.rename_planner.specs.ToldRenames.{opened_as}
 use Rattle.rename_planner.proofs.texts.occ_text.Goals as goal
-
 use Rattle.std.proofs.Common.{refl, sym, ap, ◌∙◌, subst}
 use Rattle.rename_planner.proofs.PlaceLaws.{start_is}
 use Rattle.rename_planner.proofs.ReadingLaws.{spans_as}
