@@ -23,10 +23,10 @@ share = $(DESTDIR)$(PREFIX)/share/scheme_ls
 pages = docs/profile/arrows.md docs/profile/diagnostics.md docs/profile/outside.md docs/profile/reading.md docs/profile/session.md
 examples = examples/first.scm examples/main.scm examples/mistakes.scm examples/my-or.scm examples/quoted.scm examples/stack.sld
 editors = editors/README.md \
-	editors/emacs/README.md editors/emacs/scheme-ls.el \
+	editors/emacs/README.md editors/emacs/scheme-ls.el editors/emacs/scheme-ls-renames.el \
 	editors/helix/README.md editors/helix/languages.toml \
 	editors/kakoune/README.md editors/kakoune/kak-lsp.toml editors/kakoune/scheme_ls.kak \
-	editors/neovim/README.md editors/neovim/scheme_ls.lua \
+	editors/neovim/README.md editors/neovim/scheme_ls.lua editors/neovim/scheme_ls_renames.lua \
 	editors/vscode/README.md editors/vscode/extension.js editors/vscode/language-configuration.json editors/vscode/package.json
 
 all crates/scheme_ls/out/scheme_ls:

@@ -716,5 +716,6 @@ Buffers may have other names than they had, and what was refused may fit."
 (add-hook 'eglot-managed-mode-hook #'scheme-ls--managed)
 (add-hook 'scheme-mode-hook #'scheme-ls--setup)
 
+(require 'scheme-ls-renames)
 (provide 'scheme-ls)
 ;;; scheme-ls.el ends here

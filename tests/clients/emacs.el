@@ -272,6 +272,28 @@
   (go place)
   (places (xref-backend-references 'eglot (xref-backend-identifier-at-point 'eglot))))
 
+(defun step-rename_name (place step)
+  "Rename what stands at PLACE, as a user does, and answer what is said where it is refused."
+  (go place)
+  (let ((refused (condition-case err
+                     (progn (eglot-rename (plist-get step :to)) nil)
+                   (error (error-message-string err)))))
+    (dolist (buffer (buffer-list))
+      (with-current-buffer buffer (send-changes)))
+    (let ((says (plist-get step :says)))
+      (unless (if says (and refused (string-search says refused)) (null refused))
+        (fail "what is said of a rename: %S" refused)))))
+
+(defun step-holds (file)
+  "The text of FILE, which may stand in a buffer that nobody has seen."
+  (with-current-buffer (buffer-of file)
+    (split-string (string-trim-right (buffer-string) "\n") "\n")))
+
+(defun step-listed (number)
+  "Where the list of places leads that a refusal left."
+  (scheme-ls-refusal number)
+  (cons (file-relative-name buffer-file-name room) (line-and-character (point))))
+
 (defun marks (key wanted)
   "The places of overlays whose KEY has a value of WANTED, each with what that stands for."
   (sort (cl-loop for overlay in (overlays-in (point-min) (point-max))
@@ -326,12 +348,14 @@
                                (:definition step-definition) (:references step-references) (:highlights step-highlights)
                                (:arrows step-arrows) (:served step-served) (:said step-said) (:write step-write)
                                (:fill step-fill) (:grow step-grow) (:shrink step-shrink) (:many step-many)
-                               (:save_as step-save_as) (:kill step-kill) (:logged step-logged) (:rename step-rename))
+                               (:save_as step-save_as) (:kill step-kill)
+                               (:rename_name step-rename_name) (:holds step-holds) (:listed step-listed)
+                               (:logged step-logged) (:rename step-rename))
            for what = (plist-get step kind)
            when (plist-member step kind)
            do (let* ((name (format "step %d, %s %S" number kind what))
                      (found (condition-case err
-                                (if (memq run '(step-open step-close step-undo step-definition step-references step-shrink step-kill))
+                                (if (memq run '(step-open step-close step-undo step-definition step-references step-shrink step-kill step-holds step-listed))
                                     (funcall run what)
                                   (funcall run what step))
                               (error (fail "%s: %S" name err)))))

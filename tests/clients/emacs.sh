@@ -1,7 +1,7 @@
 #!/bin/sh
 # Drives the built program with Eglot, the language client of Emacs, headless, and with the file of editors/emacs: the steps of
-# questions.json (answers to all that is asked) and libraries.json (what is open at the server), each in an Emacs of its own with a
-# shutdown at the end, and a server that ends at once. What was sent is looked through by `wire`. It is skipped where Emacs, Eglot or
+# questions.json (answers to all that is asked), libraries.json (what is open at the server) and renames.json (renames, and what is said
+# where one is refused), each in an Emacs of its own with a shutdown at the end, and a server that ends at once. What was sent is looked through by `wire`. It is skipped where Emacs, Eglot or
 # the built program is missing. SCHEME_LS names another program, if it is set; where SESSION_FILE is set, a session is being recorded,
 # and there are the steps of questions.json alone.
 
@@ -43,7 +43,7 @@ if [ -n "$SESSION_FILE" ]; then
     run_steps questions "$program"
     exit
 fi
-for it in questions libraries; do
+for it in questions libraries renames; do
     SESSION_SERVER=$program SESSION_FILE=$room/$it.session run_steps $it "$top/tests/sessions/proxy"
     "$here/wire" "$room/$it.session" || exit
 done

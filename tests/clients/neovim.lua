@@ -37,6 +37,7 @@ end
 vim.g.scheme_ls_cmd = { program, 'serve' }
 vim.g.scheme_ls_roots = vim.tbl_map(function(it) return room .. '/' .. it end, questions.roots or {})
 vim.cmd('luafile ' .. here .. '/../../editors/neovim/scheme_ls.lua')
+vim.cmd('luafile ' .. here .. '/../../editors/neovim/scheme_ls_renames.lua')
 
 local client
 local published = {} -- the versions of the lists that came last, by file
@@ -314,6 +315,36 @@ end
 function steps.references(step)
   go(step.references)
   return places(ask('textDocument/references', { context = { includeDeclaration = true } }))
+end
+
+-- Renames what stands at a place, as a user does.
+function steps.rename_name(step)
+  go(step.rename_name)
+  local answered
+  local handler = vim.lsp.handlers['textDocument/rename']
+  vim.lsp.handlers['textDocument/rename'] = function(...)
+    handler(...)
+    answered = true
+  end
+  local told = #said
+  vim.lsp.buf.rename(step.to)
+  vim.wait(patience, function() return answered or #said > told end, 10)
+  vim.lsp.handlers['textDocument/rename'] = handler
+  vim.cmd('doautocmd TextChanged')
+  local text = said[told + 1] or ''
+  if step.says and not text:find(step.says, 1, true) or not step.says and text ~= '' then fail('what is said of a rename: ' .. text) end
+end
+
+-- The text of a document, which may stand in a buffer that nobody has seen.
+function steps.holds(step)
+  local buffer = buffer_of(step.holds)
+  return vim.api.nvim_buf_get_lines(buffer, 0, -1, true)
+end
+
+-- Where the list of places leads that a refusal left.
+function steps.listed(step)
+  vim.cmd('cc ' .. step.listed)
+  return cursor()
 end
 
 function steps.highlights(step)

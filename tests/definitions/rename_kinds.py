@@ -120,7 +120,7 @@ class Conditions(kinds.Kind):
     crate = "rename_conditions"
     module = "ConditionRows"
     says = "Open documents, and what a rename of an identifier edits or why it is refused, from outside."
-    unfolding = kinds.Edits.unfolding
+    unfolding = kinds.Edits.unfolding.removesuffix(" ucd_category")
     head = """
 use Rattle.std.specs.Prelude.{◌≡◌, ℕ, Bool, true, false, List, [], ◌∷◌, Option, Some, None, codes, refl}
 use Rattle.std.specs.Char.{encode_utf8}

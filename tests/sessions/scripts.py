@@ -98,6 +98,57 @@ class Session:
                 yield step.row, found
 
 
+class Renaming(Step):
+    """Documents that are opened, and a rename in them, asked twice: the first leaves all as it was."""
+
+    IDS = "rename", "again"
+
+    def __init__(self, row):
+        documents, (self.uri, (line, character)), name, *rest = json.loads(row.argument)
+        texts = {uri: made(text).decode() for uri, text in documents}
+        self.encoding = rest[0] if rest else "utf-16"
+        self.lines = {uri: client.Lines(text, self.encoding) for uri, text in texts.items()}
+        capabilities = {"general": {"positionEncodings": [self.encoding]}}
+        params = {"textDocument": {"uri": self.uri}, "position": {"line": line, "character": character}, "newName": name}
+        sent = [client.request(0, "initialize", {"capabilities": capabilities}), *(client.opened(*it) for it in texts.items()),
+                *(client.request(it, "textDocument/rename", params) for it in self.IDS)]
+        super().__init__(row, sent, [client.compact({"jsonrpc": "2.0", "id": it} | self.answer(json.loads(row.wanted))).encode() for it in self.IDS])
+
+    def answer(self, wanted):
+        """The result, or the error RequestFailed, by which the answer of a row comes."""
+        if isinstance(wanted, str):
+            return {"error": {"code": -32803, "message": wanted}}
+        return {"result": {"changes": {uri: [{"newText": text, "range": self.lines[uri].range(start, end)} for start, end, text in edits]
+                                       for uri, edits in wanted}}}
+
+    def told(self, messages):
+        first, second = ({key: it[key] for key in it if key != "id"} for it in messages)
+        if first != second:
+            raise ValueError
+        if "error" in first:
+            return first["error"]["message"]
+        return [[uri, [[*self.lines[uri].span(it["range"]), it["newText"]] for it in edits]] for uri, edits in first["result"]["changes"].items()]
+
+
+class Renamed:
+    """The one row of a session. What is published before its replies isn't the row's."""
+
+    status = 0
+
+    def __init__(self, row):
+        self.steps = [Renaming(row)]
+
+    def cuts(self, seed):
+        sent = [*self.steps[0].sent, client.request("end", "shutdown", None), client.notice("exit", None)]
+        yield from client.cuts(b"".join(map(client.frame, sent)), seed, short=1_000)
+
+    def judge(self, written):
+        got, rest = client.bodies(written)
+        got = [body for body in got if "id" in (told := json.loads(body)) and told["id"] not in (0, "end")] + [rest] * bool(rest)
+        if (found := self.steps[0].wrong(got)) is not None:
+            yield self.steps[0].row, found
+
+
 # ---- programs: documents that are open together, and what is asked about them
 
 

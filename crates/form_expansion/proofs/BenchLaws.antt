@@ -1,5 +1,5 @@
 -- What calls leave of a bench adds up, and units stand in a work that has grown.
-use Rattle.std.proofs.Common.{◌≡◌, ℕ, List, refl, sym, ap, ◌∙◌, subst}
+use Rattle.std.proofs.Common.{◌≡◌, ℕ, List, refl, sym, ap, ◌∙◌, subst, inl}
 use Rattle.std.specs.BTreeSet.{contains_text}
 use Rattle.std.specs.FinMap as map
 use Rattle.std.specs.Ordering.{nat_cmp}
@@ -10,6 +10,7 @@ use Rattle.syntax_tree.specs.Works.{IsOpened, KeepsTrees, SameRegions, AddsIn}
 use Rattle.syntax_tree.specs.declared.trees.Work.{Work}
 use Rattle.syntax_tree.specs.declared.trees.table.Region.{Region}
 use Rattle.feature_requirements.specs.Judged.{library_text}
+use Rattle.unit_scopes.specs.Outcomes.{Grows}
 use Rattle.unit_scopes.specs.Units.{UnitStands}
 use Rattle.unit_scopes.specs.declared.scope.UnitScope.{UnitScope}
 use Rattle.unit_scopes.proofs.ImportLaws.{same_trees}
@@ -65,3 +66,28 @@ pub bench_in : (b : Bench) (w : Work) → w.trees ≡ b.work.trees → KeepsName
 bench_in b w trees names apart told h =
     let keeps = same_trees b.work w trees names in
     record { region = keeps.regions b.region h.region; layout = h.layout; state = h.state; notes = h.notes; stands = stands_on b.work w keeps names apart told b.scope h.layout h.state h.notes h.stands }
+
+-- ---- what a work keeps, whatever a call answers
+
+-- names alone were added
+pub grows_named : (a b : Work) (region : Region) → b.trees ≡ a.trees → KeepsNames a.symbols b.symbols → Grows a b region
+grows_named a b region same names = record {
+  trees = same_trees a b same names;
+  names = names;
+  regions = record { identity = ap (λ t. t.identity) same; regions = ap (λ t. t.regions) same };
+  added = λ n l h. inl (ap (λ t. map.get t.nodes n) (sym same) ∙ h);
+}
+
+pub grows_by : (b c : Bench) → Stays b c → Grows b.work c.work b.region
+grows_by b c h = record { trees = h.trees; names = h.names; regions = h.regions; added = h.added }
+
+-- a call behind others, in their region
+pub grows_behind : (b c : Bench) (w : Work) → Grows b.work c.work b.region → c.region ≡ b.region → Grows c.work w c.region → Grows b.work w b.region
+grows_behind b c w first same next = grows_on b.work c.work w b.region first (subst (λ (r : Region). Grows c.work w r) same next)
+
+pub grows_then : (b c : Bench) (w : Work) → Stays b c → Grows c.work w c.region → Grows b.work w b.region
+grows_then b c w first next = grows_behind b c w (grows_by b c first) first.region next
+
+-- names were added twice
+pub grows_twice : (a b c : Work) (r : Region) → b.trees ≡ a.trees → KeepsNames a.symbols b.symbols → c.trees ≡ b.trees → KeepsNames b.symbols c.symbols → Grows a c r
+grows_twice a b c r first names next more = grows_on a b c r (grows_named a b r first names) (grows_named b c r next more)

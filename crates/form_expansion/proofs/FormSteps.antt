@@ -1,7 +1,7 @@
 -- What a step of one form leaves of the others, and what the form itself has then.
 use Rattle.std.proofs.Common.{◌≡◌, ℕ, ◌+◌, ◌*◌, ◌^◌, ◌≤◌, List, [], ◌∷◌, false, Option, Some, None, Ok, Err, Vec, Global, refl, sym, ◌∙◌, subst, arith}
 use Rattle.scheme_model.specs.Ident.{Ident as Identifier}
-use Rattle.scheme_model.specs.Order.{Item, Left, Pass, WaitingUse}
+use Rattle.scheme_model.specs.Order.{Left, Pass}
 use Rattle.scheme_model.specs.ScopedExpansion.{Frames, FramedIdent, ScopedState}
 use Rattle.syntax_tree.specs.Names.{KeepsNames}
 use Rattle.syntax_tree.specs.Works.{KeepsTrees}

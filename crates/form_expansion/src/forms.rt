@@ -18,7 +18,7 @@ ghost use Rattle.library_table.specs.UnitsRead.{forms_of};
 ghost use Rattle.core_tree.specs.Units.{IsBlank};
 ghost use Rattle.feature_requirements.specs.Judged.{Knows};
 ghost use Rattle.unit_scopes.specs.Stepped.{IsFresh};
-ghost use Rattle.unit_scopes.specs.Outcomes.{IsAtWork};
+ghost use Rattle.unit_scopes.specs.Outcomes.{Grows, IsAtWork};
 ghost use Rattle.unit_scopes.specs.Searched.{searched_unit_over};
 ghost use Rattle.unit_scopes.specs.Units.{UnitStands, CountsFor, HasSpace, ItemFor, CanDeclare, Expands, declared, expanded};
 ghost use Rattle.form_expansion.specs.Forms.{IsBench, IsBegun, IsUntouched, IsDeclared, used_by, Passing, PassesTo, PassesForm, FinishesForm, CanPass, CanFinish, CanFinishAll, FormsHeld, Passes, Finishes, AreFormed, Unfolds, Stays, IsTurned};
@@ -71,6 +71,8 @@ pub fn expand_forms<L: Ledger>(
     ensures formed { IfOk result (λ forms. IfSome forms (AreFormed bench.new.work unit)) }
     ensures bench { OnOk result (IsBench bench.new) }
     ensures stays { OnOk result (Stays bench.old bench.new) }
+    // What stood before still stands, also where memory ran out.
+    ensures grows { Grows bench.old.work bench.new.work bench.old.region }
     // They are the definition's, or work on the unit ended, and the bench stands for the state in which it did.
     ensures unfolds { (known : Known) (ls : List Frames) (s : ScopedState) (p : Prepared) → Knows bench.old.scope.libraries known → UnitStands bench.old.work bench.old.scope ls s [] → s.unit ≡ unit →
         ((form : ℕ) → IsFresh s form) → p.number ≡ unit → p.forms ≡ forms_of forms.now → IfOk result (Unfolds bench.new known p s) }
@@ -114,6 +116,8 @@ fn declare_all<L: Ledger>(
     ensures held { IfOk result (λ all. FormsHeld bench.new unit 0 all.items) }
     ensures count { IfOk result (λ all. nat_lt max_total total.new ≡ false → vec_len all ≡ length forms.now) }
     ensures stays { OnOk result (Stays bench.old bench.new) }
+    // What stood before still stands, also where memory ran out.
+    ensures grows { Grows bench.old.work bench.new.work bench.old.region }
     ensures passes { (known : Known) (ls : List Frames) (s : ScopedState) → Knows bench.old.scope.libraries known → UnitStands bench.old.work bench.old.scope ls s [] → s.unit ≡ unit → ((form : ℕ) → IsFresh s form) →
         IfOk result (λ all. Passes bench.new unit known (forms_over (Written unit) unit 0 (forms_of forms.now)) s total.new all.items) }
     ensures steps { IfOk result (λ all. steps.new ≡ steps.old + used_by all.items) }
@@ -151,6 +155,8 @@ fn declare<L: Ledger>(
     ensures few { IfOk result (λ form. form.budget.nodes ≤ 200000) }
     ensures steps { IfOk result (λ form. steps.new ≡ steps.old + form.budget.uses) }
     ensures stays { OnOk result (Stays bench.old bench.new) }
+    // What stood before still stands, also where memory ran out.
+    ensures grows { Grows bench.old.work bench.new.work bench.old.region }
 {
     let blank = blank(alloc);
     if form.declared {
@@ -214,6 +220,8 @@ fn declare_tree<L: Ledger>(
         IfOk result (PassesTo bench.old bench.new s.unit number s (declared known number t notes s)) }
     ensures steps { IfOk result (λ form. steps.new ≡ steps.old + form.budget.uses) }
     ensures stays { OnOk result (Stays bench.old bench.new) }
+    // What stood before still stands, also where memory ran out.
+    ensures grows { Grows bench.old.work bench.new.work bench.old.region }
 {
     let Bench {
         work,
@@ -270,6 +278,8 @@ fn finish_all<L: Ledger>(
     ensures count { IfOk result (λ forms. nat_lt max_total total.new ≡ false → length forms ≡ vec_len declared) }
     ensures bench { OnOk result (IsBench bench.new) }
     ensures stays { OnOk result (Stays bench.old bench.new) }
+    // What stood before still stands, also where memory ran out.
+    ensures grows { Grows bench.old.work bench.new.work bench.old.region }
     ensures finishes { (known : Known) (h : FormsHeld bench.old unit 0 declared.items) (rs : List (ℕ × Passing)) → Knows bench.old.scope.libraries known →
         CanFinishAll bench.old unit known rs h.state total.old declared.items → IfOk result (Finishes bench.new unit known rs h.state total.new steps.old steps.new) }
 {
@@ -303,6 +313,8 @@ fn finish<L: Ledger>(
         UnitStands bench.old.work bench.old.scope ls s notes → s.unit ≡ unit → IsDeclared bench.old.work bench.old.region unit number s form r →
         IfOk result (FinishesForm bench.old bench.new known unit number r s total.old total.new steps.old steps.new) }
     ensures stays { OnOk result (Stays bench.old bench.new) }
+    // What stood before still stands, also where memory ran out.
+    ensures grows { Grows bench.old.work bench.new.work bench.old.region }
 {
     let Declared {
         mut budget,

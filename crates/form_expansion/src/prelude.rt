@@ -7,43 +7,39 @@ ghost use Rattle.syntax_tree.specs.Works.{IsOpened};
 ghost use Rattle.base_library.specs.Macros.{AreMacros};
 ghost use Rattle.base_library.specs.Texts.{names_of};
 ghost use Rattle.unit_scopes.specs.Opened.{IsNew};
+ghost use Rattle.unit_scopes.specs.Outcomes.{Grows};
 ghost use Rattle.unit_scopes.specs.Preluded.{prelude_begun, prelude_state};
 ghost use Rattle.unit_scopes.specs.Units.{UnitStands};
 ghost use Rattle.form_expansion.specs.Begun.{AreStandard, AddsStandard};
 
-use crate::forms::Bench;
 use base_library::{PreludeMacro, prelude, standard};
 use document_units::known::standard_library_names;
 use expander::{Imported, UnitScope};
 use ls_base::{Items, Mem, Memory, Text};
 use std::alloc::Global;
 use syntax_tree::meaning::Meaning;
-use syntax_tree::trees::{PoolFault, Work};
+use syntax_tree::trees::{PoolFault, Region, Work};
 
-/// A bench in which the prelude stands, and no unit else.
-pub fn begin(alloc: Global) -> Mem<Bench>
-    ensures stands { IfOk result (λ bench. UnitStands bench.work bench.scope ([] ∷ []) (prelude_state prelude) []) }
-    ensures region { IfOk result (λ bench. IsOpened bench.work bench.region) }
-    ensures new { IfOk result (λ bench. (unit : ℕ) → (unit ≡ prelude_unit → ⊥) → IsNew bench.scope unit) }
+/// Scopes in which the prelude stands, and no unit else. Its trees are added to the region; what stood before still stands, also where
+/// memory runs out.
+pub fn begin(alloc: Global, work: &mut Work, region: &Region) -> Mem<UnitScope>
+    requires { IsOpened work.old region.now }
+    ensures stands { IfOk result (λ scope. UnitStands work.new scope ([] ∷ []) (prelude_state prelude) []) }
+    ensures new { IfOk result (λ scope. (unit : ℕ) → (unit ≡ prelude_unit → ⊥) → IsNew scope unit) }
+    ensures grows { Grows work.old work.new region.now }
 {
-    let mut work = Work::new(alloc);
-    let region = work.open_region()?;
     let mut scope = UnitScope::new(alloc);
-    let imports = all_standard(alloc, &mut work)?;
-    scope.begin_prelude(&mut work, imports.as_slice())?;
-    match prelude(alloc, &mut work, &region) {
+    let imports = all_standard(alloc, work)?;
+    scope.begin_prelude(work, imports.as_slice())?;
+    match prelude(alloc, work, region) {
         Ok(macros) => {
             work.symbols.told_apart();
-            add_macros(&mut work, &mut scope, macros.into_vec())?
+            add_macros(work, &mut scope, macros.into_vec())?
         }
         Err(PoolFault::Full) => return Err(Memory),
         Err(PoolFault::Memory) => return Err(Memory),
     }
-    Ok(Bench {
-        work,
-        region,
-        scope,
-    })
+    Ok(scope)
 }
 
 /// All standard names, each with itself as its meaning.
@@ -84,6 +80,7 @@ fn add_macros(work: &mut Work, scope: &mut UnitScope, macros: Vec<PreludeMacro>)
     ensures stands { OnOk result (UnitStands work.new scope.new ([] ∷ []) (prelude_state prelude) []) }
     ensures roots { scope.new.env.roots ≡ scope.old.env.roots }
     ensures trees { work.new.trees ≡ work.old.trees }
+    ensures names { KeepsNames work.old.symbols work.new.symbols }
 {
     let mut rest = macros;
     while let Some(PreludeMacro { name, rules }) = rest.pop() {

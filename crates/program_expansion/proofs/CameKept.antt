@@ -1,80 +1,39 @@
 -- What units came to stands for the same in a work that has only grown.
-use Rattle.std.proofs.Common.{◌≡◌, ℕ, List, [], ◌∷◌, ◌++◌, length, Option, Some, None, refl, sym, subst}
+use Rattle.std.proofs.Common.{◌≡◌, ℕ, List, [], ◌++◌, length, Option, Some, None, refl, sym, subst}
 use Rattle.std.specs.Prelude.{reverse}
-use Rattle.scheme_model.specs.Program.{Placed, Prepared, Program, SetResult, UnitResult, result_at, exports_if, names_of_unit, export_all, unit_result, with_refused, ExportSpec, ImportSpec}
+use Rattle.scheme_model.specs.Program.{Placed, Prepared, Program, SetResult, UnitResult, result_at, exports_if, names_of_unit, export_all, unit_result, with_refused, ImportSpec}
 use Rattle.scheme_model.specs.ProgramArrows.{import_uses, unit_names}
 use Rattle.scheme_model.specs.Spelling.{second_places}
 use Rattle.std.specs.List.{flat_map}
 use Rattle.scheme_model.specs.UnitExpansion.{Formed}
 use Rattle.scheme_model.specs.ScopedProgram.{ScopedProgress}
-use Rattle.scheme_model.specs.Substitution.{Defined}
-use Rattle.scheme_model.specs.Ident.{Written}
 use Rattle.scheme_model.specs.Requirements.{LibraryName}
 use Rattle.scheme_model.specs.Entries as model
-use Rattle.scheme_model.specs.Live.{NameUse, all_export_uses}
+use Rattle.scheme_model.specs.Live.{all_export_uses}
 use Rattle.syntax_tree.specs.Names.{Names, KeepsNames}
 use Rattle.syntax_tree.specs.Meant.{AreEntries}
 use Rattle.syntax_tree.specs.Works.{KeepsTrees}
 use Rattle.syntax_tree.specs.declared.trees.Work.{Work}
 use Rattle.syntax_tree.specs.declared.units.Entry.{Entry}
-use Rattle.core_tree.specs.Names.{AllMatch}
-use Rattle.core_tree.specs.Units.{FormsStand, definitions_from, defined_by, externals, given_exports, IsDefinition, AreDefinitions, IsName, IsExternal, AreNames}
-use Rattle.core_tree.specs.declared.cores.Binder.{Binder}
-use Rattle.core_tree.specs.declared.units.NameUse as code
+use Rattle.core_tree.specs.Units.{FormsStand, definitions_from, defined_by, externals, given_exports, AreDefinitions, AreNames}
 use Rattle.expansion_laws.proofs.PartsStay.{forms_on}
 use Rattle.program_expansion.specs.UnitResults.{CameTo, ComesTo, IsCome, HaveCome, so_far}
 use Rattle.unit_imports.specs.Defined.{FindsNames}
 use Rattle.unit_imports.specs.SetsGiven.{AreEntriesIf, AreLibraries, exports_at}
 use Rattle.unit_imports.specs.declared.entries.Libraries.{Libraries}
 use Rattle.unit_imports.specs.declared.expanded.Expanded.{Expanded}
-use Rattle.unit_imports.proofs.MeaningLaws.{meaning_kept, entries_kept}
-
-match_kept : {X Y : Type 0} (R S : X → Y → Type 0) → ((x : X) (y : Y) → R x y → S x y) → (xs : List X) (ys : List Y) → AllMatch R xs ys → AllMatch S xs ys
-match_kept R S on [] [] h = tt
-match_kept R S on [] (y ∷ ys) h = absurd h
-match_kept R S on (x ∷ xs) [] h = absurd h
-match_kept R S on (x ∷ xs) (y ∷ ys) h = (on x y h.0, match_kept R S on xs ys h.1)
+use Rattle.unit_imports.proofs.MeaningLaws.{entries_kept}
+use Rattle.program_expansion.proofs.NamesKept.{definitions_kept, names_kept}
 
 module _ (old new : Work) (trees : KeepsTrees old new) (names : KeepsNames old.symbols new.symbols) where
-  definition_kept : (number : ℕ) (b : ℕ × Binder) (d : Defined) → IsDefinition old.symbols number b d → IsDefinition new.symbols number b d
-  definition_kept number b d h = record { form = h.form; number_is = h.number_is; ident = names.idents b.1.ident d.ident h.ident; place = h.place }
-
-  pub definitions_kept : (bs : List (ℕ × Binder)) (ds : List Defined) → AreDefinitions old.symbols bs ds → AreDefinitions new.symbols bs ds
-  definitions_kept [] [] h = tt
-  definitions_kept [] (d ∷ ds) h = absurd h
-  definitions_kept (b ∷ bs) [] h = absurd h
-  definitions_kept (b ∷ bs) (d ∷ ds) h = (definition_kept _ b d h.0, definitions_kept bs ds h.1)
-
-  name_kept : (unit : ℕ) (n : code.NameUse) (m : NameUse) → IsName old.symbols unit n m → IsName new.symbols unit n m
-  name_kept unit n m h = record {
-    meaning = λ u f. meaning_kept old.symbols new.symbols names u f n.target.meaning m.meaning (h.meaning u f);
-    ident = names.idents n.target.ident (Written unit m.symbol) h.ident;
-    place = h.place;
-    origins = h.origins;
-  }
-
-  external_kept : (unit : ℕ) (n : code.NameUse) (x : ExportSpec) → IsExternal old.symbols unit n x → IsExternal new.symbols unit n x
-  external_kept unit n x h = record { ident = names.idents n.target.ident (Written unit x.outer.name) h.ident; place = h.place }
-
-  names_kept : (unit : ℕ) (cs : List code.NameUse) (ms : List NameUse) (xs : List ExportSpec) → AreNames old.symbols unit cs ms xs → AreNames new.symbols unit cs ms xs
-  names_kept unit cs ms xs h = record {
-    told = h.told;
-    match = match_kept (IsName old.symbols unit) (IsName new.symbols unit) (name_kept unit) cs h.told h.match;
-    same = h.same;
-    front = h.front;
-    last = h.last;
-    parted = h.parted;
-    external = match_kept (IsExternal old.symbols unit) (IsExternal new.symbols unit) (external_kept unit) h.last xs h.external;
-  }
-
   pub came_kept : (all : List Placed) (p : Program) (c : Expanded) (r : UnitResult) → CameTo all p old c r → CameTo all p new c r
   came_kept all p c r h = record {
     whole = h.whole;
     entries = entries_kept old.symbols new.symbols names c.entries.items r.entries h.entries;
     forms = forms_on old new trees names r.unit.number c.forms r.forms 0 h.forms;
     count = h.count;
-    definitions = definitions_kept (reverse (definitions_from 0 c.forms)) (defined_by r.unit.number p.table) h.definitions;
-    names = names_kept r.unit.number c.names (unit_names all p r) (externals p.table r) h.names;
+    definitions = definitions_kept old.symbols new.symbols names (reverse (definitions_from 0 c.forms)) (defined_by r.unit.number p.table) h.definitions;
+    names = names_kept old.symbols new.symbols names r.unit.number c.names (unit_names all p r) (externals p.table r) h.names;
     seconds = h.seconds;
     exports = entries_kept old.symbols new.symbols names c.exports r.exports h.exports;
   }

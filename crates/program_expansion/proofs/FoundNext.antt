@@ -1,7 +1,7 @@
 -- The unit whose turn it is, broken or expanded: what is found of it is what the definition has of it, and of the units before it too.
-use Rattle.std.proofs.Common.{◌≡◌, ℕ, List, [], ◌∷◌, ◌++◌, Bool, true, false, slice_get, slice_set, Option, Some, None, refl, sym, ap, ◌∙◌, subst}
+use Rattle.std.proofs.Common.{◌≡◌, ℕ, List, [], ◌∷◌, ◌++◌, true, false, slice_get, slice_set, Option, Some, None, refl, sym, ap, ◌∙◌, subst}
 use Rattle.std.specs.Prelude.{IfSome}
-use Rattle.std.specs.Option.{option_map, is_some as is_there}
+use Rattle.std.specs.Option.{is_some as is_there}
 use Rattle.scheme_model.specs.Order.{is_some}
 use Rattle.scheme_model.specs.Requirements.{LibraryName, Known}
 use Rattle.scheme_model.specs.Program.{Placed, Prepared, prepared, prepare, UnitResult, result_at, broken_result, unit_result, unit_entries, with_entries, fault_before}
@@ -9,7 +9,7 @@ use Rattle.scheme_model.specs.ScopedExpansion.{ScopedState}
 use Rattle.scheme_model.specs.ScopedProgram.{ScopedProgress, after_unit}
 use Rattle.scheme_model.specs.UnitExpansion.{Formed}
 use Rattle.expansion_laws.proofs.OtherForms.{none_in_front}
-use Rattle.program_expansion.specs.UnitResults.{HaveCome, IsCome, IsUpTo, expanded_after, so_far, with_unit}
+use Rattle.program_expansion.specs.UnitResults.{IsCome, IsUpTo, expanded_after, so_far, with_unit}
 use Rattle.document_units.specs.Readings.{Read}
 use Rattle.document_units.specs.Turned.{turns, scoped_at}
 use Rattle.program_expansion.specs.UnitsFound.{in_the_end, HaveFound}
@@ -22,7 +22,7 @@ use Rattle.program_expansion.proofs.TurnCited.{TurnOf, turn_of, turn_broken}
 use Rattle.program_expansion.proofs.UnitGoes.{IsOfUnit}
 use Rattle.program_expansion.proofs.UnitsFoundLaws.{found_set, found_none}
 use Rattle.program_expansion.proofs.UpTo.{done_at}
-use Rattle.program_expansion.proofs.UpToNext.{before, told_some, no_result, reaches, is, own, front}
+use Rattle.program_expansion.proofs.UpToNext.{before, told_some, no_result, reaches, own, front}
 
 module _ (spelled : LibraryName → List ℕ) (us : List Placed) (known : Known) (x y : List ℕ) (n : ℕ) (order : turns us ≡ x ++ n ∷ y) (b : Bench) (units : Units) (es : List (Option Expanded)) (up : IsUpTo spelled us known x b units es)
     (hd : Head) (place : slice_get units.heads.items n ≡ Some hd) (reads : List Read) (ends : List UnitResult) (found : HaveFound reads ends (scoped_at us known x) es) where

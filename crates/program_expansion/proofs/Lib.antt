@@ -12,7 +12,6 @@ pub mod TurnResults  -- What the program has of each unit, where they come in tu
 pub mod TurnCited  -- One turn more, as what expands the units goes through their places
 pub mod UnitGoes  -- The forms of a unit define nothing of other units, and leave what units import
 pub mod UnitCame  -- A unit is begun on a bench that goes on with what is expanded so far, and what its forms come to is the definition's
-pub mod CameKept  -- What units came to stands for the same in a work that has only grown
 pub mod NamesStay  -- What a unit defines, and what it names in its imports and exports, stays so while other units are expanded
 pub mod UpTo  -- One turn more
 pub mod UpToNext  -- The unit whose turn it is, broken or expanded
@@ -29,3 +28,7 @@ pub mod DocumentsData  -- The data of the documents are those that their texts a
 pub mod HeadsStand  -- The heads of units that were listed are those of the program's units
 pub mod HeadsOf  -- The heads of units have what the units do, as these were listed, judged and worked on
 pub mod UnitNumbers  -- The forms that a unit comes to have the numbers of those that are expanded (R7RS 5.1)
+pub mod NamesKept  -- Definitions and names stand for the same once names are added
+pub mod CameKept  -- What units came to stands for the same in a work that has only grown
+pub mod ProgramKept  -- The units of a program stand for the same in a work that has grown
+pub mod WorkKept  -- What stood in a work still stands once a region is opened, the prelude is added and units are expanded

@@ -1,7 +1,7 @@
 -- What a unit defines, and what it names in its imports and exports, stays so while other units are expanded.
-use Rattle.std.proofs.Common.{◌≡◌, ℕ, List, [], ◌∷◌, ◌++◌, Bool, true, false, cond, Option, Some, None, refl, sym, ap, ◌∙◌, subst}
+use Rattle.std.proofs.Common.{◌≡◌, ℕ, List, [], ◌∷◌, ◌++◌, Bool, true, cond, Option, Some, None, refl, sym, ap, ◌∙◌}
 use Rattle.std.proofs.lemmas.Bool.{and_parts, ne_eqb}
-use Rattle.std.specs.Prelude.{◌==◌, ◌&&◌}
+use Rattle.std.specs.Prelude.{◌&&◌}
 use Rattle.scheme_model.specs.Ident.{Ident, Written, same_ident}
 use Rattle.scheme_model.specs.Order.{is_some}
 use Rattle.scheme_model.specs.Requirements.{LibraryName}
@@ -9,7 +9,7 @@ use Rattle.scheme_model.specs.Entries.{Entry, entry_at, library_in}
 use Rattle.scheme_model.specs.StandardLibraries.{standard}
 use Rattle.scheme_model.specs.Substitution.{Defined, Table, defined_in}
 use Rattle.scheme_model.specs.Live.{NameUse, all_export_uses}
-use Rattle.scheme_model.specs.Program.{Placed, ImportSpec, ExportSpec, UnitResult, Program, result_at, unit_named, imported_units, exports_if, unit_exports, library_exports, all_done, own_entry, names_of_unit, is_some_fault}
+use Rattle.scheme_model.specs.Program.{Placed, ImportSpec, UnitResult, Program, result_at, unit_named, imported_units, exports_if, unit_exports, library_exports, all_done, own_entry, names_of_unit, is_some_fault}
 use Rattle.scheme_model.specs.ProgramArrows.{uses_given, uses_in_set, import_uses, unit_names}
 use Rattle.core_tree.specs.Units.{externals, given_exports, unless_broken}
 use Rattle.unit_scopes.specs.Others.{Each, InFront}

@@ -1,10 +1,10 @@
 -- A program without an import, told by what was read and by the definition.
-use Rattle.std.proofs.Common.{◌≡◌, ℕ, List, [], ◌∷◌, ◌++◌, Bool, true, false, cond, Option, Some, refl, sym, ap, ◌∙◌, subst}
+use Rattle.std.proofs.Common.{◌≡◌, ℕ, List, [], ◌∷◌, ◌++◌, Bool, true, false, cond, Some, sym, ap, ◌∙◌, subst}
 use Rattle.std.specs.Prelude.{◌&&◌, not}
 use Rattle.std.specs.List.{list_any}
 use Rattle.scheme_model.specs.Requirements.{LibraryName}
 use Rattle.scheme_model.specs.Program.{Prepared, UnitResult, imports_nothing, is_import, is_program, result_at}
-use Rattle.scheme_model.specs.Diagnostics.{Span, Bytes, Diagnostic, at_bytes, unit_start}
+use Rattle.scheme_model.specs.Diagnostics.{Span, at_bytes, unit_start}
 use Rattle.core_tree.specs.Units.{kind_as}
 use Rattle.library_table.specs.UnitsRead.{forms_of}
 use Rattle.library_table.specs.declared.units.UnitSource.{UnitSource}

@@ -1,6 +1,6 @@
 -- The program of all units, each at its place.
-use Rattle.std.proofs.Common.{◌≡◌, ℕ, zero, suc, ◌⊎◌, inl, inr, ◌+◌, ◌<◌, ◌≤◌, List, [], ◌∷◌, ◌++◌, append-nil, Bool, true, false, cond, length, take, filter, slice_get, Option, Some, None, refl, sym, ap, ◌∙◌, subst, arith}
-use Rattle.std.specs.Prelude.{◌==◌, ◌||◌, reverse, not}
+use Rattle.std.proofs.Common.{◌≡◌, ℕ, zero, suc, ◌⊎◌, inl, inr, ◌+◌, ◌<◌, ◌≤◌, List, [], ◌∷◌, append-nil, Bool, true, false, cond, length, take, filter, slice_get, Option, Some, None, refl, sym, ap, ◌∙◌, subst, arith}
+use Rattle.std.specs.Prelude.{◌==◌, reverse, not}
 use Rattle.std.proofs.lemmas.Bool.Decides.{nat_tests}
 use Rattle.std.proofs.lemmas.Bool.{cases_lt}
 use Rattle.std.proofs.lemmas.Option.{same_Some, slice_get_within}
@@ -8,7 +8,7 @@ use Rattle.scheme_model.specs.Ident.{Ident}
 use Rattle.scheme_model.specs.Order.{is_some}
 use Rattle.scheme_model.specs.Requirements.{Known, LibraryName}
 use Rattle.scheme_model.specs.Substitution.{Defined, Table, defined_in}
-use Rattle.scheme_model.specs.Program.{Placed, Prepared, prepared, prepare, ExportSpec, WholeFault, TooMany, UnitResult, Program, result_at, imported_units, all_done, is_in, in_order, broken_result, fault_before}
+use Rattle.scheme_model.specs.Program.{Placed, Prepared, prepared, prepare, ExportSpec, WholeFault, TooMany, UnitResult, Program, result_at, imported_units, all_done, is_in, broken_result}
 use Rattle.scheme_model.specs.Live.{NameUse}
 use Rattle.scheme_model.specs.ProgramArrows.{is_whole, program_table, unit_names}
 use Rattle.scheme_model.specs.ScopedProgram.{ScopedProgress, scoped_work, scoped_before, scoped_program_with}
@@ -16,12 +16,12 @@ use Rattle.syntax_tree.specs.declared.trees.Work.{Work}
 use Rattle.core_tree.specs.Units.{AreDefinitions, definitions_from, defined_by, AreNames, externals, UnitStands, UnitsStand}
 use Rattle.core_tree.specs.declared.units.Unit as code
 use Rattle.program_expansion.specs.UnitResults.{CameTo, ComesTo, IsCome, HaveCome, so_far}
-use Rattle.document_units.specs.Turned.{turns, waiting, scoped_at, left_out}
+use Rattle.document_units.specs.Turned.{turns, waiting, scoped_at}
 use Rattle.unit_imports.specs.declared.expanded.Expanded.{Expanded}
 use Rattle.document_units.proofs.CircleNames.{prepared_at}
 use Rattle.program_expansion.proofs.NamesStay.{KeepResults, unit_names_same, externals_same}
 use Rattle.program_expansion.proofs.TurnCited.{turn_done}
-use Rattle.document_units.proofs.TurnGraph.{as_many, turn_below, waiting_length}
+use Rattle.document_units.proofs.TurnGraph.{turn_below, waiting_length}
 use Rattle.program_expansion.proofs.TurnedLaws.{scoped_by_turns}
 use Rattle.program_expansion.proofs.TurnResults.{scoped_result, scoped_left, scoped_units}
 use Rattle.program_expansion.proofs.UpTo.{test, IsDone, AreDone, done_at}

@@ -1,5 +1,5 @@
 -- The units of the whole program, by what came of them, what is found in them and what breaks them.
-use Rattle.std.proofs.Common.{◌≡◌, ℕ, zero, suc, ◌⊎◌, inl, inr, ◌<◌, ◌≤◌, nat_le, List, [], ◌∷◌, Bool, true, false, cond, length, slice_get, Option, Some, None, refl, sym, ap, ◌∙◌, subst, arith}
+use Rattle.std.proofs.Common.{◌≡◌, ℕ, ◌⊎◌, inl, inr, ◌<◌, ◌≤◌, nat_le, List, [], ◌∷◌, Bool, true, cond, length, slice_get, Option, Some, None, refl, sym, ap, ◌∙◌, subst, arith}
 use Rattle.std.specs.Option.{option_map}
 use Rattle.std.proofs.lemmas.Bool.{cases_lt}
 use Rattle.std.proofs.lemmas.Bool.Decides.{nat_tests}
@@ -7,7 +7,7 @@ use Rattle.std.proofs.lemmas.Option.{same_Some, slice_get_within}
 use Rattle.scheme_model.specs.Order.{is_some}
 use Rattle.scheme_model.specs.Requirements.{Known}
 use Rattle.scheme_model.specs.Substitution.{Table}
-use Rattle.scheme_model.specs.Program.{Placed, Prepared, prepared, prepare, WholeFault, TooMany, UnitResult, Program, result_at, broken_result, declared_fault, fault_before}
+use Rattle.scheme_model.specs.Program.{Placed, prepared, prepare, WholeFault, TooMany, UnitResult, Program, result_at, broken_result, fault_before}
 use Rattle.scheme_model.specs.ScopedProgram.{ScopedProgress, scoped_program_with}
 use Rattle.std.specs.Prelude.{◌==◌}
 use Rattle.syntax_tree.specs.declared.trees.Work.{Work}

@@ -24,7 +24,6 @@ use Rattle.core_tree.specs.Units.{FormsStand, AreDefinitions, definitions_from, 
 use Rattle.core_tree.specs.declared.units.UnitForm.{UnitForm}
 use Rattle.unit_scopes.specs.Opened.{ImportsFor, started, with_imports}
 use Rattle.unit_scopes.specs.Preluded.{Continues}
-use Rattle.unit_scopes.specs.Searched.{searched_unit_over}
 use Rattle.unit_scopes.specs.State.{is_program as is_program_kind}
 use Rattle.unit_scopes.specs.Stepped.{IsFresh}
 use Rattle.unit_scopes.specs.Units.{UnitStands}

@@ -1,17 +1,15 @@
 -- What is found of a unit is what the definition has of it, part by part, and later units change nothing of it.
-use Rattle.std.proofs.Common.{◌≡◌, ℕ, ◌⊎◌, inl, inr, List, [], ◌∷◌, ◌++◌, append-nil, append_assoc, Bool, true, false, cond, map, slice_get, slice_set, Option, Some, None, refl, sym, ap, ◌∙◌, subst, eq-eqb}
+use Rattle.std.proofs.Common.{◌≡◌, ℕ, ◌⊎◌, inl, inr, List, [], ◌∷◌, ◌++◌, append-nil, append_assoc, Bool, true, false, cond, slice_get, slice_set, Option, Some, None, refl, sym, ap, ◌∙◌, subst, eq-eqb}
 use Rattle.std.specs.Prelude.{◌==◌, IfSome}
 use Rattle.std.specs.List.{zip}
-use Rattle.scheme_model.specs.Declarations.{UnitForm}
 use Rattle.scheme_model.specs.Entries.{Entry}
 use Rattle.scheme_model.specs.Live.{unit_leaves}
 use Rattle.scheme_model.specs.Order.{is_some}
 use Rattle.scheme_model.specs.UnitExpansion.{Formed}
-use Rattle.scheme_model.specs.Substitution.{Defined}
-use Rattle.scheme_model.specs.Program.{Prepared, Program, SetResult, ExportFault, UnitResult, WholeFault, result_at, names_of_unit, export_all, unit_result, with_refused, imports_nothing}
+use Rattle.scheme_model.specs.Program.{Prepared, Program, SetResult, ExportFault, UnitResult, WholeFault, result_at, names_of_unit, export_all, unit_result, with_refused}
 use Rattle.scheme_model.specs.ScopedProgram.{ScopedProgress}
-use Rattle.scheme_model.specs.Diagnostics.{Diagnostic, at_bytes, bytes_of, export_diagnostics, form_diagnostics, hiding_diagnostics, is_empty, set_diagnostics, unbound_diagnostics, unit_diagnostics}
-use Rattle.core_tree.specs.Units.{defined_by, export_errors, form_errors, set_errors, set_forms, unit_errors}
+use Rattle.scheme_model.specs.Diagnostics.{Diagnostic, bytes_of, export_diagnostics, form_diagnostics, hiding_diagnostics, is_empty, set_diagnostics, unbound_diagnostics, unit_diagnostics}
+use Rattle.core_tree.specs.Units.{defined_by, export_errors, form_errors, set_errors, set_forms}
 use Rattle.unit_scopes.specs.Others.{InFront}
 use Rattle.unit_imports.specs.declared.expanded.Expanded.{Expanded}
 use Rattle.document_units.specs.declared.findings.Finding.{Finding}

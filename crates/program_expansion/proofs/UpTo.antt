@@ -8,12 +8,12 @@ use Rattle.scheme_model.specs.Ident.{Ident}
 use Rattle.scheme_model.specs.Order.{is_some}
 use Rattle.scheme_model.specs.Requirements.{Known}
 use Rattle.scheme_model.specs.Entries.{Entry}
-use Rattle.scheme_model.specs.Substitution.{Defined, Table, Entries, defined_in}
+use Rattle.scheme_model.specs.Substitution.{Defined, Table, defined_in}
 use Rattle.scheme_model.specs.UnitExpansion.{Formed}
-use Rattle.scheme_model.specs.Program.{Placed, Prepared, prepared, prepare, ExportSpec, WholeFault, SetResult, UnitResult, Program, result_at, imported_units, is_in, all_done, is_ready, broken_result, unit_result, unit_entries, fault_before}
+use Rattle.scheme_model.specs.Program.{Placed, Prepared, prepared, prepare, ExportSpec, WholeFault, SetResult, UnitResult, Program, result_at, imported_units, all_done, broken_result, unit_result, fault_before}
 use Rattle.scheme_model.specs.Live.{NameUse}
 use Rattle.scheme_model.specs.ProgramArrows.{unit_names}
-use Rattle.scheme_model.specs.ScopedProgram.{ScopedProgress, scoped_by_fault, scoped_before}
+use Rattle.scheme_model.specs.ScopedProgram.{ScopedProgress, scoped_by_fault}
 use Rattle.syntax_tree.specs.declared.trees.Work.{Work}
 use Rattle.syntax_tree.proofs.Places.{none_some}
 use Rattle.core_tree.specs.Units.{AreDefinitions, definitions_from, defined_by, AreNames, externals}

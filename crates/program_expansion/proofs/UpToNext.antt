@@ -1,5 +1,5 @@
 -- The unit whose turn it is, broken or expanded: all units up to it are what the definition has of them.
-use Rattle.std.proofs.Common.{◌≡◌, ℕ, zero, suc, ◌+◌, ◌<◌, ◌⊎◌, inl, inr, List, [], ◌∷◌, ◌++◌, Bool, true, false, cond, length, slice_get, slice_set, Option, Some, None, refl, sym, ap, ◌∙◌, subst, arith}
+use Rattle.std.proofs.Common.{◌≡◌, ℕ, zero, suc, ◌+◌, ◌<◌, ◌⊎◌, inl, inr, List, [], ◌∷◌, ◌++◌, true, false, cond, length, slice_get, slice_set, Option, Some, None, refl, sym, ap, ◌∙◌, subst, arith}
 use Rattle.std.specs.Prelude.{◌==◌}
 use Rattle.std.specs.Option.{option_map, is_some as is_there, is_none}
 use Rattle.std.proofs.lemmas.List.{length-set}
@@ -12,7 +12,7 @@ use Rattle.scheme_model.specs.ScopedExpansion.{ScopedState}
 use Rattle.scheme_model.specs.UnitExpansion.{Formed}
 use Rattle.scheme_model.specs.Program as model
 use Rattle.scheme_model.specs.Program.{Placed, Prepared, prepared, prepare, SetResult, UnitResult, result_at, is_ready, broken_result, unit_result, unit_entries, with_entries, fault_before}
-use Rattle.scheme_model.specs.ScopedProgram.{ScopedProgress, scoped_start_of, scoped_start_after, scoped_unit_over, after_unit, scoped_expanded, scoped_work, scoped_before}
+use Rattle.scheme_model.specs.ScopedProgram.{ScopedProgress, scoped_start_of, scoped_start_after, scoped_unit_over, after_unit}
 use Rattle.macro_uses.specs.MacroUses.{total_of}
 use Rattle.macro_uses.specs.ScopedUses.{form_numbers, scoped_uses_by_fault, scoped_worked_uses}
 use Rattle.syntax_tree.specs.declared.trees.Work.{Work}
@@ -21,7 +21,7 @@ use Rattle.unit_scopes.specs.Others.{InFront}
 use Rattle.unit_scopes.specs.Searched.{searched_unit_over}
 use Rattle.expansion_laws.proofs.OtherForms.{none_in_front}
 use Rattle.expansion_laws.proofs.SearchedPrograms.{unit_law}
-use Rattle.document_units.specs.Broken.{told, or_fault, broken_by, broken_if}
+use Rattle.document_units.specs.Broken.{told, or_fault, broken_if}
 use Rattle.program_expansion.specs.UnitResults.{FindsLibraries, ComesTo, IsCome, HaveCome, so_far, with_unit, fault_by, HeadsBy, GoesOn, expanded_after, Expands, IsUpTo}
 use Rattle.document_units.specs.UnitSources.{AreSourcesOf}
 use Rattle.unit_imports.specs.SetsGiven.{AreEntriesIf, AreLibraries, exports_of}

@@ -17,11 +17,11 @@ use Rattle.document_units.specs.Belongs.{Belongs}
 abbrev pub HasProgram : Texts → List Read → Work → Program → Type 0
 HasProgram texts rs work p = ProgramStands work library_text (map (λ d. d.0) (entries texts)) (units_of (map data_in rs)) p (program_in rs)
 
--- there is a list of findings for each, and the forms of the units stand for something; what is found and the program are the
--- definition's
-pub record IsReading (texts : Texts) (r : Reading) : Type 0 where
+-- there is a list of findings for each, and the forms of the units stand for something among these trees; what is found and the program
+-- are the definition's
+pub record IsReading (texts : Texts) (work : Work) (r : Reading) : Type 0 where
   pub belongs : Belongs texts r.documents.items r.heads.items r.errors.items
   pub findings : length r.findings.items ≡ length r.documents.items
-  pub formed : AreFormedIn r.work r.program.units
+  pub formed : AreFormedIn work r.program.units
   pub found : (rs : List Read) → AreReadAs (entries texts) rs → AreFoundOf rs r.findings.items
-  pub program : (rs : List Read) → AreReadAs (entries texts) rs → HasProgram texts rs r.work r.program
+  pub program : (rs : List Read) → AreReadAs (entries texts) rs → HasProgram texts rs work r.program

@@ -17,6 +17,7 @@ ghost use Rattle.library_table.specs.Orders.{ArePlaces};
 ghost use Rattle.library_table.specs.UnitsRead.{forms_of};
 ghost use Rattle.feature_requirements.specs.Judged.{Knows};
 ghost use Rattle.unit_scopes.specs.Opened.{IsNew};
+ghost use Rattle.unit_scopes.specs.Outcomes.{Grows};
 ghost use Rattle.form_expansion.specs.Begun.{IsImport};
 ghost use Rattle.document_units.specs.Broken.{told};
 ghost use Rattle.program_expansion.specs.UnitResults.{CameTo, Expands, FindsLibraries, GoesOn, HeadsBy, IsUpTo, expanded_after, with_unit};
@@ -85,6 +86,8 @@ pub fn expand_all<L: Ledger>(
     ensures count { IfOk result (λ all. vec_len all ≡ vec_len units.old.heads) }
     ensures found { IfOk result (λ all. AreAllFound (length documents.now) all.items) }
     ensures formed { IfOk result (λ all. CameFormed bench.new.work all.items) }
+    // What stood before still stands, also where memory ran out.
+    ensures grows { Grows bench.old.work bench.new.work bench.old.region }
     // In their turns the units come to what the definition has of them.
     ensures up { (spelled : LibraryName → List ℕ) (us : List Placed) (known : Known) → order.now ≡ turns us → vec_len units.old.heads ≡ length us → FindsLibraries spelled us firsts.now →
         Knows bench.old.scope.libraries known → GoesOn bench.old scoped_before → HeadsBy us scoped_before units.old.heads.items → AreSourcesOf spelled us units.old.sources.items →
@@ -135,6 +138,9 @@ fn expand_at<L: Ledger>(
     ensures found { OnOk result (AreAllFound (length documents.now) all.new.items) }
     ensures mean { OnOk result (ExportsMean bench.new.work.symbols all.new.items) }
     ensures formed { OnOk result (CameFormed bench.new.work all.new.items) }
+    // What stood before still stands, also where memory ran out.
+    ensures grows { Grows bench.old.work bench.new.work bench.old.region }
+    ensures region { OnOk result (bench.new.region ≡ bench.old.region) }
     ensures others { (v : ℕ) → (v ≡ place → ⊥) → IsNew bench.old.scope v → OnOk result (IsNew bench.new.scope v) }
     // In its turn it comes to what the definition has of it.
     ensures next { (spelled : LibraryName → List ℕ) (us : List Placed) (known : Known) (x y : List ℕ) → turns us ≡ x ++ place ∷ y → FindsLibraries spelled us firsts.now →
@@ -199,6 +205,8 @@ fn expand_unit<L: Ledger>(
     ensures others { (v : ℕ) → (v ≡ unit → ⊥) → IsNew bench.old.scope v → OnOk result (IsNew bench.new.scope v) }
     ensures trees { OnOk result (KeepsTrees bench.old.work bench.new.work) }
     ensures names { OnOk result (KeepsNames bench.old.work.symbols bench.new.work.symbols) }
+    ensures grows { Grows bench.old.work bench.new.work bench.old.region }
+    ensures region { OnOk result (bench.new.region ≡ bench.old.region) }
     ensures formed { IfOk result (λ came. IfSome came (λ came. IsFormed bench.new.work unit came.forms)) }
     ensures findings { IfOk result (λ came. IfSome came (λ came. AreFoundIn (length places.entry.documents.now) came.findings.items)) }
     ensures exports { IfOk result (λ came. IfSome came (λ came. HaveMeaning bench.new.work.symbols came.exports)) }

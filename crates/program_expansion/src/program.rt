@@ -1,13 +1,20 @@
 //! The program of the open documents (R7RS 5), and all that is wrong in it.
-ghost use Rattle.std.specs.Prelude.{◌≡◌, ℕ, ◌+◌, ◌<◌, ◌≤◌, List, length, map, slice_get, vec_len, Some, None, IfOk, IfSome, OnOk};
+ghost use Rattle.std.specs.Prelude.{◌≡◌, ℕ, ◌+◌, ◌<◌, ◌≤◌, List, [], ◌∷◌, length, map, slice_get, vec_len, Some, None, IfOk, IfSome, OnOk};
 ghost use Rattle.std.specs.FinMap.{entries};
 ghost use Rattle.ls_base.specs.Limits.{max_documents};
-ghost use Rattle.scheme_model.specs.Program.{Document as ModelDocument, Program as Model, UnitResult, WholeFault as Whole, known_in, units_of, result_at};
+ghost use Rattle.scheme_model.specs.Prelude.{prelude};
+ghost use Rattle.scheme_model.specs.Program.{Document as ModelDocument, Program as Model, UnitResult, WholeFault as Whole, known_in, prelude_unit, units_of, result_at};
 ghost use Rattle.scheme_model.specs.Requirements.{LibraryName};
+ghost use Rattle.syntax_tree.specs.Names.{KeepsNames};
+ghost use Rattle.syntax_tree.specs.Works.{IsOpened, KeepsTrees};
 ghost use Rattle.syntax_tree.specs.declared.trees.Work.{Work as AnyWork};
 ghost use Rattle.core_tree.specs.Units.{error_as};
 ghost use Rattle.scheme_tokens.specs.LibraryNames.{library_text};
 ghost use Rattle.base_library.specs.Texts.{SpellsStandard};
+ghost use Rattle.unit_scopes.specs.Opened.{IsNew};
+ghost use Rattle.unit_scopes.specs.Outcomes.{Grows};
+ghost use Rattle.unit_scopes.specs.Preluded.{prelude_state};
+ghost use Rattle.unit_scopes.specs.Units.{UnitStands};
 ghost use Rattle.document_store.specs.Texts.{Document as Text};
 ghost use Rattle.document_units.specs.declared.listing.Head.{Head as AnyHead};
 ghost use Rattle.document_units.specs.Belongs.{AreErrorsIn};
@@ -53,53 +60,70 @@ use std::sync::ledger::Ledger;
 use syntax_tree::trees::Work;
 use unit_imports::expanded::Expanded;
 
-/// The documents as they are read, the units, the program with the trees that it is over, the findings of each document, and the
-/// first Error of each unit.
+/// The documents as they are read, the units, the program, the findings of each document, and the first Error of each unit.
 #[derive(Drop)]
 pub struct Reading {
     pub documents: Vec<Document>,
     pub heads: Vec<Head>,
-    pub work: Work,
     pub program: Program,
     pub findings: Vec<Sorted>,
     pub errors: Vec<Option<(At, u32)>>,
 }
 
-/// The units of documents as they were expanded, with the bench that this left, and what each came to.
+/// The units of documents as they were expanded, and what each came to.
 #[derive(Drop)]
 struct Worked {
-    bench: Bench,
     units: Units,
     expanded: Vec<Option<Expanded>>,
 }
 
-/// Reads all documents and expands their units, from nothing.
-pub fn read_program<L: Ledger>(alloc: Global, store: &Store, steps: &mut Steps<L>) -> Mem<Reading>
-    ensures reading { IfOk result (IsReading store.now) }
+/// Reads all documents and expands their units. What stood among the trees and names before still stands, also where memory ran out.
+pub fn read_program<L: Ledger>(
+    alloc: Global,
+    store: &Store,
+    work: &mut Work,
+    steps: &mut Steps<L>,
+) -> Mem<Reading>
+    ensures reading { IfOk result (IsReading store.now work.new) }
     ensures few { IfOk result (λ reading. length (entries store.now) ≤ max_documents) }
     // Each macro use that the definition counts for the texts is a step.
     ensures steps { (rs : List Read) → AreReadAs (entries store.now) rs → OnOk result (steps.new ≡ steps.old + uses_in rs) }
+    ensures trees { KeepsTrees work.old work.new }
+    ensures names { KeepsNames work.old.symbols work.new.symbols }
 {
     let documents = read(alloc, store)?;
-    let worked = work_on(alloc, documents.as_slice(), steps)?;
-    let Worked {
-        bench,
-        units,
-        expanded,
-    } = worked;
-    Ok(collect(alloc, documents, units, bench.work, expanded)?)
+    let region = work.open_region()?;
+    let scope = begin(alloc, work, &region)?;
+    let mut bench = Bench {
+        work: mem::replace(work, Work::new(alloc)),
+        region,
+        scope,
+    };
+    let came = work_on(alloc, &mut bench, documents.as_slice(), steps);
+    *work = bench.work;
+    let worked = came?;
+    let Worked { units, expanded } = worked;
+    Ok(collect(alloc, documents, units, expanded)?)
 }
 
-/// Expands the units of documents, from nothing.
-fn work_on<L: Ledger>(alloc: Global, documents: &[Document], steps: &mut Steps<L>) -> Mem<Worked>
-    requires { AreReadIn documents.now }
+/// Expands the units of documents on a bench in which the prelude stands, and no unit else.
+fn work_on<L: Ledger>(
+    alloc: Global,
+    bench: &mut Bench,
+    documents: &[Document],
+    steps: &mut Steps<L>,
+) -> Mem<Worked>
+    requires read { AreReadIn documents.now }
+    requires region { IsOpened bench.old.work bench.old.region }
+    requires stands { UnitStands bench.old.work bench.old.scope ([] ∷ []) (prelude_state prelude) [] }
+    requires new { (unit : ℕ) → (unit ≡ prelude_unit → ⊥) → IsNew bench.old.scope unit }
     ensures units { IfOk result (λ worked. IsSound (length documents.now) worked.units) }
     ensures count { IfOk result (λ worked. vec_len worked.expanded ≡ vec_len worked.units.heads) }
     ensures found { IfOk result (λ worked. AreAllFound (length documents.now) worked.expanded.items) }
-    ensures formed { IfOk result (λ worked. CameFormed worked.bench.work worked.expanded.items) }
+    ensures formed { IfOk result (λ worked. CameFormed bench.new.work worked.expanded.items) }
     // The units are those of the documents' data, and in their turns they came to what the definition has of them.
     ensures up { (ds : List ModelDocument) → HaveData ds documents.now → (spelled : LibraryName → List ℕ) → SpellsStandard spelled → WritesProper spelled →
-        IfOk result (λ worked. IsUpTo spelled (units_of ds) (known_in ds) (turns (units_of ds)) worked.bench worked.units worked.expanded.items) }
+        IfOk result (λ worked. IsUpTo spelled (units_of ds) (known_in ds) (turns (units_of ds)) bench.new worked.units worked.expanded.items) }
     // Each macro use that the definition counts for them is a step.
     ensures steps { (ds : List ModelDocument) → HaveData ds documents.now → (spelled : LibraryName → List ℕ) → SpellsStandard spelled → WritesProper spelled →
         OnOk result (steps.new ≡ steps.old + uses_at (units_of ds) (known_in ds) (turns (units_of ds))) }
@@ -109,28 +133,25 @@ fn work_on<L: Ledger>(alloc: Global, documents: &[Document], steps: &mut Steps<L
     // What came of them and is found in them is what the program of the texts has, however these are read.
     ensures told { (ds : List (List ℕ × Text)) (rs : List Read) → AreDocuments ds documents.now → AreReadAs ds rs →
         IfOk result (λ worked. AreTold rs (program_in rs) worked.units.heads.items worked.expanded.items) }
+    // What stood before still stands, also where memory ran out.
+    ensures grows { Grows bench.old.work bench.new.work bench.old.region }
 {
     let known = known(alloc, documents)?;
     let libraries = KnownLibraries::of(alloc, &known)?;
     let mut units = list_units(alloc, documents, &libraries)?;
     let firsts: Firsts = firsts(alloc, units.sources.as_slice())?;
     let order = judge(alloc, &mut units, &firsts)?;
-    let mut bench = begin(alloc)?;
     bench.scope.know(Libraries::of(alloc, &known)?);
     let expanded = expand_all(
         alloc,
-        &mut bench,
+        bench,
         documents,
         &mut units,
         &firsts,
         order.as_slice(),
         steps,
     )?;
-    Ok(Worked {
-        bench,
-        units,
-        expanded,
-    })
+    Ok(Worked { units, expanded })
 }
 
 /// All that was read, put together.
@@ -138,20 +159,17 @@ fn collect(
     alloc: Global,
     documents: Vec<Document>,
     units: Units,
-    work: Work,
     expanded: Vec<Option<Expanded>>,
 ) -> Mem<Reading>
     requires units { IsSound (vec_len documents) units }
     requires count { vec_len expanded ≡ vec_len units.heads }
     requires found { AreAllFound (vec_len documents) expanded.items }
-    requires formed { CameFormed work expanded.items }
     ensures documents { IfOk result (λ reading. reading.documents ≡ documents) }
     ensures heads { IfOk result (λ reading. AreHeadsIn (vec_len documents) reading.heads.items) }
     ensures stay { IfOk result (λ reading. HeadsStay units.heads.items reading.heads.items) }
     ensures errors { IfOk result (λ reading. AreErrorsIn (vec_len documents) reading.errors.items) }
     ensures findings { IfOk result (λ reading. vec_len reading.findings ≡ vec_len documents) }
-    ensures formed { IfOk result (λ reading. AreFormedIn reading.work reading.program.units) }
-    ensures work { IfOk result (λ reading. reading.work ≡ work) }
+    ensures formed { (work : AnyWork) → CameFormed work expanded.items → IfOk result (λ reading. AreFormedIn work reading.program.units) }
     // The program has each unit at its place, by its head and what it came to.
     ensures collected { IfOk result (λ reading. AreCollected (map (λ document. document.uri) documents.items) units.heads.items units.sources.items expanded.items reading.program.units) }
     // What is found of each document, the Errors of each unit and the first of them are the definition's, where units came so.
@@ -181,7 +199,6 @@ fn collect(
     Ok(Reading {
         documents,
         heads,
-        work,
         program: Program { units: program },
         findings,
         errors: first_errors,

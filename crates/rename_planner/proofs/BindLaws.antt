@@ -1,6 +1,7 @@
 -- Conditions one behind another.
 use Rattle.std.proofs.Common.{◌≡◌, ℕ, List, map, Option, Some, None, Result, Ok, Err, refl, sym, ap, ◌∙◌, subst}
 use Rattle.std.specs.Option.{ok_or}
+use Rattle.std.specs.Result.{IsErrAnd}
 use Rattle.ls_base.specs.declared.encoding.Encoding.{Encoding}
 use Rattle.document_store.specs.Texts.{Document}
 use Rattle.scheme_model.specs.declared.Occ.{Occ}
@@ -23,6 +24,11 @@ memory_comes e ds P (Err refusal) = tt
 pub at_memory : {A B : Type 0} (e : Encoding) (ds : List (List ℕ × Document)) (P : A → B → Type 0) (s : Result A Refusal) (fault : RenameFault) → fault ≡ faults.Memory → ComesTo e ds P s (Err fault)
 at_memory e ds P s fault h = subst (λ f. ComesTo e ds P s (Err f)) (sym h) (memory_comes e ds P s)
 
+-- a fault that is handed on
+pub err_goes : {A B : Type 0} (e : Encoding) (ds : List (List ℕ × Document)) (P : A → B → Type 0) (s : Result A Refusal) (r : Result B RenameFault) (fault : RenameFault) → IsErrAnd r (λ x. x ≡ fault) → ComesTo e ds P s (Err fault) → ComesTo e ds P s r
+err_goes e ds P s (Ok b) fault h k = absurd h
+err_goes e ds P s (Err x) fault h k = subst (λ f. ComesTo e ds P s (Err f)) (sym h) k
+
 -- a condition fails, and so the rest isn't tested
 pub bind_err : {A B C D : Type 0} (e : Encoding) (ds : List (List ℕ × Document)) (P : A → B → Type 0) (Q : C → D → Type 0) (s : Result A Refusal) (f : A → Result C Refusal) (fault : RenameFault) →
     ComesTo e ds P s (Err fault) → ComesTo e ds Q (s >>= f) (Err fault)
@@ -34,6 +40,11 @@ pub bind_ok : {A B C D : Type 0} (e : Encoding) (ds : List (List ℕ × Document
     ComesTo e ds P s (Ok b) → ((a : A) → s ≡ Ok a → P a b → ComesTo e ds Q (f a) r) → ComesTo e ds Q (s >>= f) r
 bind_ok e ds P Q (Ok a) f b r h k = k a refl h
 bind_ok e ds P Q (Err refusal) f b r h k = absurd h
+
+-- what comes out where all hold
+pub comes_ok : {A B : Type 0} (e : Encoding) (ds : List (List ℕ × Document)) (P : A → B → Type 0) (s : Result A Refusal) (b : B) → ComesTo e ds P s (Ok b) → (a : A) × (s ≡ Ok a) × P a b
+comes_ok e ds P (Ok a) b h = (a, refl, h)
+comes_ok e ds P (Err refusal) b h = absurd h
 
 pub bind_assoc : {A B C : Type 0} (s : Result A Refusal) (f : A → Result B Refusal) (g : B → Result C Refusal) → (s >>= f) >>= g ≡ s >>= λ a. f a >>= g
 bind_assoc (Ok a) f g = refl
@@ -122,14 +133,17 @@ rename_parted r w at new =
             ≡ (t >>= λ stem. unless (first_of (clashes w o)) PrefixClash >>= λ done. unless (first_of (errors_in_reach w o)) broken >>= λ done. unless (first_too_long 0 (edited_in w o stem)) TooLong >>= λ done. compared_in r w (o, stem))
         by_s (Err f) = refl
         by_s (Ok stem) = fitting_assoc r w (o, stem)
+
         by_d : (name : List ℕ) (t : Result (Unit {0}) Refusal) → (t >>= λ done. s o name >>= λ stem. Ok (o, stem)) >>= (λ x. fitting_in w x >>= compared_in r w)
             ≡ (t >>= λ done. s o name >>= λ stem. unless (first_of (clashes w o)) PrefixClash >>= λ done. unless (first_of (errors_in_reach w o)) broken >>= λ done. unless (first_too_long 0 (edited_in w o stem)) TooLong >>= λ done. compared_in r w (o, stem))
         by_d name (Err f) = refl
         by_d name (Ok x) = by_s (s o name)
+
         by_c : (t : Result (List ℕ) Refusal) → (t >>= λ name. d >>= λ done. s o name >>= λ stem. Ok (o, stem)) >>= (λ x. fitting_in w x >>= compared_in r w)
             ≡ (t >>= λ name. d >>= λ done. s o name >>= λ stem. unless (first_of (clashes w o)) PrefixClash >>= λ done. unless (first_of (errors_in_reach w o)) broken >>= λ done. unless (first_too_long 0 (edited_in w o stem)) TooLong >>= λ done. compared_in r w (o, stem))
         by_c (Err f) = refl
         by_c (Ok name) = by_d name d
+
         by_b : (t : Result (Unit {0}) Refusal) → (t >>= λ done. c >>= λ name. d >>= λ done. s o name >>= λ stem. Ok (o, stem)) >>= (λ x. fitting_in w x >>= compared_in r w)
             ≡ (t >>= λ done. c >>= λ name. d >>= λ done. s o name >>= λ stem. unless (first_of (clashes w o)) PrefixClash >>= λ done. unless (first_of (errors_in_reach w o)) broken >>= λ done. unless (first_too_long 0 (edited_in w o stem)) TooLong >>= λ done. compared_in r w (o, stem))
         by_b (Err f) = refl

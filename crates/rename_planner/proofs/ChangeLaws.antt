@@ -46,8 +46,8 @@ named_among ls stem (m ∷ ms) p = go (named_among ls stem ms p) (same_occ m p) 
 within : (a b : ℕ) → nat_lt (a + suc b) (suc b) ≡ false
 within a b = grind (arith, nat_tests)
 
-not_none : (b : ℕ) → (suc b == 0) ≡ false
-not_none b = refl
+not_zero : (b : ℕ) → (suc b == 0) ≡ false
+not_zero b = grind (arith, nat_tests)
 
 at_seam : {X : Type 0} (xs : List X) (y : X) (zs : List X) → slice_get (xs ++ y ∷ zs) (length xs) ≡ Some y
 at_seam [] y zs = refl
@@ -58,11 +58,14 @@ from_end ns front n last e = ap (λ (xs : List code_name.NameUse). occ_from_end 
   where
     count : length (front ++ n ∷ last) ≡ length front + suc (length last)
     count = length-append front (n ∷ last)
+
     left : length (front ++ n ∷ last) - suc (length last) ≡ length front
     left = omega (arith, count)
+
     there : occ_from_end (front ++ n ∷ last) (suc (length last)) ≡ n.target.occ
     there =
-        ap (λ (b : Bool). cond b None (place_in (slice_get (front ++ n ∷ last) (length (front ++ n ∷ last) - suc (length last))))) (ap (λ k. nat_lt k (suc (length last))) count ∙ within (length front) (length last))
+        ap (λ (b : Bool). cond b None (place_in (slice_get (front ++ n ∷ last) (length (front ++ n ∷ last) - suc (length last)))))
+        ((λ j. not_zero (length last) j || (ap (λ k. nat_lt k (suc (length last))) count ∙ within (length front) (length last)) j))
         ∙ ap (λ k. place_in (slice_get (front ++ n ∷ last) k)) left ∙ ap place_in (at_seam front n last)
 
 end_of : (ns : List code_name.NameUse) (place : Option Occ) (behind k : ℕ) → behind ≡ suc k → NamedAt ns place behind → occ_from_end ns (suc k) ≡ place
@@ -74,7 +77,7 @@ end_of ns place behind k e at =
 module _ (w : Opened) (o : Occ) (stem : List ℕ) (name : Occ → Option (List ℕ)) (named : (p : Occ) → name p ≡ name_of (members_of w.links stem o) p) where
   abbrev told_at : UnitResult → Entry → Option Occ → List ExportChange
   told_at r e None = []
-  told_at r e (Some p) = if is_member (class_in w o) p then record { unit = r.unit.number; old = e.name; new = (member_of w.links stem p).name } ∷ [] else []
+  told_at r e (Some p) = cond (is_member (class_in w o) p) (record { unit = r.unit.number; old = e.name; new = (member_of w.links stem p).name } ∷ []) []
 
   change_is : (r : UnitResult) (e : Entry) → export_change w o stem r e ≡ told_at r e (external_occ r.unit.exports e.name)
   change_is r e = refl
@@ -109,10 +112,10 @@ module _ (w : Opened) (o : Occ) (stem : List ℕ) (name : Occ → Option (List �
         let it = at (length before) d (omega (arith, count)) in
         let same : get_or r.exports (length before) d ≡ d = ap (λ (ys : List Entry). get_or ys (length before) d) e ∙ at_place before d ds in
         let place : occ_from_end ns (suc (length es)) ≡ external_occ r.unit.exports d.name =
-          end_of ns (external_occ r.unit.exports (get_or r.exports (length before) d).name) (length r.exports - length before) (length es) (omega (arith, count, many)) it
-          ∙ ap (λ (y : Entry). external_occ r.unit.exports y.name) same in
+        end_of ns (external_occ r.unit.exports (get_or r.exports (length before) d).name) (length r.exports - length before) (length es) (omega (arith, count, many)) it
+        ∙ ap (λ (y : Entry). external_occ r.unit.exports y.name) same in
         let first : change_told name unit x.name (occ_from_end ns (suc (length es))) ≡ export_change w o stem r d =
-          told_so r unit x.name d (occ_from_end ns (suc (length es))) number h.0.name ∙ ap (told_at r d) place in
+        told_so r unit x.name d (occ_from_end ns (suc (length es))) number h.0.name ∙ ap (told_at r d) place in
         let rest = exports_changed (before ++ d ∷ []) es ds (e ∙ sym (append_assoc before (d ∷ []) ds)) h.1 in
         (λ j. first j ++ rest j) ∙ sym (flat_map-cons (export_change w o stem r) d ds)
 
@@ -126,7 +129,7 @@ module _ (w : Opened) (o : Occ) (stem : List ℕ) (name : Occ → Option (List �
     units_changed k (c ∷ cs) [] h given = absurd h
     units_changed k (c ∷ cs) (r ∷ us) h given =
         let one : unit_changes name k c ≡ flat_map (export_change w o stem r) r.exports =
-          exports_changed r k c.names work.symbols (sym h.0.number) (λ i d lt. named_from_end work.symbols k c.names _ p.table r i d h.0.names (given 0 r refl) lt) [] c.exports r.exports refl h.0.exports in
+        exports_changed r k c.names work.symbols (sym h.0.number) (λ i d lt. named_from_end work.symbols k c.names _ p.table r i d h.0.names (given 0 r refl) lt) [] c.exports r.exports refl h.0.exports in
         let rest = units_changed (suc k) cs us h.1 (λ n q there. given (suc n) q there) in
         (λ j. one j ++ rest j) ∙ sym (flat_map-cons (λ (r : UnitResult). flat_map (export_change w o stem r) r.exports) r us)
 

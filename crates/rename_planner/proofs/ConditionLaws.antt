@@ -87,6 +87,7 @@ member_filter f (m ∷ ms) o h = go (member_filter f ms o h) (f m) refl (same_oc
   where
     opposite : (b : Bool) → b ≡ false → b ≡ true → ⊥
     opposite b p q = cc
+
     go : is_member (filter f ms) o ≡ is_member ms o → (b : Bool) → f m ≡ b → (c : Bool) → same_occ m o ≡ c → is_member (cond b (m ∷ filter f ms) (filter f ms)) o ≡ (same_occ m o || is_member ms o)
     go rest true e c k = ap (λ t. same_occ m o || t) rest
     go rest false e true k = absurd (opposite (f m) e (ap f (one_occ m o k) ∙ h))
@@ -127,6 +128,7 @@ clashing_same ls (m ∷ ms) = go (clashing_same ls ms) (is_part ls m) refl (has_
   where
     opposite : (b : Bool) → b ≡ false → b ≡ true → ⊥
     opposite b p q = cc
+
     go : filter (has_two ls) (filter (is_part ls) ms) ≡ filter (has_two ls) ms → (b : Bool) → is_part ls m ≡ b → (c : Bool) → has_two ls m ≡ c →
         filter (has_two ls) (cond b (m ∷ filter (is_part ls) ms) (filter (is_part ls) ms)) ≡ cond (has_two ls m) (m ∷ filter (has_two ls) ms) (filter (has_two ls) ms)
     go rest true e c k = ap (λ ns. cond (has_two ls m) (m ∷ ns) ns) rest

@@ -1,5 +1,6 @@
 -- Nothing is prepared exactly where no identifier is bound or a standard name spells it.
-use Rattle.std.proofs.Common.{◌≡◌, ◌↔◌, ℕ, ◌==◌, List, [], ◌∷◌, length, Bool, true, false, Option, Some, None, Result, Ok, Err, cond, refl, sym, ap, ◌∙◌, subst}
+use Rattle.std.proofs.Common.{◌≡◌, ◌↔◌, ℕ, ◌==◌, List, [], ◌∷◌, length, Bool, true, false, Option, Some, None, Result, Ok, Err, cond, arith, refl, sym, ap, ◌∙◌, subst}
+use Rattle.std.proofs.lemmas.Bool.{eqb-true}
 use Rattle.std.specs.Prelude.{◌&&◌}
 use Rattle.std.specs.Option.{ok_or}
 use Rattle.std.specs.FinMap.{entries}
@@ -88,12 +89,24 @@ unnamed_by r w o new true (x ∷ xs) h = go (first_of (put_by is_below x (ordere
     go None e = absurd (head_put x (ordered_by is_below xs) e)
     go (Some s) e = tt
 
+never : false ≡ true → ⊥
+never h = subst (λ b. cond b ⊥ (Unit {0})) h tt
+
 named_by : (r : Reader) (w : Opened) (o : Occ) (new : List ℕ) (joined : Bool) (names : List (List ℕ)) → bound_by joined names ≡ true → IsUnnamed (renamed_by r w o new joined names) → ⊥
-named_by r w o new false names h u = absurd cc
+named_by r w o new false names h u = never h
 named_by r w o new true [] h u = named_behind r w o new u
-named_by r w o new true (x ∷ xs) h u = absurd cc
+named_by r w o new true (x ∷ xs) h u = let e = eqb-true (length (x ∷ xs)) 0 h in absurd (omega (arith, e))
 
 -- ---- what is answered
+
+-- a name that is prepared, or nothing
+abbrev pub IsPrepared : told.Answer → Type 0
+IsPrepared answers.Nothing = Unit {0}
+IsPrepared (answers.Prepared range placeholder) = Unit {0}
+IsPrepared (answers.Places places) = ⊥
+IsPrepared (answers.Highlights highlights) = ⊥
+IsPrepared (answers.Arrows arrows) = ⊥
+IsPrepared (answers.Edits edits) = ⊥
 
 module _ (r : Reader) (is : IsReader r) (e : Encoding) (texts : Texts) (rs : List Read) (are : AreReadAs (entries texts) rs) (uri : List ℕ) (position : Pos) (new : List ℕ) where
   abbrev ds : List (List ℕ × Document)
@@ -107,7 +120,7 @@ module _ (r : Reader) (is : IsReader r) (e : Encoding) (texts : Texts) (rs : Lis
 
   abbrev told_at : Option Occ → told.Answer
   told_at None = answers.Nothing
-  told_at (Some o) = answer_told e ds (if is_bound f o then Prepared (f.bytes o) else Nothing)
+  told_at (Some o) = answer_told e ds (cond (is_bound f o) (Prepared (f.bytes o)) Nothing)
 
   answer_is : answer_of e ds rs uri position Prepare ≡ told_at (name_there e ds rs uri position)
   answer_is = go (number_of ds uri)
@@ -115,6 +128,7 @@ module _ (r : Reader) (is : IsReader r) (e : Encoding) (texts : Texts) (rs : Lis
       at : (n : ℕ) (o : Option Occ) → answer_told e ds (answer_at f n o Prepare) ≡ told_at o
       at n None = refl
       at n (Some o) = refl
+
       go : (n : Option ℕ) → answer_told e ds (answer_by e ds rs n position Prepare) ≡ told_at (name_by e ds rs n position)
       go None = refl
       go (Some n) = at n (name_at (spans_of rs) (program_in rs).units n (offset_of e (text_of ds n) position))
@@ -134,9 +148,11 @@ module _ (r : Reader) (is : IsReader r) (e : Encoding) (texts : Texts) (rs : Lis
     where
       unnamed : is_bound f o ≡ false → IsUnnamed (rename_in r w (Some o) new)
       unnamed b = subst IsUnnamed (sym (rename_there o)) (unnamed_by r w o new (is_joined f.links o) (standard_origins f.links (class_of f.links o)) b)
+
       named : is_bound f o ≡ true → IsUnnamed (rename_in r w (Some o) new) → ⊥
       named b u = named_by r w o new (is_joined f.links o) (standard_origins f.links (class_of f.links o)) b (subst IsUnnamed (rename_there o) u)
-      go : (p : Option code.Prepared) (b : Bool) → is_bound f o ≡ b → prepared_told p ≡ answer_told e ds (if b then Prepared (f.bytes o) else Nothing) → (p ≡ None → IsUnnamed (rename_in r w (Some o) new)) × (IsUnnamed (rename_in r w (Some o) new) → p ≡ None)
+
+      go : (p : Option code.Prepared) (b : Bool) → is_bound f o ≡ b → prepared_told p ≡ answer_told e ds (cond b (Prepared (f.bytes o)) Nothing) → (p ≡ None → IsUnnamed (rename_in r w (Some o) new)) × (IsUnnamed (rename_in r w (Some o) new) → p ≡ None)
       go None true b k = absurd cc
       go None false b k = (λ q. unnamed b, λ u. refl)
       go (Some p) true b k = (λ q. absurd cc, λ u. absurd (named b u))
@@ -148,3 +164,15 @@ module _ (r : Reader) (is : IsReader r) (e : Encoding) (texts : Texts) (rs : Lis
       let both = by_place at p (h ∙ answer_is) in
       let same = rename_is r is e texts rs are uri position new in
       (λ k. subst IsUnnamed (sym same) (both.0 k), λ u. both.1 (subst IsUnnamed same u))
+
+  all_prepared : (at : Option Occ) → IsPrepared (told_at at)
+  all_prepared None = tt
+  all_prepared (Some o) = go (is_bound f o)
+    where
+      go : (b : Bool) → IsPrepared (answer_told e ds (cond b (Prepared (f.bytes o)) Nothing))
+      go true = tt
+      go false = tt
+
+  -- nothing else is answered
+  pub prepared_alone : (answer : told.Answer) → answer ≡ answer_of e ds rs uri position Prepare → IsPrepared answer
+  prepared_alone answer h = subst IsPrepared (sym (h ∙ answer_is)) (all_prepared (name_there e ds rs uri position))

@@ -39,9 +39,11 @@ lines_some (c ∷ cs) = go (c == 10) (c == 13)
         by_feed : (t : Bool) → (m : Line) × (ms : List Line) × (cond t (ended (13 ∷ l.ending) ls) (ended (13 ∷ []) (l ∷ ls)) ≡ m ∷ ms)
         by_feed true = (_, _, refl)
         by_feed false = (_, _, refl)
+
     longer_some : (ls : List Line) → (m : Line) × (ms : List Line) × (longer c ls ≡ m ∷ ms)
     longer_some [] = (_, _, refl)
     longer_some (l ∷ ls) = (_, _, refl)
+
     go : (t u : Bool) → (m : Line) × (ms : List Line) × (cond t (ended (10 ∷ []) (lines_of cs)) (cond u (returned cs (lines_of cs)) (longer c (lines_of cs))) ≡ m ∷ ms)
     go true u = (_, _, refl)
     go false true = returned_some (lines_of cs) cs
@@ -85,20 +87,22 @@ module _ (units : ℕ → ℕ) (some : (c : ℕ) → 1 ≤ units c) where
     where
       more : Line
       more = record { chars = c ∷ l.chars; ending = l.ending }
+
       grown : full_bytes more ≡ len_utf8 c + full_bytes l
       grown = omega (arith, sum_by-cons len_utf8 c l.chars)
+
       go : (t : Bool) → ltb n (full_bytes l) ≡ t → Back units (more ∷ m ∷ ms) (len_utf8 c + n)
       go true q =
           let less = ltb-true n (full_bytes l) q in
           let p : ltb (len_utf8 c + n) (full_bytes more) ≡ true = lt-ltb (len_utf8 c + n) (full_bytes more) (omega (arith, grown, less)) in
           let there : bytes_within units (units_within units n l.chars) l.chars ≡ n =
-            subst (λ t. at units (l ∷ m ∷ ms) (cond t (record { line = 0; character = units_within units n l.chars }) (below (position_in units (m ∷ ms) (n - full_bytes l)))) ≡ n) q h in
+          subst (λ t. at units (l ∷ m ∷ ms) (cond t (record { line = 0; character = units_within units n l.chars }) (below (position_in units (m ∷ ms) (n - full_bytes l)))) ≡ n) q h in
           subst (λ t. at units (more ∷ m ∷ ms) (cond t (record { line = 0; character = units_within units (len_utf8 c + n) more.chars }) (below (position_in units (m ∷ ms) ((len_utf8 c + n) - full_bytes more)))) ≡ len_utf8 c + n) (sym p)
           (within_longer c n l.chars there)
       go false q =
           let least = ltb-false n (full_bytes l) q in
           let there : at units (l ∷ m ∷ ms) (below (position_in units (m ∷ ms) (n - full_bytes l))) ≡ n =
-            subst (λ t. at units (l ∷ m ∷ ms) (cond t (record { line = 0; character = units_within units n l.chars }) (below (position_in units (m ∷ ms) (n - full_bytes l)))) ≡ n) q h in
+          subst (λ t. at units (l ∷ m ∷ ms) (cond t (record { line = 0; character = units_within units n l.chars }) (below (position_in units (m ∷ ms) (n - full_bytes l)))) ≡ n) q h in
           let rest : Back units (m ∷ ms) (n - full_bytes l) = omega (arith, there, least, deeper units l (m ∷ ms) (position_in units (m ∷ ms) (n - full_bytes l))) in
           let e : full_bytes more + (n - full_bytes l) ≡ len_utf8 c + n = omega (arith, grown, least) in
           subst (Back units (more ∷ m ∷ ms)) e (behind units more m ms (full_bytes more) (n - full_bytes l) refl rest)
@@ -136,6 +140,7 @@ module _ (units : ℕ → ℕ) (some : (c : ℕ) → 1 ≤ units c) where
       some_lines : (ls : List Line) → Back units (ended (13 ∷ m.ending) ls) 0
       some_lines [] = refl
       some_lines (l ∷ ls) = start_ended 13 m.ending l ls
+
       go : (t : Bool) → Back units (cond t (ended (13 ∷ m.ending) ms) (ended (13 ∷ []) (m ∷ ms))) 0
       go true = some_lines ms
       go false = start_ended 13 [] m ms
@@ -189,8 +194,10 @@ module _ (units : ℕ → ℕ) (some : (c : ℕ) → 1 ≤ units c) where
     where
       lines : List Line
       lines = lines_of (xs ++ ys)
+
       both : d ≡ 10 → byte_count (13 ∷ 10 ∷ []) + byte_count xs ≡ 1 + byte_count (d ∷ xs)
       both e = omega (arith, sum_by-cons len_utf8 d xs, ap len_utf8 e)
+
       go : (t : Bool) → (d == 10) ≡ t → Back units (returned (d ∷ (xs ++ ys)) (lines_of (d ∷ (xs ++ ys)))) (1 + byte_count (d ∷ xs))
       go true q =
           subst (λ t. Back units (returned (d ∷ (xs ++ ys)) (cond t (ended (10 ∷ []) lines) (cond (d == 13) (returned (xs ++ ys) lines) (longer d lines)))) (1 + byte_count (d ∷ xs))) (sym q)
@@ -203,8 +210,10 @@ module _ (units : ℕ → ℕ) (some : (c : ℕ) → 1 ≤ units c) where
     where
       lines : List Line
       lines = lines_of (xs ++ ys)
+
       one : (n : ℕ) → len_utf8 n ≡ 1 → c ≡ n → 1 + byte_count xs ≡ byte_count (c ∷ xs)
       one n l e = omega (arith, sum_by-cons len_utf8 c xs, ap len_utf8 e, l)
+
       go : (t u : Bool) → (c == 10) ≡ t → (c == 13) ≡ u → Back units (cond t (ended (10 ∷ []) lines) (cond u (returned (xs ++ ys) lines) (longer c lines))) (byte_count (c ∷ xs))
       go true u q r = past_end (10 ∷ []) (xs ++ ys) (byte_count xs) (byte_count (c ∷ xs)) (one 10 refl (eqb-true c 10 q)) h
       go false true q r =

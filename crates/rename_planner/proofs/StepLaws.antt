@@ -1,5 +1,5 @@
 -- The conditions one by one, from what the code's calls say.
-use Rattle.std.proofs.Common.{◌≡◌, ◌⊎◌, inl, inr, ◌↔◌, ℕ, zero, suc, ◌==◌, List, [], ◌∷◌, ◌++◌, map, filter, length, Bool, true, false, Option, Some, None, Result, Ok, Err, cond, refl, sym, ap, ◌∙◌, subst, arith}
+use Rattle.std.proofs.Common.{◌≡◌, ◌⊎◌, inl, inr, ◌↔◌, ℕ, zero, suc, ◌<◌, ◌==◌, List, [], ◌∷◌, ◌++◌, map, filter, length, Bool, true, false, Option, Some, None, Result, Ok, Err, cond, refl, sym, ap, ◌∙◌, subst, arith}
 use Rattle.std.specs.Prelude.{◌&&◌}
 use Rattle.std.specs.Option.{ok_or, option_map}
 use Rattle.ls_base.specs.declared.encoding.Encoding.{Encoding}
@@ -44,8 +44,10 @@ no_class e ds f None h = refl
 no_class e ds f (Some o) h = subst (λ (b : Bool). ComesTo e ds (IsClassOf ds f) (ok_or (cond b (Some o) None) NotBound) (Err faults.NotBound)) (sym h) refl
 
 -- a class has a document
-pub has_document : (e : Encoding) (ds : List (List ℕ × Document)) (rs : List Read) (uri : List ℕ) (position : Pos) (c : Class) → IsClassAt ds (facts_in rs) (name_there e ds rs uri position) (Some c) → (ds ≡ [] → ⊥)
-has_document e ds rs uri position c h none = subst (λ (xs : List (List ℕ × Document)). IsClassAt ds (facts_in rs) (name_there e xs rs uri position) (Some c)) none h
+pub bound_document : (e : Encoding) (ds : List (List ℕ × Document)) (rs : List Read) (uri : List ℕ) (position : Pos) (c : Class) →
+    ComesTo e ds (IsClassOf ds (facts_in rs)) (ok_or (joined_at (facts_in rs).links (name_there e ds rs uri position)) NotBound) (Ok c) → 0 < length ds
+bound_document e [] rs uri position c h = absurd h
+bound_document e (d ∷ ds) rs uri position c h = omega arith
 
 -- ---- standard names
 

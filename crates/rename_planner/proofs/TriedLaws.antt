@@ -4,7 +4,9 @@ use Rattle.std.specs.Prelude.{nat_lt}
 use Rattle.std.specs.FinMap.{entries}
 use Rattle.std.specs.Option.{option_map}
 use Rattle.std.specs.Str.{bytes_eq, IsUtf8}
+use Rattle.std.proofs.lemmas.List.{length-map}
 use Rattle.std.proofs.lemmas.Option.{slice_get-map}
+use Rattle.class_edits.proofs.DocumentLaws.{as_many}
 use Rattle.std.proofs.lemmas.Bool.{ltb-false}
 use Rattle.std.proofs.lemmas.Slice.Eq.{bytes_eq-Decides}
 use Rattle.ls_base.specs.Limits.{max_text}
@@ -18,7 +20,7 @@ use Rattle.document_store.specs.Texts.{Document, Texts}
 use Rattle.document_units.specs.Readings.{Read, AreReadAs, IsReadAs, program_in, spans_in}
 use Rattle.program_answers.specs.ToldAnswers.{facts_in}
 use Rattle.text_edits.specs.Edits.{Edit, edited}
-use Rattle.text_edits.specs.Members.{class_edits, identifiers_of, members_of, name_of}
+use Rattle.text_edits.specs.Members.{class_edits, identifiers_of, members_of, name_at, name_of}
 use Rattle.text_edits.specs.Views.{AreCuts, edit_of, edit_told}
 use Rattle.text_edits.specs.declared.edits.Edit as code
 use Rattle.class_edits.specs.DocumentEdits.{CanEditAll, all_edited, edits_from, edits_of_class, seen, told, told_of, too_long}
@@ -100,7 +102,7 @@ module _ (e : Encoding) (ds : List (List ℕ × Document)) (rs : List Read) (o :
       let here : nth all n ≡ class_edits (facts_in rs).links (program_in rs).units stem o n d.1.1 (spans_in r.0) = nth_from (facts_in rs).links (program_in rs).units stem o 0 n n ds rs d r.0 are (omega arith) at r.1 in
       let back = class_back e d.1.1 n rs name r.0 (short n d at) (utf8 n d at) r.1 r.2 in
       ap (map (edit_in e d.1.1)) (one_for e ds all n d apart at ∙ ap (map (edit_told e d.1.1)) here)
-      ∙ told_back e d.1.1 _ (class_edits (facts_in rs).links (program_in rs).units stem o n d.1.1 (spans_in r.0)) back ∙ sym here
+      ∙ told_back e d.1.1 (name_at name (identifiers_of n (program_in rs).units)) (class_edits (facts_in rs).links (program_in rs).units stem o n d.1.1 (spans_in r.0)) back ∙ sym here
 
 -- ---- they can be made, and what they leave isn't too long
 
@@ -148,3 +150,6 @@ stand_apart texts m n x y a b same =
     let first : slice_get (map (λ (d : List ℕ × Document). d.0) (entries texts)) m ≡ Some x.0 = slice_get-map (λ (d : List ℕ × Document). d.0) (entries texts) m ∙ ap (option_map (λ (d : List ℕ × Document). d.0)) a in
     let second : slice_get (map (λ (d : List ℕ × Document). d.0) (entries texts)) n ≡ Some y.0 = slice_get-map (λ (d : List ℕ × Document). d.0) (entries texts) n ∙ ap (option_map (λ (d : List ℕ × Document). d.0)) b in
     uris_distinct texts m n x.0 first (second ∙ ap (λ (u : List ℕ). Some u) (sym same))
+
+pub seen_many : (ds : List (List ℕ × Document)) (all : List (List code.Edit)) → CanEditAll ds all → length (seen all) ≡ length ds
+seen_many ds all can = length-map all (map edit_of) ∙ as_many ds all can

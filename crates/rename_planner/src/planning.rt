@@ -19,7 +19,9 @@ ghost use Rattle.rename_planner.specs.Changes.{all_changes, change_told, named_a
 ghost use Rattle.rename_planner.specs.Planning.{ComesTo, IsNamed, IsOpenText, IsPlanned, named_in, planned_in};
 ghost use Rattle.rename_planner.specs.ReadDocuments.{read_as};
 
-use crate::conditions::{all_read, all_whole, bound, fitting_edits, no_clash, no_standard, stem, symbol};
+use crate::conditions::{
+    all_read, all_whole, bound, fitting_edits, no_clash, no_standard, stem, symbol,
+};
 use crate::faults::RenameFault;
 use class_edits::members::members;
 use class_edits::told_edits;
@@ -101,7 +103,7 @@ fn told(
     class: &Class,
     stem: &str,
     all: &[Items<Edit>],
-) -> Result<Planned, RenameFault>
+) -> Mem<Planned>
     requires made { CanEditAll (entries ws.now.texts) all.now }
     requires fit { too_long (entries ws.now.texts) (seen all.now) ≡ None }
     ensures exact { (rs : List Read) (o : AnyOcc) → AreReadAs (entries ws.now.texts) rs → IsClassOf (entries ws.now.texts) (facts_in rs) o class.now → clashing (facts_in rs).links o ≡ [] →

@@ -58,6 +58,14 @@ fn with(alloc: Global, front: &str, text: &Text) -> Mem<Text>
     Ok(Text::from_string(format!(in alloc; "{front}{text}")?))
 }
 
+/// A text with words and another text behind it.
+fn joined(alloc: Global, front: &str, words: &str, text: &Text) -> Mem<Text>
+    ensures { IfOk result (λ whole. whole ≡ front.now ++ (words.now ++ text.now)) }
+{
+    let text = text.as_str();
+    Ok(Text::from_string(format!(in alloc; "{front}{words}{text}")?))
+}
+
 /// The start of a place, as `URI:LINE:CHARACTER`.
 fn start_text(alloc: Global, place: &Place) -> Mem<Text>
     ensures { IfOk result (λ text. text ≡ spec.start_text place.now.uri place.now.range.start) }
@@ -98,14 +106,12 @@ fn difference_text(alloc: Global, ws: &Workspace, difference: &Difference) -> Me
     ensures { (rs : List Read) (d : model.Difference) → AreReadAs (entries ws.now.texts) rs → IsDifference difference.now d →
         IfOk result (λ text. text ≡ spec.difference_text ws.now.encoding (entries ws.now.texts) (read_as (entries ws.now.texts) rs) d) }
 {
-    let kind = kind_text(difference.kind);
     let start = difference_start(alloc, ws, difference)?;
-    let start = start.as_str();
     let before = side_text(alloc, ws, &difference.before)?;
-    let before = before.as_str();
     let after = side_text(alloc, ws, &difference.after)?;
-    let after = after.as_str();
-    Ok(Text::from_string(format!(in alloc; "{kind} {start} from {before} to {after}")?))
+    let front = joined(alloc, kind_text(difference.kind), " ", &start)?;
+    let front = joined(alloc, front.as_str(), " from ", &before)?;
+    Ok(joined(alloc, front.as_str(), " to ", &after)?)
 }
 
 /// Where a difference is: at its occurrence, or where it has none at its form.

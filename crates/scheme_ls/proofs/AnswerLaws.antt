@@ -18,7 +18,7 @@ use Rattle.scheme_ls.proofs.Writes.{prints_nothing, prints_then, part_after, fro
 
 -- ---- one body
 
-answered_one : (state next : State) (body : List ℕ) (out : Out) → IsStep state body out next → AreReplies (session_from state (body ∷ [])).replies out.replies
+pub answered_one : (state next : State) (body : List ℕ) (out : Out) → IsStep state body out next → AreReplies (session_from state (body ∷ [])).replies out.replies
 answered_one state next body out s = subst (λ rs. AreReplies rs out.replies) (sym (replies_of_one state body)) s.replies
 
 abbrev session_one : (state next : State) (body : List ℕ) (out : Out) (end : Option Ending) → IsStep state body out next → (one_step state body).end ≡ end → AreAnswered state (body ∷ []) end

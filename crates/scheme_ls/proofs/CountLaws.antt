@@ -1,9 +1,9 @@
 -- The macro uses that are counted over bodies and bytes.
-use Rattle.std.proofs.Common.{◌≡◌, ℕ, zero, suc, List, [], ◌∷◌, ◌++◌, refl, sym, ap, ◌∙◌, append_assoc, append-nil, Some, None, Option, subst}
+use Rattle.std.proofs.Common.{◌≡◌, ℕ, zero, suc, List, [], ◌∷◌, ◌++◌, refl, sym, ap, ◌∙◌, append_assoc, append-nil, Some, None, Option, subst, inl}
 use Rattle.std.specs.FinMap.{empty}
 use Rattle.std.specs.declared.vec.Vec.{Vec}
 use Rattle.std.specs.declared.alloc.Global.{Global}
-use Rattle.ls_base.specs.Frames.{End, IsFrames, rest}
+use Rattle.ls_base.specs.Frames.{IsFrames, rest}
 use Rattle.lsp_framing.specs.Feeds.{Feeds}
 use Rattle.lsp_framing.specs.Taken.{contents}
 use Rattle.lsp_framing.proofs.OneReading.{one_reading}
@@ -11,20 +11,25 @@ use Rattle.scheme_model.specs.Session as model
 use Rattle.scheme_model.specs.Session.{Run, State, begin}
 use Rattle.session_core.specs.Asked.{Question}
 use Rattle.session_core.specs.Counted.{AreCounted}
+use Rattle.session_core.specs.Stepped.{IsStep}
+use Rattle.session_core.specs.declared.out.Out.{Out}
 use Rattle.session_core.proofs.CountedLaws.{counted_then}
 use Rattle.scheme_ls.specs.BodiesOutcome.{AnswersBodies, BodiesCountAs, CountsSome, EndsSession, body_end_of}
-use Rattle.scheme_ls.specs.CountedBytes.{CountsAll, CountsFirst}
+use Rattle.scheme_ls.specs.CountedBytes.{CountsAll, CountsBegin}
 use Rattle.scheme_ls.specs.PieceOutcome.{CountsInPiece, CountsPiece, IsOpen, Serving, TakesPiece}
-use Rattle.scheme_ls.specs.Prints.{SinkSeen}
+use Rattle.scheme_ls.specs.Prints.{PrintsFront, SinkSeen}
+use Rattle.scheme_ls.specs.ReplyFrames.{frames_of}
+use Rattle.scheme_ls.specs.ServeOutcome.{WritesFront}
 use Rattle.scheme_ls.specs.SessionOutput.{session_from, session_over}
 use Rattle.scheme_ls.specs.Statuses.{said_exit}
 use Rattle.scheme_ls.specs.Streams.{Streams}
 use Rattle.scheme_ls.specs.declared.answering.Exit.{Exit}
-use Rattle.scheme_ls.proofs.AnswerLaws.{AnsweredSoFar, answers_then, none_yet}
+use Rattle.scheme_ls.proofs.AnswerLaws.{AnsweredSoFar, answered_one, answers_then, are_first, none_yet}
 use Rattle.scheme_ls.proofs.PieceEndsSession.{some_end}
 use Rattle.scheme_ls.proofs.QuietLaws.{same_rest}
 use Rattle.scheme_ls.proofs.SessionSoFar.{Going, frames_so_far, going_frames}
-use Rattle.scheme_ls.proofs.Sessions.{ended_session, more_bodies, one_step, replies_of_one}
+use Rattle.scheme_ls.proofs.Sessions.{ended_session, frames_more, more_bodies, one_step, replies_of_one}
+use Rattle.scheme_ls.proofs.Writes.{front_after}
 
 -- ---- one body
 
@@ -32,13 +37,17 @@ pub one_counted : (state : State) (body : List ℕ) (before now : ℕ) → AreCo
 one_counted state body before now c = subst (λ (rs : List (model.Reply Question)). AreCounted rs before now) (sym (replies_of_one state body)) c
 
 -- however it leaves the session
-pub end_counts : (state : State) (bodies : List (List ℕ)) (before now : ℕ) (code : Option ℕ) → AreCounted (session_from state bodies).replies before now → BodiesCountAs state bodies before now (body_end_of code)
-end_counts state bodies before now None c = c
-end_counts state bodies before now (Some zero) c = c
-end_counts state bodies before now (Some (suc n)) c = c
+pub end_counts : (state : State) (bodies : List (List ℕ)) (old new : SinkSeen) (before now : ℕ) (code : Option ℕ) → AreCounted (session_from state bodies).replies before now → BodiesCountAs state bodies old new before now (body_end_of code)
+end_counts state bodies old new before now None c = c
+end_counts state bodies old new before now (Some zero) c = c
+end_counts state bodies old new before now (Some (suc n)) c = c
 
-pub one_counts_some : (state : State) (body : List ℕ) (before now : ℕ) → AreCounted (one_step state body).replies before now → CountsSome state (body ∷ []) before now
-one_counts_some state body before now c = record { first = body ∷ []; later = []; split = refl; counted = one_counted state body before now c }
+pub one_counts_some : (state next : State) (body : List ℕ) (out : Out) (IsPrinted : List ℕ → Type 0) (before now : ℕ) → IsStep state body out next → IsPrinted (frames_of out.replies) → AreCounted (one_step state body).replies before now →
+    CountsSome state (body ∷ []) IsPrinted before now
+one_counts_some state next body out IsPrinted before now s p c = record {
+  some = record { first = body ∷ []; later = []; split = refl; messages = out.replies; answered = answered_one state next body out s; prints = p };
+  counted = one_counted state body before now c;
+}
 
 -- ---- several bodies
 
@@ -83,15 +92,22 @@ counted_ends state mid all later body exit old seen new before between now w one
     subst (λ (bodies : List (List ℕ)). AreCounted (session_from state bodies).replies before now) w.so_far.split
     (counts_then state mid w.so_far.first (body ∷ later) before between now w.so_far.answers.session.ends w.so_far.answers.now w.counted (subst (λ (run : Run Question). AreCounted run.replies between now) (sym over) c))
 
-pub counted_some : (state mid : State) (all later : List (List ℕ)) (body : List ℕ) (old seen : SinkSeen) (before between now : ℕ) → CountedSoFar state all (body ∷ later) mid old seen before between →
-    CountsSome mid (body ∷ []) between now → CountsSome state all before now
-counted_some state mid all later body old seen before between now w c =
-    let parts : body ∷ later ≡ c.first ++ (c.later ++ later) = ap (λ (b : List (List ℕ)). b ++ later) c.split ∙ append_assoc c.first c.later later in
+pub counted_some : (state mid : State) (all later : List (List ℕ)) (body : List ℕ) (old seen new : SinkSeen) (before between now : ℕ) → CountedSoFar state all (body ∷ later) mid old seen before between →
+    CountsSome mid (body ∷ []) (PrintsFront seen new) between now → CountsSome state all (PrintsFront old new) before now
+counted_some state mid all later body old seen new before between now w c =
+    let first = w.so_far.answers.session.messages in
+    let some = c.some in
+    let parts : body ∷ later ≡ some.first ++ (some.later ++ later) = ap (λ (b : List (List ℕ)). b ++ later) some.split ∙ append_assoc some.first some.later later in
     record {
-      first = w.so_far.first ++ c.first;
-      later = c.later ++ later;
-      split = sym w.so_far.split ∙ ap (λ (b : List (List ℕ)). w.so_far.first ++ b) parts ∙ sym (append_assoc w.so_far.first c.first (c.later ++ later));
-      counted = counts_then state mid w.so_far.first c.first before between now w.so_far.answers.session.ends w.so_far.answers.now w.counted c.counted;
+      some = record {
+        first = w.so_far.first ++ some.first;
+        later = some.later ++ later;
+        split = sym w.so_far.split ∙ ap (λ (b : List (List ℕ)). w.so_far.first ++ b) parts ∙ sym (append_assoc w.so_far.first some.first (some.later ++ later));
+        messages = first ++ some.messages;
+        answered = are_first state mid w.so_far.first some.first old seen some.messages w.so_far.answers some.answered;
+        prints = subst (PrintsFront old new) (sym (frames_more first some.messages)) (front_after old seen new (frames_of first) (frames_of some.messages) w.so_far.answers.prints some.prints);
+      };
+      counted = counts_then state mid w.so_far.first some.first before between now w.so_far.answers.session.ends w.so_far.answers.now w.counted c.counted;
     }
 
 -- ---- the bodies of a piece
@@ -104,12 +120,12 @@ piece_counts old new piece bodies cut before now feeds same c = record {
   counted = subst (λ (given : List (Vec ℕ Global)). AreCounted (session_from old.state (contents given)).replies before now) same c;
 }
 
-pub part_counts : (old new : Serving) (piece : List ℕ) (bodies cut : List (Vec ℕ Global)) (before now : ℕ) → Feeds old.frames piece (contents cut) new.frames → bodies ≡ cut →
-    CountsSome old.state (contents bodies) before now → CountsInPiece old new piece before now
-part_counts old new piece bodies cut before now feeds same c = record {
+pub part_counts : (old new : Serving) (piece : List ℕ) (bodies cut : List (Vec ℕ Global)) (IsPrinted : List ℕ → Type 0) (before now : ℕ) → Feeds old.frames piece (contents cut) new.frames → bodies ≡ cut →
+    CountsSome old.state (contents bodies) IsPrinted before now → CountsInPiece old new piece IsPrinted before now
+part_counts old new piece bodies cut IsPrinted before now feeds same c = record {
   given = contents cut;
   feeds = feeds;
-  counts = subst (λ (given : List (Vec ℕ Global)). CountsSome old.state (contents given) before now) same c;
+  counts = subst (λ (given : List (Vec ℕ Global)). CountsSome old.state (contents given) IsPrinted before now) same c;
 }
 
 -- ---- all bytes so far
@@ -130,29 +146,28 @@ all_then {server = server} {next = next} {before = before} {between = between} {
       counted = counts_then (begin empty) server.state w.bodies p.given before between now w.answers.session.ends w.answers.now so_far p.counted;
     }
 
--- with a part of one
-pub first_then : {old mid : Streams} {server next : Serving} {taken most before between now : ℕ} {read piece : List ℕ} (w : Going old mid server taken most) → AreCounted (session_over w.bodies).replies before between → read ≡ piece →
-    CountsInPiece server next read between now → CountsFirst (w.bytes ++ piece) before now
-first_then {server = server} {next = next} {before = before} {between = between} {now = now} {piece = piece} w so_far same c =
-    let p = subst (λ (q : List ℕ). CountsInPiece server next q between now) same c in
+-- with a part of one, within whose answers a write failed
+pub first_then : {old mid : Streams} {server next : Serving} {taken most before between now : ℕ} {read piece : List ℕ} (w : Going old mid server taken most) (new : SinkSeen) → AreCounted (session_over w.bodies).replies before between → read ≡ piece →
+    CountsInPiece server next read (PrintsFront mid.sink new) between now → WritesFront (CountsBegin (w.bytes ++ piece) before now) old.sink new
+first_then {old = old} {mid = mid} {server = server} {next = next} {before = before} {between = between} {now = now} {piece = piece} w new so_far same c =
+    let p = subst (λ (q : List ℕ). CountsInPiece server next q (PrintsFront mid.sink new) between now) same c in
     let all = some_end next.frames.end (w.bytes ++ piece) (w.bodies ++ p.given) (p.feeds w.bytes w.bodies w.after).frames in
+    let first = w.answers.session.messages in
+    let some = p.counts.some in
     record {
-      bodies = w.bodies ++ p.counts.first;
-      later = p.counts.later;
-      end = all.0;
-      frames = subst (λ (bodies : List (List ℕ)). IsFrames (w.bytes ++ piece) bodies all.0)
-          (ap (λ (given : List (List ℕ)). w.bodies ++ given) p.counts.split ∙ sym (append_assoc w.bodies p.counts.first p.counts.later)) all.1;
-      counted = counts_then (begin empty) server.state w.bodies p.counts.first before between now w.answers.session.ends w.answers.now so_far p.counts.counted;
+      messages = first ++ some.messages;
+      begin = inl (record {
+        first = record {
+          bodies = w.bodies ++ some.first;
+          later = some.later;
+          end = all.0;
+          frames = subst (λ (bodies : List (List ℕ)). IsFrames (w.bytes ++ piece) bodies all.0) (ap (λ (given : List (List ℕ)). w.bodies ++ given) some.split ∙ sym (append_assoc w.bodies some.first some.later)) all.1;
+          answered = are_first (begin empty) server.state w.bodies some.first old.sink mid.sink some.messages w.answers some.answered;
+        };
+        counted = counts_then (begin empty) server.state w.bodies some.first before between now w.answers.session.ends w.answers.now so_far p.counts.counted;
+      });
+      prints = subst (PrintsFront old.sink new) (sym (frames_more first some.messages)) (front_after old.sink mid.sink new (frames_of first) (frames_of some.messages) w.answers.prints some.prints);
     }
-
-pub first_of_all : {bytes : List ℕ} {before now : ℕ} → CountsAll bytes before now → CountsFirst bytes before now
-first_of_all {bytes = bytes} c = record {
-  bodies = c.bodies;
-  later = [];
-  end = c.end;
-  frames = subst (λ (bodies : List (List ℕ)). IsFrames bytes bodies c.end) (sym (append-nil c.bodies)) c.frames;
-  counted = c.counted;
-}
 
 -- the session goes on after the piece
 pub counts_more : {old mid : Streams} {server next : Serving} {taken most : ℕ} {read piece : List ℕ} {seen sink : SinkSeen} (before between now : ℕ) (w : Going old mid server taken most) (answered : TakesPiece server next piece IsOpen seen sink) →

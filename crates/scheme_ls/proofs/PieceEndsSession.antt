@@ -19,10 +19,10 @@ use Rattle.scheme_ls.specs.BodiesOutcome.{AnswersBodies}
 use Rattle.scheme_ls.specs.PieceOutcome.{AnswersInPiece, EndsInPiece, HasFault, Serving, TakesPiece}
 use Rattle.scheme_ls.specs.Prints.{SinkSeen, Prints, PrintsFront, PrintsPart}
 use Rattle.scheme_ls.specs.Reading.{ReadsOn, TakesBytes}
-use Rattle.scheme_ls.specs.CountedBytes.{CountsAll, CountsFirst}
+use Rattle.scheme_ls.specs.CountedBytes.{CountsAll, CountsBegin}
 use Rattle.scheme_ls.specs.QuietBytes.{AreQuiet}
 use Rattle.scheme_ls.specs.ReplyFrames.{frame_of_reply, frames_of}
-use Rattle.scheme_ls.specs.ServeOutcome.{AnswersPiecesBefore, AreBeforeLast, Serves}
+use Rattle.scheme_ls.specs.ServeOutcome.{AnswersPiecesBefore, AreBeforeLast, Serves, WritesFront}
 use Rattle.scheme_ls.specs.SessionOutput.{IsOutputOf, Output, fault_log, written}
 use Rattle.scheme_ls.specs.Statuses.{said_exit}
 use Rattle.scheme_ls.specs.Streams.{Streams}
@@ -191,11 +191,14 @@ farewell_written old mid seen sink server next taken most n buffer at w r e p co
 -- a write of the farewell fails
 pub farewell_cut : {before now : ℕ} (old mid seen : Streams) (sink : SinkSeen) (server next : Serving) (taken most n : ℕ) (buffer : List ℕ) (at : FaultAt) (w : Going old mid server taken most) →
     Read old mid seen server taken most n buffer w →
-    TakesPiece server next (take n buffer) (HasFault at) mid.sink seen.sink → PrintsFront seen.sink sink (frame_of_reply (fault_log at.number at.offset)) → CountsFirst (w.bytes ++ take n buffer) before now → (AreQuiet (w.bytes ++ take n buffer) → now ≡ before) →
+    TakesPiece server next (take n buffer) (HasFault at) mid.sink seen.sink → PrintsFront seen.sink sink (frame_of_reply (fault_log at.number at.offset)) → CountsAll (w.bytes ++ take n buffer) before now → (AreQuiet (w.bytes ++ take n buffer) → now ≡ before) →
     Serves old (record { source = seen.source; sink = sink }) before now WriteFailed
 farewell_cut old mid seen sink server next taken most n buffer at w r e p counted uncounted =
     let answers = all_answers old mid seen server next taken most n buffer at w r e in
     let output = faulty_output old mid seen server next taken most n buffer at w r e in
+    let is = is_faulty_output old mid seen server next taken most n buffer at w r e in
+    let prints : PrintsFront old.sink sink (frames_of (written output)) = subst (PrintsFront old.sink sink) (farewell_frames answers.session.messages at.number at.offset e.end.0 e.end.2)
+    (front_after old.sink seen.sink sink (frames_of answers.session.messages) (frame_of_reply (fault_log at.number at.offset)) answers.prints p) in
     record {
       ends = record {
         bytes = w.bytes ++ take n buffer;
@@ -205,17 +208,9 @@ farewell_cut old mid seen sink server next taken most n buffer at w r e p counte
           before_written old mid seen server taken most n buffer w r _ sink (Appends-trans mid.sink.taken seen.sink.taken sink.taken _ _ e.answers.prints.printed p.printed)
               (calls_then mid.sink.writes seen.sink.writes sink.writes _ _ e.answers.prints.calls.take (last_none_all seen.sink.writes sink.writes _ p.calls)),
         );
-        session = (
-          few_bytes old mid seen server taken most n buffer w r,
-          record {
-            messages = written output;
-            begin = inr (output, is_faulty_output old mid seen server next taken most n buffer at w r e, refl);
-            prints = subst (PrintsFront old.sink sink) (farewell_frames answers.session.messages at.number at.offset e.end.0 e.end.2)
-                (front_after old.sink seen.sink sink (frames_of answers.session.messages) (frame_of_reply (fault_log at.number at.offset)) answers.prints p);
-          },
-        );
+        session = (few_bytes old mid seen server taken most n buffer w r, record { messages = written output; begin = inr (output, is, refl); prints = prints });
       };
-      counted = counted;
+      counted = record { messages = written output; begin = inr (output, is, refl, counted); prints = prints };
       uncounted = uncounted;
     }
 
@@ -315,7 +310,7 @@ piece_lost old mid new server next taken most n buffer w r (inr same) uncounted 
 
 -- a write fails while a body of the piece is answered
 pub piece_cut : {before now : ℕ} (old mid new : Streams) (server next : Serving) (taken most n : ℕ) (buffer : List ℕ) (w : Going old mid server taken most) → Read old mid new server taken most n buffer w →
-    AnswersInPiece server next (take n buffer) (PrintsFront mid.sink new.sink) → CountsFirst (w.bytes ++ take n buffer) before now → (AreQuiet (w.bytes ++ take n buffer) → now ≡ before) → Serves old new before now WriteFailed
+    AnswersInPiece server next (take n buffer) (PrintsFront mid.sink new.sink) → WritesFront (CountsBegin (w.bytes ++ take n buffer) before now) old.sink new.sink → (AreQuiet (w.bytes ++ take n buffer) → now ≡ before) → Serves old new before now WriteFailed
 piece_cut old mid new server next taken most n buffer w r e counted uncounted =
     let all = frames_then old mid new server next taken most n buffer e.given w r e.feeds in
     let first = w.answers.session.messages in

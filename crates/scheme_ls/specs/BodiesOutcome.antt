@@ -53,16 +53,14 @@ BodiesEndAs state bodies next old new NoMemory = AnswersSome state bodies (Print
 
 -- ---- the macro uses that are counted over bodies
 
--- those of some first bodies
-pub record CountsSome (state : State) (bodies : List (List ℕ)) (before now : ℕ) : Type 0 where
-  pub first : List (List ℕ)
-  pub later : List (List ℕ)
-  pub split : bodies ≡ first ++ later
-  pub counted : AreCounted (session_from state first).replies before now
+-- those of the first bodies, which are answered
+pub record CountsSome (state : State) (bodies : List (List ℕ)) (IsPrinted : List ℕ → Type 0) (before now : ℕ) : Type 0 where
+  pub some : AnswersSome state bodies IsPrinted
+  pub counted : AreCounted (session_from state some.first).replies before now
 
 -- answering bodies that ends so counts from one number to another. Where memory runs out nothing is told
-abbrev pub BodiesCountAs : State → List (List ℕ) → (before now : ℕ) → BodiesEnd → Type 0
-BodiesCountAs state bodies before now Answered = AreCounted (session_from state bodies).replies before now
-BodiesCountAs state bodies before now (Exited exit) = AreCounted (session_from state bodies).replies before now
-BodiesCountAs state bodies before now WriteFailed = CountsSome state bodies before now
-BodiesCountAs state bodies before now NoMemory = Unit {0}
+abbrev pub BodiesCountAs : State → List (List ℕ) → SinkSeen → SinkSeen → (before now : ℕ) → BodiesEnd → Type 0
+BodiesCountAs state bodies old new before now Answered = AreCounted (session_from state bodies).replies before now
+BodiesCountAs state bodies old new before now (Exited exit) = AreCounted (session_from state bodies).replies before now
+BodiesCountAs state bodies old new before now WriteFailed = CountsSome state bodies (PrintsFront old new) before now
+BodiesCountAs state bodies old new before now NoMemory = Unit {0}

@@ -9,7 +9,7 @@ pub mod Streams  -- What the source and the sink show at a moment
 pub mod ReplyFrames  -- The bytes that replies are written as (LSP 3.17, base protocol)
 pub mod SessionOutput  -- What a session writes in answer to a stream of bytes (LSP 3.17, base protocol and lifecycle)
 pub mod BodiesOutcome  -- What answering bodies one after another leaves, in the middle of a session
-pub mod QuietBytes  -- Bytes whose bodies tell no document event
+pub mod QuietBytes  -- Bytes whose bodies tell no document event and ask for no rename
 pub mod CountedBytes  -- The macro uses that are counted over bytes (R7RS 4.3)
 pub mod PieceOutcome  -- What a server makes of a piece of its input
 pub mod ServeOutcome  -- How the command `serve` ends, and why

@@ -88,16 +88,16 @@ pub record CountsPiece (old new : Serving) (piece : List ℕ) (before now : ℕ)
   pub feeds : Feeds old.frames piece given new.frames
   pub counted : AreCounted (session_from old.state given).replies before now
 
--- those of some of them
-pub record CountsInPiece (old new : Serving) (piece : List ℕ) (before now : ℕ) : Type 0 where
+-- those of the first of them, which are answered
+pub record CountsInPiece (old new : Serving) (piece : List ℕ) (IsPrinted : List ℕ → Type 0) (before now : ℕ) : Type 0 where
   pub given : List (List ℕ)
   pub feeds : Feeds old.frames piece given new.frames
-  pub counts : CountsSome old.state given before now
+  pub counts : CountsSome old.state given IsPrinted before now
 
 -- taking a piece that ends so counts from one number to another. Where memory runs out nothing is told
-abbrev pub PieceCountsAs : Serving → Serving → List ℕ → (before now : ℕ) → PieceEnd → Type 0
-PieceCountsAs old new piece before now Answered = CountsPiece old new piece before now
-PieceCountsAs old new piece before now (Faulty at) = CountsPiece old new piece before now
-PieceCountsAs old new piece before now (Exited exit) = CountsPiece old new piece before now
-PieceCountsAs old new piece before now WriteFailed = CountsInPiece old new piece before now
-PieceCountsAs old new piece before now NoMemory = Unit {0}
+abbrev pub PieceCountsAs : Serving → Serving → List ℕ → SinkSeen → SinkSeen → (before now : ℕ) → PieceEnd → Type 0
+PieceCountsAs old new piece seen sink before now Answered = CountsPiece old new piece before now
+PieceCountsAs old new piece seen sink before now (Faulty at) = CountsPiece old new piece before now
+PieceCountsAs old new piece seen sink before now (Exited exit) = CountsPiece old new piece before now
+PieceCountsAs old new piece seen sink before now WriteFailed = CountsInPiece old new piece (PrintsFront seen sink) before now
+PieceCountsAs old new piece seen sink before now NoMemory = Unit {0}

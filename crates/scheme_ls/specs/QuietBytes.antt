@@ -1,4 +1,4 @@
--- Bytes whose bodies tell no document event. Over such bytes no macro use is counted.
+-- Bytes whose bodies tell no document event and ask for no rename. Over such bytes no macro use is counted.
 use Rattle.std.specs.Prelude.{ℕ, List}
 use Rattle.std.specs.List.{AllByRecursion}
 use Rattle.ls_base.specs.Frames.{End, IsFrames}

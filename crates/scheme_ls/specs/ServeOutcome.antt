@@ -8,7 +8,7 @@ use Rattle.ls_outside.specs.Sources.{bytes_of}
 use Rattle.scheme_model.specs.Session.{Ending}
 use Rattle.scheme_ls.specs.ReplyFrames.{frames_of}
 use Rattle.scheme_ls.specs.Prints.{SinkSeen, Prints, PrintsFront, PrintsPart}
-use Rattle.scheme_ls.specs.CountedBytes.{CountsAs}
+use Rattle.scheme_ls.specs.CountedBytes.{CountsAll, CountsBegin}
 use Rattle.scheme_ls.specs.QuietBytes.{AreQuiet}
 use Rattle.scheme_ls.specs.Reading.{FailsToRead, ReadsOn, ReadsToEnd, TakesBytes}
 use Rattle.scheme_ls.specs.SessionOutput.{BeginOutput, IsOutputOf, Output, written}
@@ -127,8 +127,21 @@ pub record ServeEndsAs (old new : Streams) (end : SessionEnd) : Type 0 where
   pub source : SourceEndsAs old new bytes end
   pub session : SessionEndsAs (length bytes) (IsOutputOf bytes) (BeginOutput bytes) old.sink new.sink end
 
--- `serve` ended so, and counts the macro uses that the bodies lead to; none, where no body tells a document event
+-- ---- the macro uses that are counted
+
+-- a session over these bytes that ends so counts from one number to another. Where a write failed, it counts the bodies that those
+-- messages answer within which it failed; where memory runs out nothing is told
+abbrev pub CountsAs : SinkSeen → SinkSeen → List ℕ → (before now : ℕ) → SessionEnd → Type 0
+CountsAs old new bytes before now (Exited exit) = CountsAll bytes before now
+CountsAs old new bytes before now InputEnded = CountsAll bytes before now
+CountsAs old new bytes before now ReadFailed = CountsAll bytes before now
+CountsAs old new bytes before now WriteFailed = WritesFront (CountsBegin bytes before now) old new
+CountsAs old new bytes before now NoMemory = Unit {0}
+CountsAs old new bytes before now FrameFault = CountsAll bytes before now
+CountsAs old new bytes before now Endless = CountsAll bytes before now
+
+-- `serve` ended so, and counts the macro uses that the bodies lead to; none, where no body tells a document event or asks for a rename
 pub record Serves (old new : Streams) (before now : ℕ) (end : SessionEnd) : Type 0 where
   pub ends : ServeEndsAs old new end
-  pub counted : CountsAs end ends.bytes before now
+  pub counted : CountsAs old.sink new.sink ends.bytes before now end
   pub uncounted : AreQuiet ends.bytes → now ≡ before

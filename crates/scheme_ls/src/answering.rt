@@ -71,7 +71,9 @@ fn answer_body<O: Sink, L: Ledger>(
     ensures answers { BodiesEndAs session.old (body.now ∷ []) session.new
         (sink_seen (O.taken output.old) (O.faults output.old) (O.writes output.old))
         (sink_seen (O.taken output.new) (O.faults output.new) (O.writes output.new)) result }
-    ensures counted { BodiesCountAs session.old (body.now ∷ []) steps.old steps.new result }
+    ensures counted { BodiesCountAs session.old (body.now ∷ [])
+        (sink_seen (O.taken output.old) (O.faults output.old) (O.writes output.old))
+        (sink_seen (O.taken output.new) (O.faults output.new) (O.writes output.new)) steps.old steps.new result }
     ensures steps { IsQuiet body.now → steps.new ≡ steps.old }
 {
     let Ok(out) = session.on_body(body, steps) else {
@@ -95,7 +97,9 @@ pub fn answer_bodies<O: Sink, L: Ledger>(
     ensures answers { BodiesEndAs session.old (contents bodies.now) session.new
         (sink_seen (O.taken output.old) (O.faults output.old) (O.writes output.old))
         (sink_seen (O.taken output.new) (O.faults output.new) (O.writes output.new)) result }
-    ensures counted { BodiesCountAs session.old (contents bodies.now) steps.old steps.new result }
+    ensures counted { BodiesCountAs session.old (contents bodies.now)
+        (sink_seen (O.taken output.old) (O.faults output.old) (O.writes output.old))
+        (sink_seen (O.taken output.new) (O.faults output.new) (O.writes output.new)) steps.old steps.new result }
     ensures steps { AllByRecursion IsQuiet (contents bodies.now) → steps.new ≡ steps.old }
 {
     for body in bodies {

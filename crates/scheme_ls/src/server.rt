@@ -90,7 +90,8 @@ impl Server {
             piece.now (sink_seen (O.taken output.old) (O.faults output.old) (O.writes output.old))
             (sink_seen (O.taken output.new) (O.faults output.new) (O.writes output.new)) result }
         ensures counted { PieceCountsAs (serving self.old.deframer self.old.session) (serving self.new.deframer self.new.session)
-            piece.now steps.old steps.new result }
+            piece.now (sink_seen (O.taken output.old) (O.faults output.old) (O.writes output.old))
+            (sink_seen (O.taken output.new) (O.faults output.new) (O.writes output.new)) steps.old steps.new result }
         ensures steps { IsQuietPiece self.old.deframer piece.now → steps.new ≡ steps.old }
     {
         let Ok(cut) = cut_piece(&mut self.deframer, piece) else {

@@ -5,7 +5,7 @@ use Rattle.std.specs.Option.{option_map}
 use Rattle.ls_base.specs.declared.encoding.Encoding.{Encoding}
 use Rattle.document_store.specs.Texts as store
 use Rattle.scheme_model.specs.Session as session
-use Rattle.scheme_model.specs.Session.{Reply, Mode, Id, Call, Note, Fresh, Running, Shut, Initialize, Shutdown, Ask, Rename, State, evented, evented_to, logged, published, uri_of}
+use Rattle.scheme_model.specs.Session.{Reply, Id, Call, Note, Initialize, Shutdown, Ask, Rename, State, evented, evented_to, logged, published, uri_of}
 use Rattle.scheme_model.specs.Texts as texts
 use Rattle.scheme_model.specs.Texts.{Texts, after}
 use Rattle.workspace_state.specs.Events.{leaves}
@@ -13,9 +13,12 @@ use Rattle.document_units.specs.Readings.{Read, AreReadAs}
 use Rattle.program_answers.proofs.TextLists.{some_row, one_row}
 use Rattle.program_expansion.specs.UsesInTurn.{uses_in}
 use Rattle.session_core.specs.Agreement.{said_event, said_after, said_refusal}
-use Rattle.session_core.specs.Asked.{Question, Nothing, About, News, questions}
+use Rattle.rename_conditions.specs.Readers.{Reader, IsReader}
+use Rattle.rename_conditions.proofs.ReaderLaws.{reader_is_there, readers_are_one}
+use Rattle.rename_planner.specs.ToldRenames.{rename_uses}
+use Rattle.session_core.specs.Asked.{Question, Nothing, About, Renaming, News, questions}
 use Rattle.session_core.specs.Counted.{AreUsesOf, AreUsesFor, IsCounted, AreCounted}
-use Rattle.session_core.specs.FromWire.{offsets, said_encoding}
+use Rattle.session_core.specs.FromWire.{encoding_of, offsets, pos_of, said_encoding}
 use Rattle.session_core.specs.States.{state_of}
 use Rattle.session_core.specs.declared.mode.Mode as code_mode
 use Rattle.session_core.proofs.EventLaws.{events_agree}
@@ -63,16 +66,18 @@ event_counted mode e old new event from to is quiet steps =
 
 -- ---- requests
 
-pub call_still : (mode : Mode) (s : State) (id : Id) (call : Call) (n : ℕ) → AreCounted (session.requested mode questions s id call).replies n n
-call_still Fresh s id (Initialize prepare encoding) n = (0, refl, one_still n)
-call_still Fresh s id Shutdown n = (0, refl, one_still n)
-call_still Fresh s id (Ask uri position query) n = (0, refl, one_still n)
-call_still Fresh s id (Rename uri position new_name) n = (0, refl, one_still n)
-call_still Running s id (Initialize prepare encoding) n = (0, refl, one_still n)
-call_still Running s id Shutdown n = (0, refl, one_still n)
-call_still Running s id (Ask uri position query) n = (0, refl, one_still n)
-call_still Running s id (Rename uri position new_name) n = (0, refl, one_still n)
-call_still Shut s id call n = (0, refl, one_still n)
+pub fresh_still : (s : State) (id : Id) (call : Call) (n : ℕ) → AreCounted (session.called_fresh {A = Question} s id call).replies n n
+fresh_still s id (Initialize prepare encoding) n = (0, refl, one_still n)
+fresh_still s id Shutdown n = (0, refl, one_still n)
+fresh_still s id (Ask uri position query) n = (0, refl, one_still n)
+fresh_still s id (Rename uri position new_name) n = (0, refl, one_still n)
+
+-- a rename, by how texts read
+pub rename_counted : (s : State) (id : Id) (uri : List ℕ) (position : texts.Position) (new_name : List ℕ) (from to : ℕ) →
+    ((r : Reader) → IsReader r → to ≡ from + rename_uses r (encoding_of s.encoding) (entries s.texts) uri (pos_of position) new_name) →
+    AreCounted (session.called questions s id (Rename uri position new_name)).replies from to
+rename_counted s id uri position new_name from to steps =
+    let r = reader_is_there in (rename_uses r.0 (encoding_of s.encoding) (entries s.texts) uri (pos_of position) new_name, (r.0, r.1, refl), steps r.0 r.1)
 
 -- a notification in another mode
 pub dropped_still : (s : State) (note : Note) (n : ℕ) → AreCounted (session.dropped {A = Question} s note).replies n n
@@ -89,11 +94,15 @@ uses_same t m n a b = a.2 ∙ ap uses_in (one_row (entries t) a.0 b.0 a.1 b.1) �
 question_same : (q : Question) (m n : ℕ) → AreUsesFor q m → AreUsesFor q n → m ≡ n
 question_same Nothing m n a b = a ∙ sym b
 question_same (About encoding t uri position query) m n a b = a ∙ sym b
+question_same (Renaming encoding t uri position new_name) m n a b =
+    let uses : Reader → ℕ = λ r. rename_uses r (encoding_of encoding) (entries t) uri (pos_of position) new_name in
+    a.2 ∙ ap uses (readers_are_one a.0 b.0 a.1 b.1) ∙ sym b.2
 question_same (News encoding before t uri) m n a b = uses_same t m n a b
 
 reply_same : (r : Reply Question) (m n : ℕ) → IsCounted r m → IsCounted r n → m ≡ n
 reply_same (session.Capabilities id prepare encoding) m n a b = a ∙ sym b
 reply_same (session.Result id q) m n a b = a ∙ sym b
+reply_same (session.Renamed id q) m n a b = question_same q m n a b
 reply_same (session.Error id code text) m n a b = a ∙ sym b
 reply_same (session.Publish q) m n a b = question_same q m n a b
 reply_same (session.Log text) m n a b = a ∙ sym b

@@ -1,4 +1,4 @@
--- What requests ask of the texts and what answers them (LSP 3.17, "Language Features"), and which lists are published after an
+-- What requests ask of the texts and what answers queries (LSP 3.17, "Language Features"), and which lists are published after an
 -- event (LSP 3.17, publishDiagnostics).
 use Rattle.std.specs.Prelude.{◌≡◌, ℕ, List}
 use Rattle.std.specs.FinMap.{entries}
@@ -12,16 +12,17 @@ use Rattle.program_answers.specs.Updates.{IsNewsOf}
 use Rattle.program_answers.specs.declared.publications.Published.{Published}
 use Rattle.session_core.specs.FromWire.{encoding_of, pos_of}
 
--- a question about a position in a document among these texts, in an encoding; what is news of texts after an event about a
--- document, by the texts before it; or none, which null answers
+-- a question about a position in a document among these texts, in an encoding; a rename of what stands there; what is news of texts
+-- after an event about a document, by the texts before it; or none, which null answers
 pub data Question : Type 0 where
   Nothing : Question
   About : Encoding → Texts → (uri : List ℕ) → Position → Query → Question
+  Renaming : Encoding → Texts → (uri : List ℕ) → Position → (new_name : List ℕ) → Question
   News : Encoding → (before after : Texts) → (uri : List ℕ) → Question
 
 -- a session that asks its questions without an answer yet
 abbrev pub questions : Answers Question
-questions = record { null = Nothing; query = About; lists = News }
+questions = record { null = Nothing; query = About; rename = Renaming; lists = News }
 
 -- the answer to a query at a position of a document: that of the program that the texts are, by how they are read
 abbrev pub AnswersQuery : Encoding → Texts → (uri : List ℕ) → Position → Query → Answer → Type 0
@@ -31,10 +32,12 @@ AnswersQuery encoding texts uri position query answer =
 abbrev pub IsAnswerTo : Question → Answer → Type 0
 IsAnswerTo Nothing answer = answer ≡ answers.Nothing
 IsAnswerTo (About encoding texts uri position query) answer = AnswersQuery encoding texts uri position query answer
+IsAnswerTo (Renaming encoding texts uri position new_name) answer = ⊥
 IsAnswerTo (News encoding before after uri) answer = ⊥
 
 -- the lists that are published
 abbrev pub ArePublishedFor : Question → List Published → Type 0
 ArePublishedFor Nothing lists = ⊥
 ArePublishedFor (About encoding texts uri position query) lists = ⊥
+ArePublishedFor (Renaming encoding texts uri position new_name) lists = ⊥
 ArePublishedFor (News encoding before after uri) lists = IsNewsOf (encoding_of encoding) before after uri lists

@@ -20,25 +20,33 @@ pub record IsOutcome (stepped : Stepped Question) (out : Out) (next : State) : T
 abbrev pub IsStep : State → List ℕ → Out → State → Type 0
 IsStep state body out next = IsOutcome (step offsets questions state (said_by (message_of body))) out next
 
--- a notification of a document event, after which alone macro uses are worked
+-- a notification of a document event
 abbrev pub is_event : session.Note → Bool
 is_event session.Exit = false
 is_event (session.Document event) = true
 is_event (session.BadParams method) = false
 is_event session.Other = false
 
-abbrev pub tells_event : session.Message → Bool
-tells_event session.Unreadable = false
-tells_event (session.Invalid id) = false
-tells_event (session.UnknownMethod id) = false
-tells_event (session.BadRequest id) = false
-tells_event (session.Request id call) = false
-tells_event (session.Notice note) = is_event note
-tells_event session.Response = false
+-- a request for a rename
+abbrev pub is_rename : session.Call → Bool
+is_rename (session.Initialize prepare encoding) = false
+is_rename session.Shutdown = false
+is_rename (session.Ask uri position query) = false
+is_rename (session.Rename uri position new_name) = true
 
--- a body tells no document event
+-- a document event or a rename, after which alone macros are expanded
+abbrev pub expands : session.Message → Bool
+expands session.Unreadable = false
+expands (session.Invalid id) = false
+expands (session.UnknownMethod id) = false
+expands (session.BadRequest id) = false
+expands (session.Request id call) = is_rename call
+expands (session.Notice note) = is_event note
+expands session.Response = false
+
+-- a body tells no document event and asks for no rename
 abbrev pub IsQuiet : List ℕ → Type 0
-IsQuiet body = tells_event (said_by (message_of body)) ≡ false
+IsQuiet body = expands (said_by (message_of body)) ≡ false
 
 -- nothing ends, and the messages are these replies
 abbrev pub Says : Out → List (Reply Question) → Type 0

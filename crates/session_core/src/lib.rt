@@ -5,6 +5,7 @@ mod events;
 pub mod laws;
 mod mode;
 mod out;
+mod renames;
 mod replies;
 mod session;
 mod wording;

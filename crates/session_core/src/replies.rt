@@ -8,7 +8,7 @@ ghost use Rattle.session_core.specs.Stepped.{Says};
 
 use crate::out::said;
 use crate::{Out, wording};
-use ls_base::{Answer, Encoding, Mem, Text};
+use ls_base::{Answer, DocEdits, Encoding, Items, Mem, Text};
 use lsp_messages::{Id, Reply};
 use std::alloc::Global;
 
@@ -21,6 +21,8 @@ const METHOD_NOT_FOUND: i32 = -32_601;
 const INVALID_PARAMS: i32 = -32_602;
 
 const SERVER_NOT_INITIALIZED: i32 = -32_002;
+
+const REQUEST_FAILED: i32 = -32_803;
 
 /// An error reply.
 fn error(alloc: Global, id: Option<Id>, code: i32, text: &str) -> Mem<Out>
@@ -92,6 +94,28 @@ pub fn answered(alloc: Global, id: Id, answer: Answer) -> Mem<Out>
         → Says out (session.Result (said_id id) question ∷ [])) }
 {
     Ok(said(alloc, Reply::Result { id, answer })?)
+}
+
+/// The reply to a rename: its edits.
+pub fn renamed(alloc: Global, id: Id, edits: Items<DocEdits>) -> Mem<Out>
+    ensures { IfOk result (λ out. out ≡ record { replies = Reply.Result id (Answer.Edits edits) ∷ []; end = None }) }
+{
+    let answer = Answer::Edits(edits);
+    Ok(said(alloc, Reply::Result { id, answer })?)
+}
+
+/// The reply to a rename that is refused.
+pub fn request_failed(alloc: Global, id: Id, text: Text) -> Mem<Out>
+    ensures { IfOk result (λ out. out ≡ record { replies = Reply.Error (Some id) (session.minus 32803) text ∷ []; end = None }) }
+{
+    Ok(said(
+        alloc,
+        Reply::Error {
+            id: Some(id),
+            code: REQUEST_FAILED,
+            text,
+        },
+    )?)
 }
 
 /// A text for the client's log: what is wrong, and with what.

@@ -9,12 +9,13 @@ ghost use Rattle.session_core.specs.Asked.{questions};
 ghost use Rattle.lsp_messages.specs.Messages.{message_of};
 ghost use Rattle.session_core.specs.Counted.{AreCounted};
 ghost use Rattle.session_core.specs.FromWire.{offsets, said_by, said_id, said_call, said_note, said_message, said_reject};
-ghost use Rattle.session_core.specs.Stepped.{IsOutcome, IsStep, IsQuiet, is_event, tells_event};
+ghost use Rattle.session_core.specs.Stepped.{IsOutcome, IsStep, IsQuiet, expands, is_event, is_rename};
 
 use crate::Out;
 use crate::events::on_event;
 use crate::mode::Mode;
 use crate::out::{ended, silent};
+use crate::renames::on_rename;
 use crate::replies::{
     answered, capabilities, invalid_params, invalid_request, logged, method_not_found,
     not_initialized, parse_error,
@@ -62,8 +63,8 @@ impl Session {
     }
 
     /// Takes the body of a message. Its shape is judged first, then the mode, then the method, then the parameters.
-    /// Each macro use that the definition counts is a step: those of the texts after each event that changes them, and no others. Where
-    /// memory runs out nothing has changed.
+    /// Each macro use that the definition counts is a step: those of the texts after an event that changes them, those of the texts that
+    /// a rename would leave, and no others. Where memory runs out nothing has changed.
     pub fn on_body<L: Ledger>(&mut self, body: &[u8], steps: &mut Steps<L>) -> Mem<Out>
         ensures step { IfOk result (λ out. IsStep self.old body.now out self.new) }
         ensures kept { OnErr result (self.new ≡ self.old) }
@@ -81,11 +82,11 @@ impl Session {
         ensures step { IfOk result (λ out. IsOutcome
             (step offsets questions self.old (said_message message)) out self.new) }
         ensures kept { OnErr result (self.new ≡ self.old) }
-        ensures steps { tells_event (said_message message) ≡ false → steps.new ≡ steps.old }
+        ensures steps { expands (said_message message) ≡ false → steps.new ≡ steps.old }
         ensures counted { OnOk result (AreCounted (step offsets questions self.old (said_message message)).replies steps.old steps.new) }
     {
         match message {
-            Message::Request { id, call } => Ok(self.on_request(id, call)?),
+            Message::Request { id, call } => Ok(self.on_request(id, call, steps)?),
             Message::Notice(note) => Ok(self.on_notice(note, steps)?),
             Message::Response => Ok(silent(self.alloc)),
         }
@@ -131,14 +132,16 @@ impl Session {
     }
 
     /// A request.
-    fn on_request(&mut self, id: Id, call: Call) -> Mem<Out>
+    fn on_request<L: Ledger>(&mut self, id: Id, call: Call, steps: &mut Steps<L>) -> Mem<Out>
         ensures step { IfOk result (λ out. IsOutcome
             (step offsets questions self.old (spec.Request (said_id id) (said_call call))) out self.new) }
         ensures kept { OnErr result (self.new ≡ self.old) }
+        ensures steps { is_rename (said_call call) ≡ false → steps.new ≡ steps.old }
+        ensures counted { OnOk result (AreCounted (step offsets questions self.old (spec.Request (said_id id) (said_call call))).replies steps.old steps.new) }
     {
         match self.mode {
             Mode::Fresh => Ok(self.on_fresh_call(id, call)?),
-            Mode::Running => Ok(self.on_call(id, call)?),
+            Mode::Running => Ok(self.on_call(id, call, steps)?),
             Mode::Shut => Ok(invalid_request(self.alloc, Some(id))?),
         }
     }
@@ -163,11 +166,13 @@ impl Session {
         }
     }
 
-    /// A request while running. A rename isn't built, so its method is unknown.
-    fn on_call(&mut self, id: Id, call: Call) -> Mem<Out>
+    /// A request while running.
+    fn on_call<L: Ledger>(&mut self, id: Id, call: Call, steps: &mut Steps<L>) -> Mem<Out>
         ensures step { IfOk result (λ out. IsOutcome
             (spec.called questions self.old (said_id id) (said_call call)) out self.new) }
         ensures kept { OnErr result (self.new ≡ self.old) }
+        ensures steps { is_rename (said_call call) ≡ false → steps.new ≡ steps.old }
+        ensures counted { OnOk result (AreCounted (spec.called questions self.old (said_id id) (said_call call)).replies steps.old steps.new) }
     {
         match call {
             Call::Initialize { .. } => Ok(invalid_request(self.alloc, Some(id))?),
@@ -177,8 +182,24 @@ impl Session {
                 Ok(out)
             }
             Call::Ask { at, query } => Ok(self.on_question(id, &at, query)?),
-            Call::Rename { .. } => Ok(method_not_found(self.alloc, id)?),
+            Call::Rename { at, new_name } => Ok(self.on_rename(id, &at, new_name.as_str(), steps)?),
         }
+    }
+
+    /// A rename while running.
+    fn on_rename<L: Ledger>(
+        &mut self,
+        id: Id,
+        at: &At,
+        new_name: &str,
+        steps: &mut Steps<L>,
+    ) -> Mem<Out>
+        ensures step { IfOk result (λ out. IsOutcome
+            (spec.called questions self.old (said_id id) (said_call (Call.Rename at.now new_name.now))) out self.new) }
+        ensures kept { OnErr result (self.new ≡ self.old) }
+        ensures counted { OnOk result (AreCounted (spec.called questions self.old (said_id id) (said_call (Call.Rename at.now new_name.now))).replies steps.old steps.new) }
+    {
+        Ok(on_rename(self.alloc, &mut self.workspace, id, at, new_name, steps)?)
     }
 
     /// A question about a document while running.

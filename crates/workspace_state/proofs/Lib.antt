@@ -4,3 +4,5 @@ pub mod OthersLaws  -- Documents other than the one of an event stay, and so do 
 pub mod NewsTold  -- Lists as the code keeps them, by uri
 pub mod NoTexts  -- A workspace without documents
 pub mod IndexedLaws  -- The index of the program of the open documents
+pub mod EditedLaws  -- Edited documents stand in the order of their uris, as those before
+pub mod TrialLaws  -- The program of the open documents stands in trees that have grown

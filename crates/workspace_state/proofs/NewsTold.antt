@@ -1,20 +1,18 @@
 -- Lists as the code keeps them, by uri: those of the texts, and what is news of them.
-use Rattle.std.proofs.Common.{◌≡◌, ℕ, suc, T, List, [], ◌∷◌, map, Bool, true, false, cond, Option, Some, None, BTreeMap, String, string_bytes, nat_cmp, is_eq, refl, sym, ap, ◌∙◌, subst}
+use Rattle.std.proofs.Common.{◌≡◌, ℕ, suc, T, List, [], ◌∷◌, map, cond, Option, Some, BTreeMap, String, string_bytes, nat_cmp, is_eq, refl, sym, ap, ◌∙◌, subst}
 use Rattle.std.specs.Cmp.Lexicographic.{slice_cmp}
-use Rattle.std.specs.Ordering.{eq_by_cmp}
 use Rattle.std.specs.Map.{lookup}
-use Rattle.std.specs.BTreeMap.{is_at, get_by_text}
-use Rattle.std.specs.FinMap.{entries, entries_sorted, find, from_sorted, entries-from_sorted, get-from_sorted, is_sorted, keys}
+use Rattle.std.specs.BTreeMap.{is_at}
+use Rattle.std.specs.FinMap.{entries, entries_sorted, find, from_sorted, entries-from_sorted, get-from_sorted, is_sorted}
 use Rattle.ls_base.specs.declared.encoding.Encoding.{Encoding}
 use Rattle.ls_base.specs.declared.answers.Diagnostic as told
 use Rattle.document_store.specs.Texts.{Document, Texts}
 use Rattle.program_answers.specs.declared.publications.Published.{Published}
 use Rattle.program_answers.specs.Listings.{or_none}
 use Rattle.document_units.specs.Readings.{Read, AreReadAs}
-use Rattle.document_units.specs.Listed.{lists_from}
 use Rattle.workspace_state.specs.State.{AreListsFor}
 use Rattle.program_answers.specs.Updates.{entries_shown, list_at, listed_in, Lists, AreListsOfTexts, ArePublished, IsNewsOf, AreKeyed}
-use Rattle.program_answers.proofs.TextLists.{some_row, lists_rise, told_rows, rows_from}
+use Rattle.program_answers.proofs.TextLists.{some_row, lists_rise, rows_from}
 
 module _ {Y : Type 0} where
   abbrev pub shown_map : BTreeMap (String Y) (List told.Diagnostic) → Lists

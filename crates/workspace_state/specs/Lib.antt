@@ -4,3 +4,4 @@ pub mod Events  -- Events of the workspace as events of its store (LSP 3.17, tex
 pub mod ProgramOfTexts  -- The program of the open documents, as the code has it (R7RS 5)
 pub mod State  -- A workspace as contracts see it
 pub mod Indexed  -- The index that is kept or was made
+pub mod Edited  -- The texts of open documents once they are edited (LSP 3.17, TextEdit)

@@ -1,15 +1,24 @@
 //! The program of the open documents, with the trees that it is over, and the index of it once that was collected.
-ghost use Rattle.std.specs.Prelude.{◌≡◌, [], IfOk};
+ghost use Rattle.std.specs.Prelude.{◌≡◌, ◌+◌, [], List, IfOk, OnOk};
+ghost use Rattle.std.specs.FinMap.{entries};
+ghost use Rattle.document_units.specs.Readings.{Read, AreReadAs};
 ghost use Rattle.program_leaves.specs.Formed.{AreFormedIn};
 ghost use Rattle.core_tree.specs.Units.{IsProgramOf};
 ghost use Rattle.workspace_state.specs.Expansions.{IsIndexFor};
 ghost use Rattle.workspace_state.specs.Indexed.{index_in};
+ghost use Rattle.workspace_state.specs.ProgramOfTexts.{IsProgramOfTexts};
+ghost use Rattle.syntax_tree.specs.Names.{KeepsNames};
+ghost use Rattle.syntax_tree.specs.Works.{KeepsTrees};
+ghost use Rattle.program_expansion.specs.UsesInTurn.{uses_in};
 
 use arrow_index::index::Index;
 use core_tree::units::Program;
-use ls_base::{Items, Mem};
+use document_store::Store;
+use ls_base::{Items, Mem, Steps};
+use program_expansion::program::{Reading, read_program};
 use std::alloc::Global;
 use std::marker::Model;
+use std::sync::ledger::Ledger;
 use syntax_tree::trees::Work;
 
 /// The units of all documents, with the trees and names that they are over, and their index, if it was collected. The forms of each
@@ -92,6 +101,27 @@ impl Expansion {
         ensures formed { AreFormedIn self.now.work result.now.units }
     {
         &self.program
+    }
+
+    /// The program of other documents over these trees and names, whose units stay as they were. The index goes, since it is told by
+    /// the trees that there were.
+    pub fn try_program<L: Ledger>(
+        &mut self,
+        alloc: Global,
+        store: &Store,
+        steps: &mut Steps<L>,
+    ) -> Mem<Program>
+        ensures program { self.new.program ≡ self.old.program }
+        ensures trees { KeepsTrees self.old.work self.new.work }
+        ensures names { KeepsNames self.old.work.symbols self.new.work.symbols }
+        ensures of_texts { IfOk result (IsProgramOfTexts store.now self.new.work) }
+        ensures formed { IfOk result (λ program. AreFormedIn self.new.work program.units) }
+        ensures steps { (rs : List Read) → AreReadAs (entries store.now) rs → OnOk result (steps.new ≡ steps.old + uses_in rs) }
+    {
+        self.index = None;
+        let reading = read_program(alloc, store, &mut self.work, steps)?;
+        let Reading { program, .. } = reading;
+        Ok(program)
     }
 
     /// Collects the index, unless it is there.

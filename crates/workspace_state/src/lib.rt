@@ -3,11 +3,14 @@
 
 mod events;
 mod expansion;
+mod reach;
 mod texts;
+mod trial;
 mod workspace;
 
 pub use document_units::places::PlacedError;
 pub use events::{DocEvent, Updated};
 pub use program_answers::classes::{Class, ClassPart};
 pub use program_answers::publications::Published;
+pub use trial::Trial;
 pub use workspace::Workspace;

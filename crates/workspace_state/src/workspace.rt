@@ -1,10 +1,11 @@
 //! The workspace: the open documents and the program that they are. Each event reads and expands all of them anew.
-ghost use Rattle.std.specs.Prelude.{◌≡◌, ◌+◌, ◌<◌, ◌≤◌, ◌==◌, List, length, slice_get, true, false, IfOk, IfSome, OnOk, OnErr};
+ghost use Rattle.std.specs.Prelude.{◌≡◌, ◌+◌, ◌<◌, ◌≤◌, ◌==◌, List, length, map, slice_get, true, false, IfOk, IfSome, OnOk, OnErr};
 ghost use Rattle.std.specs.Option.{option_map};
 ghost use Rattle.std.specs.FinMap.{empty, entries};
 ghost use Rattle.std.specs.List.Sorted.{IsStrictlySortedBy};
 ghost use Rattle.ls_base.specs.Limits.{max_documents};
 ghost use Rattle.scheme_model.specs.Diagnostics.{bytes_of};
+ghost use Rattle.rename_model.specs.Reach.{in_reach};
 ghost use Rattle.document_store.specs.Texts as store;
 ghost use Rattle.document_units.specs.Listed.{AreFoundOf};
 ghost use Rattle.workspace_state.specs.ProgramOfTexts.{IsProgramOfTexts};
@@ -19,18 +20,23 @@ ghost use Rattle.program_answers.specs.ToldAnswers.{answer_of, facts_in, name_th
 ghost use Rattle.program_answers.specs.Placed.{IsErrorAt, IsIn, IsPlace, form_bytes};
 ghost use Rattle.document_units.specs.Places.{spans_of};
 ghost use Rattle.document_units.specs.UnitFindings.{first_error_at};
+ghost use Rattle.workspace_state.specs.Edited.{CanEdit, edited_texts};
 ghost use Rattle.workspace_state.specs.Events.{leaves, event_of, fault_of, uri_of};
+ghost use Rattle.syntax_tree.specs.Names.{KeepsNames};
+ghost use Rattle.syntax_tree.specs.Works.{KeepsTrees};
 ghost use Rattle.program_answers.specs.Updates.{Publishes};
 ghost use Rattle.program_expansion.specs.UsesInTurn.{uses_in};
 
 use crate::events::{DocEvent, Updated};
 use crate::expansion::{Expansion, Indexed};
+use crate::reach::units_in_reach;
 use crate::texts::{After, after_event};
+use crate::trial::{Trial, edited_store};
 use core_tree::units::Program;
 use document_store::Store;
 use document_units::findings::Sorted;
 use document_units::places::PlacedError;
-use ls_base::{Answer, Encoding, Items, Mem, Place, Pos, Query, Steps, Text};
+use ls_base::{Answer, DocEdits, Encoding, Items, Mem, Place, Pos, Query, Steps, Text};
 use program_answers::answers::answer;
 use program_answers::asked::Asked;
 use program_answers::classes::{Class, class_at, standard_at};
@@ -89,6 +95,13 @@ impl Workspace {
         ensures { self.new ≡ record self.old { encoding = encoding } }
     {
         self.encoding = encoding;
+    }
+
+    /// The encoding of positions.
+    pub fn encoding(&self) -> Encoding
+        ensures { result ≡ self.now.encoding }
+    {
+        self.encoding
     }
 
     /// Takes an event in, reads all documents and expands their units. Published are the list of the event's document, and each that
@@ -176,6 +189,56 @@ impl Workspace {
     {
         self.expansion.work()
     }
+
+    /// The open documents as they are read.
+    pub fn open(&self) -> &Open
+        ensures { result.now ≡ self.now.texts }
+    {
+        &self.texts
+    }
+
+    /// The units in reach of the occurrences of a class: those that hold one of them, and those that import a unit in reach. They
+    /// stand in the order of the program's list.
+    pub fn in_reach(&self, class: &Class) -> Mem<Items<u32>>
+        ensures { (rs : List Read) → AreReadAs (entries self.now.texts) rs →
+            IfOk result (λ units. units ≡ in_reach (program_in rs).units (map (λ part. part.occ) class.now.parts)) }
+    {
+        let units = units_in_reach(self.alloc, self.expansion.program(), class)?;
+        Ok(units)
+    }
+
+    /// Tries edits: the program that the texts are with them, over the trees and names of this workspace, which answers as before,
+    /// also where memory ran out. The edits of a document are for bytes of its text one behind another; those of one that isn't open
+    /// change nothing.
+    pub fn try_edits<L: Ledger>(
+        &mut self,
+        edits: &Items<DocEdits>,
+        steps: &mut Steps<L>,
+    ) -> Mem<Trial>
+        requires { CanEdit self.old.encoding edits.now (entries self.old.texts) }
+        ensures texts { self.new.texts ≡ self.old.texts }
+        ensures encoding { self.new.encoding ≡ self.old.encoding }
+        // The program is as before, and what it stands for stands in what the trees and names grew to.
+        ensures program { self.new.expansion.program ≡ self.old.expansion.program }
+        ensures trees { KeepsTrees self.old.expansion.work self.new.expansion.work }
+        ensures names { KeepsNames self.old.expansion.work.symbols self.new.expansion.work.symbols }
+        ensures of_texts { IsProgramOfTexts self.new.texts self.new.expansion.work self.new.expansion.program }
+        // The trial's program is that of the edited texts.
+        ensures trial { IfOk result (λ trial. IsProgramOfTexts (edited_texts self.old.encoding edits.now self.old.texts) self.new.expansion.work trial.program) }
+        ensures formed { IfOk result (λ trial. AreFormedIn self.new.expansion.work trial.program.units) }
+        // Each macro use that the definition counts for the edited texts is a step.
+        ensures steps { (rs : List Read) → AreReadAs (entries (edited_texts self.old.encoding edits.now self.old.texts)) rs → OnOk result (steps.new ≡ steps.old + uses_in rs) }
+    {
+        let alloc = self.alloc;
+        let store = edited_store(alloc, &self.texts, edits.as_slice(), self.encoding)?;
+        let program = self.expansion.try_program(alloc, &store, steps)?;
+        Ok(Trial::of(program))
+    }
+
+    /// Ends a trial.
+    pub fn end_trial(&mut self, _trial: Trial)
+        ensures { self.new ≡ self.old }
+    {}
 
     /// The place of a token, in one of the documents, of which there is one.
     pub fn place_of(&self, occ: Occ) -> Mem<Place>
@@ -287,11 +350,11 @@ fn read_all<L: Ledger>(alloc: Global, store: Store, steps: &mut Steps<L>) -> Mem
     ensures found { (rs : List Read) → AreReadAs (entries store) rs → IfOk result (λ read. AreFoundOf rs read.1.findings.items) }
     ensures steps { (rs : List Read) → AreReadAs (entries store) rs → OnOk result (steps.new ≡ steps.old + uses_in rs) }
 {
-    let reading = read_program(alloc, &store, steps)?;
+    let mut work = Work::new(alloc);
+    let reading = read_program(alloc, &store, &mut work, steps)?;
     let Reading {
         documents,
         heads,
-        work,
         program,
         findings,
         errors,

@@ -5,6 +5,7 @@ use Rattle.datum_reader.specs.Seeded.{seeded}
 use Rattle.datum_reader.specs.Views.{datum_of}
 use Rattle.unit_scopes.specs.Units.{declared}
 use Rattle.unit_scopes.proofs.FreshLaws.{none_count}
+use Rattle.unit_scopes.proofs.OutcomeLaws.{grows_on}
 use Rattle.form_expansion.specs.Forms.{known_by}
 use Rattle.form_expansion.specs.declared.forms.Bench.{Bench}
 use Rattle.form_expansion.proofs.BenchLaws.{stands_on, stays_by, stays_on}
@@ -52,3 +53,13 @@ returns-in-Ok-clause-stays g c =
     stays_on b m c.declare_tree.new.bench
     (stays_by b m c.requires.region refl c.in-Ok.ensures.keeps c.in-Ok.ensures.old_names c.in-Ok.ensures.added c.in-Ok.ensures.regions refl refl)
     c.in_ok-declare_tree-in-Ok.ensures.stays
+
+pub returns-in_err-declare_tree-in-Ok-clause-grows : goal.returns-in_err-declare_tree-in-Ok-clause-grows
+returns-in_err-declare_tree-in-Ok-clause-grows g c =
+    grows_on c.args.bench.now.work c.seed.new.work c.declare_tree.new.bench.work c.args.bench.now.region
+    (record { trees = c.seed.ensures.keeps; names = c.seed.ensures.old_names; regions = c.seed.ensures.regions; added = c.seed.ensures.added }) c.declare_tree.ensures.grows
+
+pub returns-in-Ok-clause-grows : goal.returns-in-Ok-clause-grows
+returns-in-Ok-clause-grows g c =
+    grows_on c.args.bench.now.work c.seed.new.work c.declare_tree.new.bench.work c.args.bench.now.region
+    (record { trees = c.seed.ensures.keeps; names = c.seed.ensures.old_names; regions = c.seed.ensures.regions; added = c.seed.ensures.added }) c.declare_tree.ensures.grows

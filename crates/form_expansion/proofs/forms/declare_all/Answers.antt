@@ -4,7 +4,7 @@ use Rattle.scheme_model.specs.Ident.{Written}
 use Rattle.scheme_model.specs.ScopedProgram.{forms_over}
 use Rattle.library_table.specs.UnitsRead.{forms_of}
 use Rattle.form_expansion.specs.declared.forms.Declared as code
-use Rattle.form_expansion.proofs.BenchLaws.{stays_itself, stays_on}
+use Rattle.form_expansion.proofs.BenchLaws.{grows_then, stays_itself, stays_on}
 use Rattle.form_expansion.specs.Forms.{used_by}
 use Rattle.form_expansion.proofs.FormsHold.{used_more, Holds, PassedFrom, none_held, next_form, none_from, next_from, all_passed, dropped_all, can_pass, read_here, few_more}
 use Rattle.form_expansion.proofs.forms.declare_all.Goals as goal
@@ -86,3 +86,9 @@ returns-clause-count g c = λ few.
       | else-loop-place-test w ↦ omega (arith, at, within, w.loop-place-test.false, l.all.ok.0)
       | then-loop-place-test+then-is_large w ↦ absurd (true≢false (sym w.if-is_large.true ∙ w.is_large.ensures ∙ few))
     ]
+
+pub returns-in_err-declared-clause-grows : goal.returns-in_err-declared-clause-grows
+returns-in_err-declared-clause-grows g c = grows_then c.args.bench.now c.loop-place.bench c.declare.new.bench.work c.loop-place.invariant.stays c.declare.ensures.grows
+
+pub returns-in_err-push-clause-grows : goal.returns-in_err-push-clause-grows
+returns-in_err-push-clause-grows g c = grows_then c.args.bench.now c.loop-place.bench c.declare.new.bench.work c.loop-place.invariant.stays c.declare.ensures.grows

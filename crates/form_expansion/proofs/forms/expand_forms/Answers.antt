@@ -1,6 +1,6 @@
 -- All forms are gone through, and what they set aside is expanded.
 use Rattle.std.proofs.Common.{sym, ◌∙◌}
-use Rattle.form_expansion.proofs.BenchLaws.{stays_on}
+use Rattle.form_expansion.proofs.BenchLaws.{grows_then, stays_on}
 use Rattle.form_expansion.proofs.FormsHold.{held_bench}
 use Rattle.form_expansion.proofs.FormsUnfold.{passing_unfolds, passing_steps, can_finish_all, finishing_unfolds, all_unfolds, all_steps}
 use Rattle.library_table.specs.UnitsRead.{forms_of}
@@ -78,3 +78,12 @@ returns-clause-steps g c = λ known ls s p knows stands own fresh number forms.
     let can = can_finish_all known p s c.args.unit number fs forms b c.declare_all.new.total ds h few in
     all_steps known p s c.args.unit number fs forms b c.declare_all.new.total ds h few c.finish_all.new.bench c.finish_all.new.total c.declare_all.new.steps c.finish_all.new.steps c.in_ok-expanded.expanded
     (c.in_ok-expanded.ensures.finishes known h.held _ (c.in_ok-declared.ensures.stays.libraries known knows) can) c.args.steps.now c.in_ok-declared.ensures.steps
+
+pub returns-in_err-expanded-clause-grows : goal.returns-in_err-expanded-clause-grows
+returns-in_err-expanded-clause-grows g c = grows_then c.args.bench.now c.declare_all.new.bench c.finish_all.new.bench.work c.in_ok-declared.ensures.stays c.finish_all.ensures.grows
+
+pub returns-then-is_large-2-clause-grows : goal.returns-then-is_large-2-clause-grows
+returns-then-is_large-2-clause-grows g c = grows_then c.args.bench.now c.declare_all.new.bench c.finish_all.new.bench.work c.in_ok-declared.ensures.stays c.finish_all.ensures.grows
+
+pub returns-clause-grows : goal.returns-clause-grows
+returns-clause-grows g c = grows_then c.args.bench.now c.declare_all.new.bench c.finish_all.new.bench.work c.in_ok-declared.ensures.stays c.finish_all.ensures.grows

@@ -13,7 +13,7 @@ use Rattle.form_parts.specs.declared.items.WaitingUse as code_waiting
 use Rattle.unit_scopes.specs.Kept.{WaitsFor}
 use Rattle.unit_scopes.specs.declared.scope.UnitScope.{UnitScope}
 use Rattle.form_expansion.specs.Forms.{HasSpaceLeft}
-use Rattle.form_expansion.proofs.BenchLaws.{stays_itself}
+use Rattle.form_expansion.proofs.BenchLaws.{grows_then, stays_itself}
 use Rattle.form_expansion.proofs.FormsHold.{is_few}
 use Rattle.form_expansion.proofs.FormsFinish.{none_of, none_there, broken_first, can_meet, uses_wait, uses_continue, uses_stay, still_blank, with_scope, can_go_on, item_ready, ok_stays, at_stays, ok_finishes, at_finishes, finishes_by, Meets, Step, Continues}
 use Rattle.form_expansion.proofs.forms.finish.Goals as goal
@@ -153,3 +153,23 @@ expand-requires-clause-space g c = c.loop-item.invariant.space
 
 pub returns-clause-stays : goal.returns-clause-stays
 returns-clause-stays g c = c.loop-item.invariant.stays
+
+pub returns-in_err-push-in-Ok-clause-grows : goal.returns-in_err-push-in-Ok-clause-grows
+returns-in_err-push-in-Ok-clause-grows g c =
+    grows_then c.args.bench.now c.loop-item.bench c.expand.new.bench.work c.loop-item.invariant.stays
+    (record { trees = c.expand.ensures.keeps; names = c.expand.ensures.names; regions = c.expand.ensures.regions; added = c.expand.ensures.added })
+
+pub returns-in-Err-At-clause-grows : goal.returns-in-Err-At-clause-grows
+returns-in-Err-At-clause-grows g c =
+    grows_then c.args.bench.now c.loop-item.bench c.expand.new.bench.work c.loop-item.invariant.stays
+    (record { trees = c.expand.ensures.keeps; names = c.expand.ensures.names; regions = c.expand.ensures.regions; added = c.expand.ensures.added })
+
+pub returns-in-Err-Full-clause-grows : goal.returns-in-Err-Full-clause-grows
+returns-in-Err-Full-clause-grows g c =
+    grows_then c.args.bench.now c.loop-item.bench c.expand.new.bench.work c.loop-item.invariant.stays
+    (record { trees = c.expand.ensures.keeps; names = c.expand.ensures.names; regions = c.expand.ensures.regions; added = c.expand.ensures.added })
+
+pub returns-in-Err-Memory-clause-grows : goal.returns-in-Err-Memory-clause-grows
+returns-in-Err-Memory-clause-grows g c =
+    grows_then c.args.bench.now c.loop-item.bench c.expand.new.bench.work c.loop-item.invariant.stays
+    (record { trees = c.expand.ensures.keeps; names = c.expand.ensures.names; regions = c.expand.ensures.regions; added = c.expand.ensures.added })

@@ -4,7 +4,7 @@ use Rattle.std.proofs.lemmas.List.{length_push}
 use Rattle.std.proofs.lemmas.Iterator.Adapters.{YieldsList-from_vec}
 use Rattle.std.proofs.lemmas.Iterator.Consumers.{YieldsList-from_enumerate, YieldsList-turn, YieldsList-end}
 use Rattle.core_tree.specs.declared.units.UnitForm.{UnitForm}
-use Rattle.form_expansion.proofs.BenchLaws.{stays_itself, stays_on}
+use Rattle.form_expansion.proofs.BenchLaws.{grows_then, stays_itself, stays_on}
 use Rattle.form_expansion.proofs.Enumerated.{next_placed, all_placed}
 use Rattle.form_expansion.proofs.FormsHold.{held_bench, is_few}
 use Rattle.form_expansion.proofs.FormsFinish.{Finished}
@@ -103,3 +103,9 @@ returns-clause-count g c = λ few.
           let all = all_placed ds (length l.yielded) t.1 in omega (arith, at, all, c.args.declared.ok.0)
       | in-Some+then-is_large w ↦ absurd (true≢false (sym w.if-is_large.true ∙ w.is_large.ensures ∙ few))
     ]
+
+pub returns-in_err-finish-clause-grows : goal.returns-in_err-finish-clause-grows
+returns-in_err-finish-clause-grows g c = grows_then c.args.bench.now c.loop-place.bench c.finish.new.bench.work c.loop-place.invariant.stays c.finish.ensures.grows
+
+pub returns-in_err-push-clause-grows : goal.returns-in_err-push-clause-grows
+returns-in_err-push-clause-grows g c = grows_then c.args.bench.now c.loop-place.bench c.finish.new.bench.work c.loop-place.invariant.stays c.finish.ensures.grows

@@ -1,4 +1,5 @@
 use Rattle.std.proofs.Common.{◌≡◌, vec_len}
+use Rattle.syntax_tree.specs.Names.{KeepsNames}
 use Rattle.form_expansion.proofs.PreludeMacros.{Adding}
 use Rattle.form_expansion.proofs.prelude.add_macros.Given as goal
 
@@ -6,6 +7,7 @@ abbrev pub invariant-loop-name : goal.invariant-loop-name
 invariant-loop-name l = record {
   adding : Adding l.work l.scope l.rest.items;
   trees : l.work.trees ≡ l.fn.work.trees;
+  names : KeepsNames l.fn.work.symbols l.work.symbols;
   roots : l.scope.env.roots ≡ l.fn.scope.env.roots;
 }
 

@@ -1,5 +1,5 @@
-use Rattle.std.proofs.Common.{◌≡◌, List, length, sym, ap, ◌∙◌, subst}
-use Rattle.core_tree.specs.Units.{FormsStand, definitions_from, AreDefinitions}
+use Rattle.std.proofs.Common.{List, length, sym, ap, ◌∙◌, subst}
+use Rattle.core_tree.specs.Units.{FormsStand, definitions_from}
 use Rattle.core_tree.specs.declared.units.UnitForm as code
 use Rattle.scheme_model.specs.Program.{with_refused}
 use Rattle.library_table.specs.UnitsRead.{forms_of}

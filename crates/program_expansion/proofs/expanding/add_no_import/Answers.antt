@@ -1,5 +1,5 @@
 -- The finding stands where the unit does.
-use Rattle.std.proofs.Common.{◌≡◌, ◌++◌, ◌∷◌, [], List, length, ap, sym, ◌∙◌, true, false}
+use Rattle.std.proofs.Common.{length, ap, ◌∙◌}
 use Rattle.document_units.specs.Places.{spans_of}
 use Rattle.document_units.specs.declared.findings.Finding.{Finding}
 use Rattle.document_units.proofs.FoundLaws.{found_at}

@@ -1,5 +1,5 @@
-use Rattle.std.proofs.Common.{◌≡◌, List, [], Bool, true, false, cond, sym, subst}
-use Rattle.scheme_model.specs.Diagnostics.{Diagnostic, bytes_of, unbound_diagnostics}
+use Rattle.std.proofs.Common.{[], cond, sym, subst}
+use Rattle.scheme_model.specs.Diagnostics.{bytes_of, unbound_diagnostics}
 use Rattle.scheme_model.specs.Live.{unit_leaves}
 use Rattle.document_units.specs.Findings.{Adds}
 use Rattle.document_units.specs.Places.{spans_of}

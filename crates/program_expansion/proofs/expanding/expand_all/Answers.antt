@@ -5,6 +5,8 @@ use Rattle.std.proofs.lemmas.List.{length-replicate, take_all, take_more}
 use Rattle.std.proofs.lemmas.Option.{slice_get-get_or}
 use Rattle.syntax_tree.proofs.Places.{none_some}
 use Rattle.unit_scopes.specs.Opened.{IsNew}
+use Rattle.unit_scopes.proofs.OutcomeLaws.{grows_itself}
+use Rattle.form_expansion.proofs.BenchLaws.{grows_behind}
 use Rattle.unit_imports.specs.declared.expanded.Expanded.{Expanded}
 use Rattle.scheme_model.specs.ScopedProgram.{scoped_before}
 use Rattle.program_expansion.specs.UnitResults.{HaveCome, IsUpTo}
@@ -37,6 +39,8 @@ loop-place-init g c =
     let none : Option Expanded = None in
     record {
       bench = c.requires.bench;
+      grows = grows_itself c.args.bench.now.work c.args.bench.now.region;
+      region = refl;
       heads = heads_itself c.args.units.now.heads.items;
       kept = names_itself c.args.units.now.heads.items;
       sources = refl;
@@ -81,6 +85,8 @@ loop-place-preserved g c =
     let at = slice_get-get_or c.args.order.now i 0 lt in
     record {
       bench = c.in_ok-expand_at.ensures.bench;
+      grows = grows_behind c.args.bench.now c.loop-place.bench c.expand_at.new.bench.work c.loop-place.invariant.grows c.loop-place.invariant.region c.expand_at.ensures.grows;
+      region = c.in_ok-expand_at.ensures.region ∙ c.loop-place.invariant.region;
       heads = heads_on c.args.units.now.heads.items c.loop-place.units.heads.items c.expand_at.new.units.heads.items c.loop-place.invariant.heads c.in_ok-expand_at.ensures.heads;
       kept = names_then c.args.units.now.heads.items c.loop-place.units.heads.items c.expand_at.new.units.heads.items c.loop-place.invariant.kept c.in_ok-expand_at.ensures.kept;
       sources = c.expand_at.ensures.sources ∙ c.loop-place.invariant.sources;
@@ -121,3 +127,9 @@ pub returns-clause-finds : goal.returns-clause-finds
 returns-clause-finds g c = λ spelled us known order many finds knows goes heads sources reads ends are tokens results.
     subst (λ (done : List ℕ). HaveFound reads ends (scoped_at us known done) c.loop-place.all.items) (take_all c.loop-place.place-index c.args.order.now (omega arith) ∙ order)
     (c.loop-place.invariant.finds spelled us known order many finds knows goes heads sources reads ends are tokens results)
+
+pub returns-clause-grows : goal.returns-clause-grows
+returns-clause-grows g c = c.loop-place.invariant.grows
+
+pub returns-in_err-expand_at-clause-grows : goal.returns-in_err-expand_at-clause-grows
+returns-in_err-expand_at-clause-grows g c = grows_behind c.args.bench.now c.loop-place.bench c.expand_at.new.bench.work c.loop-place.invariant.grows c.loop-place.invariant.region c.expand_at.ensures.grows

@@ -4,6 +4,7 @@ use Rattle.scheme_model.specs.Requirements.{Known, LibraryName}
 use Rattle.scheme_model.specs.ScopedProgram.{scoped_before}
 use Rattle.feature_requirements.specs.Judged.{Knows}
 use Rattle.unit_scopes.specs.Opened.{IsNew}
+use Rattle.unit_scopes.specs.Outcomes.{Grows}
 use Rattle.program_expansion.specs.UnitResults.{FindsLibraries, GoesOn, HeadsBy, IsUpTo}
 use Rattle.document_units.specs.UnitSources.{AreSourcesOf}
 use Rattle.document_units.specs.Turned.{scoped_at, turns}
@@ -21,6 +22,8 @@ use Rattle.program_expansion.proofs.expanding.expand_all.Given as goal
 abbrev pub invariant-loop-place : goal.invariant-loop-place
 invariant-loop-place g l = record {
   bench : IsBench l.bench;
+  grows : Grows l.fn.bench.work l.bench.work l.fn.bench.region;
+  region : l.bench.region ≡ l.fn.bench.region;
   heads : HeadsStay l.fn.units.heads.items l.units.heads.items;
   kept : NamesKept l.fn.units.heads.items l.units.heads.items;
   sources : l.units.sources ≡ l.fn.units.sources;

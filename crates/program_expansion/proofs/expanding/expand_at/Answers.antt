@@ -20,8 +20,8 @@ use Rattle.program_leaves.specs.Formed.{IsFormed}
 use Rattle.unit_imports.specs.EntriesMeant.{ExportsMean, HaveMeaning}
 use Rattle.document_units.specs.Places.{SameHead, AreHeads, AreHeadsIn, AreFoundIn, ArePlaces}
 use Rattle.unit_scopes.proofs.ImportLaws.{same_trees}
-use Rattle.unit_scopes.proofs.OutcomeLaws.{trees_on}
-use Rattle.form_expansion.proofs.BenchLaws.{bench_in}
+use Rattle.unit_scopes.proofs.OutcomeLaws.{grows_itself, grows_on, trees_on}
+use Rattle.form_expansion.proofs.BenchLaws.{bench_in, grows_named}
 use Rattle.program_expansion.proofs.CameKept.{have_kept, libraries_kept}
 use Rattle.program_expansion.proofs.TurnCited.{turn_of}
 use Rattle.program_expansion.proofs.UnitCame.{goes_in}
@@ -244,3 +244,25 @@ returns-clause-kept g c =
     let h = c.index_mut.result.now in
     let at = slice_get_read hs (length hs) c.args.place h refl (omega (arith, c.args.units.now.heads.ok.0, c.requires.place)) c.index_mut.ensures.value in
     names_broken hs c.args.place h c.break_if.new.head c.is_none.result fault.TooLarge at c.break_if.ensures
+
+-- ---- what the work keeps, whatever is answered
+
+pub returns-then-is_some-clause-grows : goal.returns-then-is_some-clause-grows
+returns-then-is_some-clause-grows g c = grows_itself c.args.bench.now.work c.args.bench.now.region
+
+pub returns-in_err-given-clause-grows : goal.returns-in_err-given-clause-grows
+returns-in_err-given-clause-grows g c =
+    let b = c.args.bench.now in grows_named b.work c.given_to.new.work b.region c.given_to.ensures.trees c.given_to.ensures.names
+
+pub returns-in_err-came-clause-grows : goal.returns-in_err-came-clause-grows
+returns-in_err-came-clause-grows g c =
+    let b = c.args.bench.now in
+    grows_on b.work c.given_to.new.work c.expand_unit.new.bench.work b.region (grows_named b.work c.given_to.new.work b.region c.given_to.ensures.trees c.given_to.ensures.names) c.expand_unit.ensures.grows
+
+pub returns-clause-grows : goal.returns-clause-grows
+returns-clause-grows g c =
+    let b = c.args.bench.now in
+    grows_on b.work c.given_to.new.work c.expand_unit.new.bench.work b.region (grows_named b.work c.given_to.new.work b.region c.given_to.ensures.trees c.given_to.ensures.names) c.expand_unit.ensures.grows
+
+pub returns-clause-region : goal.returns-clause-region
+returns-clause-region g c = c.in_ok-came.ensures.region

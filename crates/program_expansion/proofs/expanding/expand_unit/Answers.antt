@@ -18,7 +18,7 @@ use Rattle.unit_scopes.specs.Opened.{AreNumbered}
 use Rattle.unit_scopes.specs.State.{is_program}
 use Rattle.unit_scopes.specs.declared.scope.Imported.{Imported}
 use Rattle.unit_scopes.proofs.ImportLaws.{same_trees}
-use Rattle.unit_scopes.proofs.OutcomeLaws.{trees_on}
+use Rattle.unit_scopes.proofs.OutcomeLaws.{grows_on, trees_on}
 use Rattle.form_expansion.specs.Begun.{IsImport}
 use Rattle.program_leaves.specs.Formed.{IsFormed}
 use Rattle.program_expansion.specs.UnitResults.{expanded_after, with_unit}
@@ -26,7 +26,7 @@ use Rattle.form_expansion.specs.Forms.{AreFormed, Unfolds}
 use Rattle.program_expansion.specs.UnitsFound.{in_the_end}
 use Rattle.document_units.specs.UnitFindings.{IsFoundOf}
 use Rattle.document_units.specs.WereRead.{WereRead}
-use Rattle.form_expansion.proofs.BenchLaws.{bench_in}
+use Rattle.form_expansion.proofs.BenchLaws.{bench_in, grows_named, grows_twice}
 use Rattle.program_expansion.proofs.ImportedNames.{are_numbered}
 use Rattle.program_expansion.proofs.CameKept.{libraries_kept}
 use Rattle.unit_imports.proofs.MeaningLaws.{entries_kept, mean_kept, names_on}
@@ -223,3 +223,54 @@ returns-in-None-clause-libraries g c = λ known knows. c.in_ok-expanded.ensures.
 
 pub returns-in_ok-came-in-Some-clause-libraries : goal.returns-in_ok-came-in-Some-clause-libraries
 returns-in_ok-came-in-Some-clause-libraries g c = λ known knows. c.in_ok-expanded.ensures.stays.libraries known (c.in_ok-begin_unit.ensures.knows known knows)
+
+-- ---- what the work keeps, whatever is answered
+
+pub returns-in_err-imports-clause-grows : goal.returns-in_err-imports-clause-grows
+returns-in_err-imports-clause-grows g c =
+    let b = c.args.bench.now in grows_named b.work c.imported.new.work b.region c.imported.ensures.trees c.imported.ensures.names
+
+pub returns-in_err-begin_unit-clause-grows : goal.returns-in_err-begin_unit-clause-grows
+returns-in_err-begin_unit-clause-grows g c =
+    let b = c.args.bench.now in
+    grows_twice b.work c.imported.new.work c.begin_unit.new.work b.region c.imported.ensures.trees c.imported.ensures.names c.begin_unit.ensures.trees c.begin_unit.ensures.names
+
+pub returns-in_err-expanded-clause-grows : goal.returns-in_err-expanded-clause-grows
+returns-in_err-expanded-clause-grows g c =
+    let b = c.args.bench.now in
+    grows_on b.work c.begin_unit.new.work c.expand_forms.new.bench.work b.region
+    (grows_twice b.work c.imported.new.work c.begin_unit.new.work b.region c.imported.ensures.trees c.imported.ensures.names c.begin_unit.ensures.trees c.begin_unit.ensures.names) c.expand_forms.ensures.grows
+
+pub returns-in-None-clause-grows : goal.returns-in-None-clause-grows
+returns-in-None-clause-grows g c =
+    let b = c.args.bench.now in
+    grows_on b.work c.begin_unit.new.work c.expand_forms.new.bench.work b.region
+    (grows_twice b.work c.imported.new.work c.begin_unit.new.work b.region c.imported.ensures.trees c.imported.ensures.names c.begin_unit.ensures.trees c.begin_unit.ensures.names) c.expand_forms.ensures.grows
+
+pub returns-in_err-forms-in-Some-clause-grows : goal.returns-in_err-forms-in-Some-clause-grows
+returns-in_err-forms-in-Some-clause-grows g c =
+    let b = c.args.bench.now in
+    grows_on b.work c.begin_unit.new.work c.expand_forms.new.bench.work b.region
+    (grows_twice b.work c.imported.new.work c.begin_unit.new.work b.region c.imported.ensures.trees c.imported.ensures.names c.begin_unit.ensures.trees c.begin_unit.ensures.names) c.expand_forms.ensures.grows
+
+pub returns-in_err-came-in-Some-clause-grows : goal.returns-in_err-came-in-Some-clause-grows
+returns-in_err-came-in-Some-clause-grows g c =
+    let b = c.args.bench.now in let w = c.expand_forms.new.bench.work in
+    grows_on b.work w c.finished.new.work b.region
+    (grows_on b.work c.begin_unit.new.work w b.region
+    (grows_twice b.work c.imported.new.work c.begin_unit.new.work b.region c.imported.ensures.trees c.imported.ensures.names c.begin_unit.ensures.trees c.begin_unit.ensures.names) c.expand_forms.ensures.grows)
+    (grows_named w c.finished.new.work b.region c.finished.ensures.trees c.finished.ensures.names)
+
+pub returns-in_ok-came-in-Some-clause-grows : goal.returns-in_ok-came-in-Some-clause-grows
+returns-in_ok-came-in-Some-clause-grows g c =
+    let b = c.args.bench.now in let w = c.expand_forms.new.bench.work in
+    grows_on b.work w c.finished.new.work b.region
+    (grows_on b.work c.begin_unit.new.work w b.region
+    (grows_twice b.work c.imported.new.work c.begin_unit.new.work b.region c.imported.ensures.trees c.imported.ensures.names c.begin_unit.ensures.trees c.begin_unit.ensures.names) c.expand_forms.ensures.grows)
+    (grows_named w c.finished.new.work b.region c.finished.ensures.trees c.finished.ensures.names)
+
+pub returns-in-None-clause-region : goal.returns-in-None-clause-region
+returns-in-None-clause-region g c = c.in_ok-expanded.ensures.stays.region
+
+pub returns-in_ok-came-in-Some-clause-region : goal.returns-in_ok-came-in-Some-clause-region
+returns-in_ok-came-in-Some-clause-region g c = c.in_ok-expanded.ensures.stays.region

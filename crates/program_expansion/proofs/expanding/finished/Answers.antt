@@ -20,7 +20,8 @@ use Rattle.unit_imports.specs.SetsGiven.{ImportsAs}
 use Rattle.program_findings.specs.StandIn.{StandIn}
 use Rattle.program_expansion.specs.UnitsFound.{no_import_diagnostics}
 use Rattle.document_units.specs.declared.findings.Finding.{Finding}
-use Rattle.program_expansion.proofs.CameKept.{came_of, definitions_kept, finds_kept}
+use Rattle.program_expansion.proofs.CameKept.{came_of, finds_kept}
+use Rattle.program_expansion.proofs.NamesKept.{definitions_kept}
 use Rattle.unit_imports.proofs.MeaningLaws.{entries_kept, mean_kept, names_itself}
 use Rattle.program_expansion.proofs.UnitLaws.{formed_known, formed_in, known_kept}
 use Rattle.program_expansion.proofs.UnitsFoundLaws.{all_found}
@@ -79,7 +80,7 @@ returns-clause-came c = λ spelled us q p imports fs own source libraries are ma
     let used = c.in_ok-used.ensures.exact spelled us q.units libraries p.specs (source.imports refl) find (subst (λ (es : List Entry). FindsNames old.symbols es find) (sym c.as_slice-3.ensures.value) finds) p.exports source.exports source.single in
     let exports = c.in_ok-exports.ensures.exact new.symbols find (subst (λ (es : List Entry). FindsNames new.symbols es find) (sym c.as_slice-5.ensures.value) (finds_kept old.symbols new.symbols keeps names find finds)) p.exports source.exports in
     came_of us q p imports fs new _ unit own (entries_kept old.symbols new.symbols keeps c.args.given.joined.entries.items imports.0 are) (forms_on old new trees keeps unit c.args.forms (with_refused p.number 0 p.forms fs) 0 stand) many
-    (definitions_kept old new trees keeps (reverse (definitions_from 0 c.args.forms)) (defined_by unit q.table) told) used exports (c.in_ok-seconds.ensures spelled p.specs (subst (λ (ss : List ImportSpec). AllMatch (IsSpec spelled) ss p.specs) (sym c.as_slice-4.ensures) (source.imports refl)))
+    (definitions_kept old.symbols new.symbols keeps (reverse (definitions_from 0 c.args.forms)) (defined_by unit q.table) told) used exports (c.in_ok-seconds.ensures spelled p.specs (subst (λ (ss : List ImportSpec). AllMatch (IsSpec spelled) ss p.specs) (sym c.as_slice-4.ensures) (source.imports refl)))
 
 pub returns-clause-finds : goal.returns-clause-finds
 returns-clause-finds c = λ spelled q p imports fs own source are stand told reads ends r places at unit_is sets.
@@ -108,7 +109,7 @@ returns-clause-finds c = λ spelled q p imports fs own source are stand told rea
     let forms = subst (λ (cs : List UnitForm). FormsStand old unit 0 cs all) (sym c.as_slice-slice.ensures) stand in
     let faults = c.in_ok-add_faults.ensures.exact reads ends old all places keeps forms in
     let hiding = c.in_ok-add_hiding.ensures.exact reads ends q.table imports.0 places
-    (subst (λ (bs : List (ℕ × Binder)). AreDefinitions new.symbols (reverse bs) (defined_by unit q.table)) (sym is_too) (definitions_kept old new trees keeps (reverse (definitions_from 0 c.args.forms)) (defined_by unit q.table) told))
+    (subst (λ (bs : List (ℕ × Binder)). AreDefinitions new.symbols (reverse bs) (defined_by unit q.table)) (sym is_too) (definitions_kept old.symbols new.symbols keeps (reverse (definitions_from 0 c.args.forms)) (defined_by unit q.table) told))
     (entries_kept old.symbols new.symbols keeps c.args.given.joined.entries.items imports.0 are) old all forms in
     let unbound = c.in_ok-add_unbound_if.ensures.exact reads ends old unit all places keeps forms in
     let none = c.in_ok-add_no_import.ensures.exact spelled reads ends r places at (subst (λ (x : Prepared). ImportsAs spelled c.args.source.now x) (sym unit_is) (record { kind = source.kind; forms = source.forms; specs = source.imports refl })) in

@@ -1,5 +1,5 @@
 -- A unit that is broken as a whole has blank forms, and is told by what breaks it.
-use Rattle.std.proofs.Common.{◌≡◌, ℕ, Option, Some, length, refl, sym, ap, ◌∙◌, subst}
+use Rattle.std.proofs.Common.{◌≡◌, ℕ, Option, length, refl, sym, ap, ◌∙◌, subst}
 use Rattle.std.specs.Prelude.{unwrap_or}
 use Rattle.std.proofs.lemmas.Option.{same_Some, slice_get_read}
 use Rattle.scheme_model.specs.Program.{result_at}

@@ -1,5 +1,5 @@
 -- It came so, or is broken as a whole.
-use Rattle.std.proofs.Common.{◌≡◌, Option, subst}
+use Rattle.std.proofs.Common.{Option, subst}
 use Rattle.program_expansion.specs.UnitsFound.{IsTold}
 use Rattle.unit_imports.specs.declared.expanded.Expanded.{Expanded}
 use Rattle.program_expansion.proofs.program.came_to.Goals as goal

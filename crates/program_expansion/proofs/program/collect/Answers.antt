@@ -53,7 +53,7 @@ loop-place-init c = record {
   findings = omega (arith, c.in_ok-findings.ensures.count, c.len.ensures);
   errors = subst (λ (es : List (Option (At × ℕ))). AreErrorsIn (vec_len c.args.documents) es) (sym c.new-first_errors.ensures.items) (errors_none (vec_len c.args.documents));
   count = ap (λ (us : List CodeUnit). length us) c.new-program.ensures;
-  formed = subst (λ (us : List CodeUnit). AreFormedIn c.args.work us) (sym c.new-program.ensures) (formed_none c.args.work);
+  formed = λ work formed. subst (λ (us : List CodeUnit). AreFormedIn work us) (sym c.new-program.ensures) (formed_none work);
   told = λ rs p tokens told. none_told rs p c.in_ok-findings.findings.items c.new-program.result c.new-first_errors.result.items c.in_ok-findings.ensures.kept c.new-program.ensures c.new-first_errors.ensures.items;
   untouched = λ k le. refl;
   collected =
@@ -101,7 +101,6 @@ pub loop-place-preserved : goal.loop-place-preserved
 loop-place-preserved c =
     let t = turn (goal.at.loop-place-preserved c).In-Some in
     let l = c.loop-place in
-    let work = c.args.work in
     let count = vec_len c.args.documents in
     let hs = l.heads.items in
     let h = c.index_mut.result.now in
@@ -110,16 +109,17 @@ loop-place-preserved c =
     let same : c.in_ok-came.came.findings.items ≡ c.as_slice-in-loop-place-3.result.now = cc (c.in_ok-unit.ensures.findings, c.as_slice-in-loop-place-3.ensures.value) in
     let found = subst (λ (n : ℕ). AreFoundIn n c.as_slice-in-loop-place-3.result.now) c.as_slice.ensures.len
     (subst (λ (fs : List Finding). AreFoundIn (length c.as_slice.result.now) fs) same c.in_ok-came.ensures.found) in
-    let came : IfSome c.in-Some.came (λ (e : Expanded). IsFormed work c.in-Some.place e.forms) = subst (λ (n : ℕ). IfSome c.in-Some.came (λ (e : Expanded). IsFormed work n e.forms)) (sym t.0)
-    (formed_at work c.args.expanded.items (length l.yielded) c.in-Some.came c.requires.formed t.1) in
     let pushed = c.in_ok-push-2.ensures.ok in
     record {
       heads = head_set c.args.units.heads.items hs c.in-Some.place h c.unit_of.new.head l.invariant.heads (slice_get_read hs (length hs) c.in-Some.place h refl within c.index_mut.ensures.value) c.unit_of.ensures.head;
       findings = c.in_ok-add.ensures.count ∙ l.invariant.findings;
       errors = errors_more count l.first_errors.items c.push.new.self.items c.first_error.result c.in_ok-push.ensures.items (c.first_error.ensures.inside count found) l.invariant.errors;
       count = omega (arith, ap (λ (us : List CodeUnit). length us) pushed, length_push l.program c.in_ok-unit.unit, length_push l.yielded (c.in-Some.place, c.in-Some.came), l.invariant.count);
-      formed = formed_more work l.program c.push-in-loop-place.new.self c.in_ok-unit.unit c.in-Some.place pushed (l.invariant.count ∙ sym t.0)
-          (subst (λ (fs : List UnitForm). IsFormed work c.in-Some.place fs) (sym c.in_ok-unit.ensures.forms) (c.in_ok-came.ensures.formed work came)) l.invariant.formed;
+      formed = λ work formed.
+          let came : IfSome c.in-Some.came (λ (e : Expanded). IsFormed work c.in-Some.place e.forms) = subst (λ (n : ℕ). IfSome c.in-Some.came (λ (e : Expanded). IsFormed work n e.forms)) (sym t.0)
+          (formed_at work c.args.expanded.items (length l.yielded) c.in-Some.came formed t.1) in
+          formed_more work l.program c.push-in-loop-place.new.self c.in_ok-unit.unit c.in-Some.place pushed (l.invariant.count ∙ sym t.0)
+          (subst (λ (fs : List UnitForm). IsFormed work c.in-Some.place fs) (sym c.in_ok-unit.ensures.forms) (c.in_ok-came.ensures.formed work came)) (l.invariant.formed work formed);
       told = λ rs p tokens told.
           let n = length l.yielded in
           let o = c.in-Some.came in
@@ -192,3 +192,6 @@ pub returns-clause-firsts : goal.returns-clause-firsts
 returns-clause-firsts c = λ rs p tokens told.
     let all = done (goal.at.returns-clause-firsts c).In-None in
     firsts_all rs p (length c.loop-place.yielded) c.loop-place.findings.items c.loop-place.program c.loop-place.first_errors.items (all ∙ told.count) (c.loop-place.invariant.told rs p tokens told)
+
+pub returns-clause-formed : goal.returns-clause-formed
+returns-clause-formed c = λ work formed. c.loop-place.invariant.formed work formed

@@ -1,6 +1,8 @@
 use Rattle.std.proofs.Common.{◌≡◌, ℕ, ◌≤◌, List, length, map, slice_get, vec_len}
 use Rattle.document_units.specs.Belongs.{AreErrorsIn}
 use Rattle.program_leaves.specs.Formed.{AreFormedIn}
+use Rattle.syntax_tree.specs.declared.trees.Work.{Work}
+use Rattle.program_expansion.specs.Formed.{CameFormed}
 use Rattle.scheme_model.specs.Program.{Program}
 use Rattle.document_units.specs.Places.{HeadsStay, HaveTokens}
 use Rattle.document_units.specs.Readings.{Read}
@@ -17,7 +19,7 @@ invariant-loop-place l = record {
   findings : vec_len l.findings ≡ vec_len l.documents;
   errors : AreErrorsIn (vec_len l.documents) l.first_errors.items;
   count : length l.program ≡ length l.yielded;
-  formed : AreFormedIn l.work l.program;
+  formed : (work : Work) → CameFormed work l.fn.expanded.items → AreFormedIn work l.program;
   told : (rs : List Read) (p : Program) → HaveTokens l.documents.items rs → AreTold rs p l.fn.units.heads.items l.fn.expanded.items → AreToldTo rs p (length l.yielded) l.findings.items l.program l.first_errors.items;
   untouched : (k : ℕ) → length l.yielded ≤ k → slice_get l.heads.items k ≡ slice_get l.fn.units.heads.items k;
   collected : AreCollectedSo (map (λ (d : Document). d.uri) l.documents.items) l.fn.units.heads.items l.sources.items l.fn.expanded.items l.program;

@@ -22,10 +22,12 @@ use Rattle.document_units.proofs.HeadsKept.{heads_kept}
 use Rattle.program_expansion.proofs.TokensAlike.{have_tokens, uris_are}
 use Rattle.macro_uses.proofs.ProgramUses.{program_counts}
 use Rattle.program_expansion.proofs.TurnUses.{uses_by_turns}
+use Rattle.syntax_tree.specs.Works.{IsOpened}
+use Rattle.program_expansion.proofs.WorkKept.{trees_begun, names_begun, trees_worked, names_worked}
 use Rattle.program_expansion.proofs.program.read_program.Goals as goal
 
-pub work_on-requires : goal.work_on-requires
-work_on-requires g c = subst (λ (ds : List Document). AreReadIn ds) (sym c.as_slice.ensures.value) c.in_ok-documents.ensures.read
+pub work_on-came-requires-clause-read : goal.work_on-came-requires-clause-read
+work_on-came-requires-clause-read g c = subst (λ (ds : List Document). AreReadIn ds) (sym c.as_slice.ensures.value) c.in_ok-documents.ensures.read
 
 pub collect-requires-clause-units : goal.collect-requires-clause-units
 collect-requires-clause-units g c = subst (λ (n : ℕ). IsSound n c.in_ok-worked.worked.units) c.as_slice.ensures.len c.in_ok-worked.ensures.units
@@ -59,7 +61,7 @@ returns-clause-reading g c =
         };
       };
       findings = omega (arith, c.in_ok-collect.ensures.findings, as_many, r.findings.ok.0);
-      formed = c.in_ok-collect.ensures.formed;
+      formed = c.in_ok-collect.ensures.formed c.work_on-came.new.bench.work c.in_ok-worked.ensures.formed;
       found = λ rs are. c.in_ok-collect.ensures.found (entries texts) rs c.in_ok-documents.ensures.documents are (tokens rs are) (told rs are);
       program = λ rs are.
           let ds = map data_in rs in
@@ -72,10 +74,10 @@ returns-clause-reading g c =
           let errors = c.in_ok-collect.ensures.told rs (program_in rs) (tokens rs are) (told rs are) in
           let sound = c.in_ok-worked.ensures.units in
           let many : length ws.units.heads.items ≡ length us = omega (arith, c.in_ok-worked.ensures.count, up.count, ws.units.heads.ok.0, ws.expanded.ok.0) in
-          let stands = program_stands library_text uris us known ws.bench.work written.0 ws.units.heads.items ws.units.sources.items ws.expanded.items r.program.units c.in_ok-collect.ensures.collected up.count many (sound.sources ∙ many) up.come up.sources hs
+          let stands = program_stands library_text uris us known c.work_on-came.new.bench.work written.0 ws.units.heads.items ws.units.sources.items ws.expanded.items r.program.units c.in_ok-collect.ensures.collected up.count many (sound.sources ∙ many) up.come up.sources hs
           (subst (λ (p : Program). HaveErrors r.program.units p.units) (sym law) errors) in
-          subst (λ (vs : List (List ℕ)). ProgramStands r.work library_text vs us r.program (program_in rs)) (uris_are (entries texts) docs c.in_ok-documents.ensures.documents)
-          (subst (λ (w : Work). ProgramStands w library_text uris us r.program (program_in rs)) (sym c.in_ok-collect.ensures.work) (subst (λ (p : Program). ProgramStands ws.bench.work library_text uris us r.program p) law stands));
+          subst (λ (vs : List (List ℕ)). ProgramStands c.work_on-came.new.bench.work library_text vs us r.program (program_in rs)) (uris_are (entries texts) docs c.in_ok-documents.ensures.documents)
+          (subst (λ (p : Program). ProgramStands c.work_on-came.new.bench.work library_text uris us r.program p) law stands);
     }
 
 pub returns-clause-steps : goal.returns-clause-steps
@@ -86,3 +88,47 @@ returns-clause-steps g c = λ rs are.
     let written = standard.told in
     let have : HaveData ds c.as_slice.result.now = subst (λ (xs : List Document). HaveData ds xs) (sym c.as_slice.ensures.value) (documents_data (entries c.args.store.now) c.in_ok-documents.documents.items rs c.in_ok-documents.ensures.documents are) in
     c.in_ok-worked.ensures.steps ds have written.0 written.1 written.2 ∙ ap (λ (n : ℕ). c.args.steps.now + n) (sym (uses_by_turns us known) ∙ program_counts ds)
+
+pub work_on-came-requires-clause-region : goal.work_on-came-requires-clause-region
+work_on-came-requires-clause-region g c =
+    subst (λ (w : Work). IsOpened w c.in_ok-region.region) (sym c.replace.ensures.value) (c.in_ok-scope.ensures.grows.trees.regions c.in_ok-region.region c.in_ok-region.ensures.opened)
+
+-- ---- what stood before
+
+pub returns-in_err-scope-clause-trees : goal.returns-in_err-scope-clause-trees
+returns-in_err-scope-clause-trees g c =
+    trees_begun c.args.work.now c.open_region.new.self c.begin.new.work c.in_ok-region.region c.open_region.ensures.keeps c.open_region.ensures.symbols c.begin.ensures.grows
+
+pub returns-in_err-scope-clause-names : goal.returns-in_err-scope-clause-names
+returns-in_err-scope-clause-names g c =
+    names_begun c.args.work.now c.open_region.new.self c.begin.new.work c.in_ok-region.region c.open_region.ensures.keeps c.open_region.ensures.symbols c.begin.ensures.grows
+
+pub returns-in_err-worked-clause-trees : goal.returns-in_err-worked-clause-trees
+returns-in_err-worked-clause-trees g c =
+    trees_worked c.args.work.now c.open_region.new.self c.begin.new.work c.in_ok-region.region c.open_region.ensures.keeps c.open_region.ensures.symbols c.begin.ensures.grows
+    c.replace.result c.work_on-came.new.bench.work c.in_ok-region.region c.replace.ensures.value c.work_on-came.ensures.grows
+
+pub returns-in_err-worked-clause-names : goal.returns-in_err-worked-clause-names
+returns-in_err-worked-clause-names g c =
+    names_worked c.args.work.now c.open_region.new.self c.begin.new.work c.in_ok-region.region c.open_region.ensures.keeps c.open_region.ensures.symbols c.begin.ensures.grows
+    c.replace.result c.work_on-came.new.bench.work c.in_ok-region.region c.replace.ensures.value c.work_on-came.ensures.grows
+
+pub returns-in_err-collect-clause-trees : goal.returns-in_err-collect-clause-trees
+returns-in_err-collect-clause-trees g c =
+    trees_worked c.args.work.now c.open_region.new.self c.begin.new.work c.in_ok-region.region c.open_region.ensures.keeps c.open_region.ensures.symbols c.begin.ensures.grows
+    c.replace.result c.work_on-came.new.bench.work c.in_ok-region.region c.replace.ensures.value c.work_on-came.ensures.grows
+
+pub returns-in_err-collect-clause-names : goal.returns-in_err-collect-clause-names
+returns-in_err-collect-clause-names g c =
+    names_worked c.args.work.now c.open_region.new.self c.begin.new.work c.in_ok-region.region c.open_region.ensures.keeps c.open_region.ensures.symbols c.begin.ensures.grows
+    c.replace.result c.work_on-came.new.bench.work c.in_ok-region.region c.replace.ensures.value c.work_on-came.ensures.grows
+
+pub returns-clause-trees : goal.returns-clause-trees
+returns-clause-trees g c =
+    trees_worked c.args.work.now c.open_region.new.self c.begin.new.work c.in_ok-region.region c.open_region.ensures.keeps c.open_region.ensures.symbols c.begin.ensures.grows
+    c.replace.result c.work_on-came.new.bench.work c.in_ok-region.region c.replace.ensures.value c.work_on-came.ensures.grows
+
+pub returns-clause-names : goal.returns-clause-names
+returns-clause-names g c =
+    names_worked c.args.work.now c.open_region.new.self c.begin.new.work c.in_ok-region.region c.open_region.ensures.keeps c.open_region.ensures.symbols c.begin.ensures.grows
+    c.replace.result c.work_on-came.new.bench.work c.in_ok-region.region c.replace.ensures.value c.work_on-came.ensures.grows

@@ -1,5 +1,5 @@
 -- The unit has what it came to, and its document's uri.
-use Rattle.std.proofs.Common.{◌≡◌, ◌∙◌, Some, length, map, refl, ap, sym, arith}
+use Rattle.std.proofs.Common.{◌∙◌, Some, length, refl, ap, sym}
 use Rattle.std.proofs.lemmas.Option.{slice_get_read}
 use Rattle.document_units.specs.Findings.{errors_in}
 use Rattle.document_units.specs.declared.documents.Document.{Document}

@@ -46,11 +46,11 @@ judge-requires-clause-named g c = λ s. c.in_ok-firsts.ensures.named s ∙ ap (�
 
 pub expand_all-requires-clause-bench : goal.expand_all-requires-clause-bench
 expand_all-requires-clause-bench g c = record {
-  region = c.in_ok-bench.ensures.region;
+  region = c.requires.region;
   layout = [] ∷ [];
   state = prelude_state prelude;
   notes = [];
-  stands = c.know.ensures.rests c.in_ok-bench.bench.work ([] ∷ []) (prelude_state prelude) [] c.in_ok-bench.ensures.stands;
+  stands = c.know.ensures.rests c.args.bench.now.work ([] ∷ []) (prelude_state prelude) [] c.requires.stands;
 }
 
 pub expand_all-requires-clause-units : goal.expand_all-requires-clause-units
@@ -76,7 +76,7 @@ pub expand_all-requires-clause-new : goal.expand_all-requires-clause-new
 expand_all-requires-clause-new g c = λ unit is.
     let here : is_in unit c.in_ok-order.order ≡ true = sym (ap (λ (ps : List ℕ). is_in unit ps) c.as_slice-2.ensures) ∙ is in
     let below : unit < max_units = c.in_ok-order.ensures.few.within unit here in
-    ap (λ (s : UnitScope). finite.get s.env.roots unit) c.know.ensures.after ∙ c.in_ok-bench.ensures.new unit (λ (same : unit ≡ prelude_unit). absurd (omega arith))
+    ap (λ (s : UnitScope). finite.get s.env.roots unit) c.know.ensures.after ∙ c.requires.new unit (λ (same : unit ≡ prelude_unit). absurd (omega arith))
 
 pub returns-clause-units : goal.returns-clause-units
 returns-clause-units g c =
@@ -105,7 +105,7 @@ returns-clause-up g c = λ ds have spelled spells written.
     let sources : AreSourcesOf spelled us v.sources.items = forgotten_sources spelled us v.heads.items u.sources.items v.sources.items listed.read heads c.in_ok-order.ensures.forgotten in
     let goes : GoesOn _ scoped_before = record {
       state = prelude_state prelude;
-      stands = record { layout = [] ∷ []; notes = []; stands = c.know.ensures.rests c.in_ok-bench.bench.work ([] ∷ []) (prelude_state prelude) [] c.in_ok-bench.ensures.stands };
+      stands = record { layout = [] ∷ []; notes = []; stands = c.know.ensures.rests c.args.bench.now.work ([] ∷ []) (prelude_state prelude) [] c.requires.stands };
       continues = prelude_continues;
     } in
     c.in_ok-expanded.ensures.up spelled us (known_in ds) (c.as_slice-2.ensures ∙ c.in_ok-order.ensures.turns spelled spells us listed.units listed.listed) many finds knows goes heads sources
@@ -125,7 +125,7 @@ returns-clause-steps g c = λ ds have spelled spells written.
     let sources : AreSourcesOf spelled us v.sources.items = forgotten_sources spelled us v.heads.items u.sources.items v.sources.items listed.read heads c.in_ok-order.ensures.forgotten in
     let goes : GoesOn _ scoped_before = record {
       state = prelude_state prelude;
-      stands = record { layout = [] ∷ []; notes = []; stands = c.know.ensures.rests c.in_ok-bench.bench.work ([] ∷ []) (prelude_state prelude) [] c.in_ok-bench.ensures.stands };
+      stands = record { layout = [] ∷ []; notes = []; stands = c.know.ensures.rests c.args.bench.now.work ([] ∷ []) (prelude_state prelude) [] c.requires.stands };
       continues = prelude_continues;
     } in
     c.in_ok-expanded.ensures.steps spelled us (known_in ds) (c.as_slice-2.ensures ∙ c.in_ok-order.ensures.turns spelled spells us listed.units listed.listed) many finds knows goes heads sources
@@ -151,7 +151,7 @@ returns-clause-told g c = λ texts reads documents read.
     let sources : AreSourcesOf spelled us v.sources.items = forgotten_sources spelled us v.heads.items u.sources.items v.sources.items listed.read heads c.in_ok-order.ensures.forgotten in
     let goes : GoesOn _ scoped_before = record {
       state = prelude_state prelude;
-      stands = record { layout = [] ∷ []; notes = []; stands = c.know.ensures.rests c.in_ok-bench.bench.work ([] ∷ []) (prelude_state prelude) [] c.in_ok-bench.ensures.stands };
+      stands = record { layout = [] ∷ []; notes = []; stands = c.know.ensures.rests c.args.bench.now.work ([] ∷ []) (prelude_state prelude) [] c.requires.stands };
       continues = prelude_continues;
     } in
     let known = known_in ds in

@@ -13,7 +13,7 @@ returns-in_ok-of-in-Some c = λ rs are.
     let told = sym (c.unreadable.ensures rs are) ∙ ap (option_map (λ uri. uri.now)) c.in-Some.is in
     let o = first_unread 0 (map reading_of rs) in
     document_refuses _ c.args.ws.now.encoding ds c.in-Some.uri.now o Unreadable _
-    (subst (λ (u : Option (List ℕ)). IsNumbered 0 ds u o) told (unread_one 0 ds rs are)) (λ m q. (m, refl, c.in_ok-of.ensures ∙ q))
+    (subst (λ (u : Option (List ℕ)). IsNumbered 0 ds u o) told (unread_one 0 ds rs are)) (λ m q. (m, refl, c.in_ok-of-in-Some.ensures ∙ q))
 
 pub returns-in-None : goal.returns-in-None
 returns-in-None c = λ rs are.

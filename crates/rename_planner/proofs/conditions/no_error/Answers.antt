@@ -24,9 +24,9 @@ returns-in-Some c = λ rs are.
     let u = get_or units i 0 in
     let lt : i < length units = omega arith in
     let at : result_at (program_in rs).units u ≡ slice_get (program_in rs).units u =
-      at_number c.args.ws.now.expansion.work library_text (map (λ d. d.0) ds) (units_of (map data_in rs)) (program_in rs) u c.program-program.result.now.units (program_in rs).units (c.program-program.ensures.of_texts rs are) in
+    at_number c.args.ws.now.expansion.work library_text (map (λ d. d.0) ds) (units_of (map data_in rs)) (program_in rs) u c.program-program.result.now.units (program_in rs).units (c.program-program.ensures.of_texts rs are) in
     let told = subst (IsErrorAt e ds (first_error_at rs (program_in rs) (slice_get (program_in rs).units u))) c.in-Some.is (c.in_ok-place.ensures.exact rs are) in
-    subst (λ (xs : List Diagnostic). ComesTo e ds Holds (unless (first_of xs) broken) (Err (faults.BrokenUnit c.in-Some.field-0.place c.in-Some.field-0.code)))
+    subst (λ (xs : List Diagnostic). ComesTo {B = Unit {0}} e ds Holds (unless (first_of xs) broken) (Err (faults.BrokenUnit c.in-Some.field-0.place c.in-Some.field-0.code)))
     (sym (found_first (read_as ds rs) units i u lt (any_default units i 0 u lt) (c.loop-unit.invariant rs are)))
     (refuses e ds rs u (errors_in (read_as ds rs) (drop (i + 1) units)) c.in-Some.field-0 at told)
 
@@ -39,7 +39,7 @@ loop-unit-preserved c = λ rs are.
     let u = get_or units i 0 in
     let lt : i < length units = omega arith in
     let at : result_at (program_in rs).units u ≡ slice_get (program_in rs).units u =
-      at_number c.args.ws.now.expansion.work library_text (map (λ d. d.0) ds) (units_of (map data_in rs)) (program_in rs) u c.program-program.result.now.units (program_in rs).units (c.program-program.ensures.of_texts rs are) in
+    at_number c.args.ws.now.expansion.work library_text (map (λ d. d.0) ds) (units_of (map data_in rs)) (program_in rs) u c.program-program.result.now.units (program_in rs).units (c.program-program.ensures.of_texts rs are) in
     let told = subst (IsErrorAt e ds (first_error_at rs (program_in rs) (slice_get (program_in rs).units u))) c.in_default.is (c.in_ok-place.ensures.exact rs are) in
     none_more (read_as ds rs) units i u lt (any_default units i 0 u lt) (c.loop-unit.invariant rs are) (no_errors e ds rs u at told)
 

@@ -12,10 +12,10 @@ pub returns-in-Some : goal.returns-in-Some
 returns-in-Some c = λ rs o are at.
     let ds = entries c.args.ws.now.texts in
     refused _ c.args.ws.now.encoding ds (first_of (standard_names (read_as ds rs) o)) IsStandard _ _
-    (standard_first ds rs o ∙ ap (standard_for (facts_in rs)) (sym at) ∙ sym (c.in_ok-standard_at.ensures rs are) ∙ c.in-Some.is) refl
+    (standard_first ds rs o ∙ ap (standard_for (facts_in rs)) (sym at) ∙ sym (c.in_ok-name.ensures rs are) ∙ c.in-Some.is) refl
 
 pub returns-in-None : goal.returns-in-None
 returns-in-None c = λ rs o are at.
     let ds = entries c.args.ws.now.texts in
     passes c.args.ws.now.encoding ds (first_of (standard_names (read_as ds rs) o)) IsStandard _
-    (standard_first ds rs o ∙ ap (standard_for (facts_in rs)) (sym at) ∙ sym (c.in_ok-standard_at.ensures rs are) ∙ c.in-None.is)
+    (standard_first ds rs o ∙ ap (standard_for (facts_in rs)) (sym at) ∙ sym (c.in_ok-name.ensures rs are) ∙ c.in-None.is)

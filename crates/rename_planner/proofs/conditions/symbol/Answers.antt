@@ -12,11 +12,11 @@ use Rattle.rename_planner.proofs.conditions.symbol.Goals as goal
 pub returns-in-Some : goal.returns-in-Some
 returns-in-Some c = λ e ds r is.
     let text = c.args.new_name.now in
-    let h = subst (λ (o : Option (List ℕ)). IfSome o (λ name. IsUtf8 name × IsIdentifier (chars name) (chars text) × (is_reserved name ≡ false))) c.in-Some.is c.in_ok-new_symbol.ensures.some in
+    let h = subst (λ (o : Option (List ℕ)). IfSome o (λ name. IsUtf8 name × IsIdentifier (chars name) (chars text) × (is_reserved name ≡ false))) c.in-Some.is c.in_ok-symbol.ensures.some in
     has e ds Same (new_symbol (r.symbol text)) BadName _ _ (symbol_told r is text _ h.0 h.1 h.2) refl
 
 pub returns-in-None : goal.returns-in-None
 returns-in-None c = λ e ds r is.
     let text = c.args.new_name.now in
-    let h = subst (λ (o : Option (List ℕ)). IfNone o ((name : List ℕ) → IsUtf8 name → IsIdentifier (chars name) (chars text) → is_reserved name ≡ true)) c.in-None.is c.in_ok-new_symbol.ensures.none in
+    let h = subst (λ (o : Option (List ℕ)). IfNone o ((name : List ℕ) → IsUtf8 name → IsIdentifier (chars name) (chars text) → is_reserved name ≡ true)) c.in-None.is c.in_ok-symbol.ensures.none in
     lacks e ds Same (new_symbol (r.symbol text)) BadName _ (no_symbol r is text h) refl

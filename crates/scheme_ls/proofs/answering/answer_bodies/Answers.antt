@@ -130,8 +130,8 @@ returns-in-WriteFailed-clause-counted g c =
     let new = sink_seen (g.O.Sink.taken c.answer_body.new.output) (g.O.Sink.faults c.answer_body.new.output) (g.O.Sink.writes c.answer_body.new.output) in
     let now = subst (λ (rest : List (Vec ℕ Global)). CountedSoFar c.args.session.now (contents all) (contents rest) c.loop-body.session old mid c.args.steps.now c.loop-body.steps)
     (at_item all i c.body-item.result c.loop-body-test.true c.body-item.is) c.loop-body.invariant.answered in
-    let one = subst (λ (body : List ℕ). CountsSome c.loop-body.session (body ∷ []) c.loop-body.steps c.answer_body.new.steps) c.deref.ensures.value c.in-WriteFailed.ensures.counted in
-    counted_some _ _ (contents all) (contents (drop (i + 1) all)) c.body-item.result.items old mid _ _ _ now one
+    let one = subst (λ (body : List ℕ). CountsSome c.loop-body.session (body ∷ []) (PrintsFront mid new) c.loop-body.steps c.answer_body.new.steps) c.deref.ensures.value c.in-WriteFailed.ensures.counted in
+    counted_some _ _ (contents all) (contents (drop (i + 1) all)) c.body-item.result.items old mid new _ _ _ now one
 
 pub returns-clause-counted : goal.returns-clause-counted
 returns-clause-counted g c =

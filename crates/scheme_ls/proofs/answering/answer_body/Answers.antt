@@ -38,8 +38,15 @@ returns-clause-answers g c =
 
 pub returns-in-Ok-write_replies-clause-counted : goal.returns-in-Ok-write_replies-clause-counted
 returns-in-Ok-write_replies-clause-counted g c =
-    subst (λ (end : BodiesEnd). BodiesCountAs c.args.session.now (c.args.body.now ∷ []) c.args.steps.now c.on_body.new.steps end) (sym c.body_end.ensures)
-    (end_counts c.args.session.now (c.args.body.now ∷ []) _ _ c.in-Ok.out.end (one_counted c.args.session.now c.args.body.now _ _ c.in-Ok.ensures.counted))
+    let old = sink_seen (g.O.Sink.taken c.args.output.now) (g.O.Sink.faults c.args.output.now) (g.O.Sink.writes c.args.output.now) in
+    let new = sink_seen (g.O.Sink.taken c.write_replies.new.output) (g.O.Sink.faults c.write_replies.new.output) (g.O.Sink.writes c.write_replies.new.output) in
+    subst (λ (end : BodiesEnd). BodiesCountAs c.args.session.now (c.args.body.now ∷ []) old new c.args.steps.now c.on_body.new.steps end) (sym c.body_end.ensures)
+    (end_counts c.args.session.now (c.args.body.now ∷ []) old new _ _ c.in-Ok.out.end (one_counted c.args.session.now c.args.body.now _ _ c.in-Ok.ensures.counted))
 
 pub returns-in-Err-Failed-clause-counted : goal.returns-in-Err-Failed-clause-counted
-returns-in-Err-Failed-clause-counted g c = one_counts_some c.args.session.now c.args.body.now _ _ c.in-Ok.ensures.counted
+returns-in-Err-Failed-clause-counted g c =
+    let old = sink_seen (g.O.Sink.taken c.args.output.now) (g.O.Sink.faults c.args.output.now) (g.O.Sink.writes c.args.output.now) in
+    let new = sink_seen (g.O.Sink.taken c.write_replies.new.output) (g.O.Sink.faults c.write_replies.new.output) (g.O.Sink.writes c.write_replies.new.output) in
+    let printed = subst (λ (stop : WriteStop). WritingEndsAs old new (frames_of c.as_slice.result.now) (Err stop)) c.in-Err-Failed.field-0-is c.in-Err-Failed.ensures in
+    let written = subst (λ (replies : List Reply). PrintsFront old new (frames_of replies)) c.as_slice.ensures printed in
+    one_counts_some _ _ c.args.body.now c.in-Ok.out (PrintsFront old new) _ _ c.in-Ok.ensures.step written c.in-Ok.ensures.counted

@@ -8,7 +8,7 @@ use Rattle.scheme_ls.specs.SessionOutput.{fault_log}
 use Rattle.scheme_ls.specs.Statuses.{said_exit}
 use Rattle.scheme_ls.specs.Streams.{streams}
 use Rattle.scheme_ls.specs.declared.replies.WriteStop.{WriteStop}
-use Rattle.scheme_ls.proofs.CountLaws.{all_then, all_yet, counts_more, first_of_all, first_then}
+use Rattle.scheme_ls.proofs.CountLaws.{all_then, all_yet, counts_more, first_then}
 use Rattle.scheme_ls.proofs.PieceEndsSession.{farewell_cut, farewell_lost, farewell_written, piece_cut, piece_exits, piece_lost, read_piece}
 use Rattle.scheme_ls.proofs.QuietLaws.{uncounted_more, uncounted_then, uncounted_yet}
 use Rattle.scheme_ls.proofs.ReadLaws.{read_some}
@@ -74,7 +74,7 @@ returns-in-WriteFailed g c =
     let read = read_piece old mid new server c.loop-taken.taken n room buffer c.loop-taken.invariant.going.so_far c.loop-taken-test.true c.in-Some.ensures.within.0 c.in-Some.ensures.within.1 size c.min-room.ensures c.in-Some.ensures.takes on c.in-Some.ensures.notes in
     piece_cut old mid new server next c.loop-taken.taken 1099511627776 n buffer c.loop-taken.invariant.going.so_far read
     (subst (λ (piece : List ℕ). AnswersInPiece server next piece (PrintsFront mid.sink new.sink)) whole c.in-WriteFailed.ensures.takes)
-    (first_then {old = old} {mid = mid} {server = server} {next = next} c.loop-taken.invariant.going.so_far c.loop-taken.invariant.going.counted whole c.in-WriteFailed.ensures.counted)
+    (first_then {old = old} {mid = mid} {server = server} {next = next} c.loop-taken.invariant.going.so_far new.sink c.loop-taken.invariant.going.counted whole c.in-WriteFailed.ensures.counted)
     (uncounted_then {old = old} {mid = mid} {server = server} c.loop-taken.invariant.going.so_far c.loop-taken.invariant.going.uncounted whole c.in-WriteFailed.ensures.steps)
 
 pub returns-in-NoMemory : goal.returns-in-NoMemory
@@ -142,7 +142,7 @@ returns-in-Err-Failed g c =
     farewell_cut old mid new sink server next c.loop-taken.taken 1099511627776 n buffer c.in-Faulty.fault c.loop-taken.invariant.going.so_far read
     (subst (λ (piece : List ℕ). TakesPiece server next piece (HasFault c.in-Faulty.fault) mid.sink new.sink) whole c.in-Faulty.ensures.takes)
     (subst (λ (stop : WriteStop). WritingEndsAs new.sink sink (frame_of_reply (fault_log c.in-Faulty.fault.number c.in-Faulty.fault.offset)) (Err stop)) c.in-Err-Failed.field-0-is c.in-Err-Failed.ensures)
-    (first_of_all (all_then {old = old} {mid = mid} {server = server} {next = next} c.loop-taken.invariant.going.so_far c.loop-taken.invariant.going.counted whole c.in-Faulty.ensures.counted))
+    (all_then {old = old} {mid = mid} {server = server} {next = next} c.loop-taken.invariant.going.so_far c.loop-taken.invariant.going.counted whole c.in-Faulty.ensures.counted)
     (uncounted_then {old = old} {mid = mid} {server = server} c.loop-taken.invariant.going.so_far c.loop-taken.invariant.going.uncounted whole c.in-Faulty.ensures.steps)
 
 pub returns-in-Err-Memory : goal.returns-in-Err-Memory

@@ -103,4 +103,4 @@ returns-in-Exited-clause-counted g c =
 
 pub returns-in-WriteFailed-clause-counted : goal.returns-in-WriteFailed-clause-counted
 returns-in-WriteFailed-clause-counted g c =
-    part_counts (serving c.args.self.now.deframer c.args.self.now.session) (serving c.cut_piece.new.deframer c.answer_bodies.new.session) _ _ c.in-Ok.cut.bodies _ _ c.in-Ok.ensures.feeds c.as_slice-bodies.ensures c.in-WriteFailed.ensures.counted
+    part_counts (serving c.args.self.now.deframer c.args.self.now.session) (serving c.cut_piece.new.deframer c.answer_bodies.new.session) _ _ c.in-Ok.cut.bodies _ _ _ c.in-Ok.ensures.feeds c.as_slice-bodies.ensures c.in-WriteFailed.ensures.counted

@@ -3,7 +3,7 @@ use Rattle.scheme_model.specs.Session.{State, Shut, with_mode}
 use Rattle.session_core.specs.Asked.{Nothing}
 use Rattle.session_core.proofs.session.Session.on_call.Goals as goal
 
-pub returns-in-Shutdown-clause-step : goal.returns-in-Shutdown-clause-step
-returns-in-Shutdown-clause-step c =
+pub returns-in_ok-out-in-Shutdown-clause-step : goal.returns-in_ok-out-in-Shutdown-clause-step
+returns-in_ok-out-in-Shutdown-clause-step g c =
     let says = c.in_ok-out-in-Shutdown.ensures Nothing refl in
     rw c.in-Shutdown.is (record { state = ap (λ (s : State). with_mode Shut s) c.self-in-Shutdown.view_is; replies = says.0; end = says.1 })

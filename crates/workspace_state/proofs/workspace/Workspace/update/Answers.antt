@@ -7,7 +7,7 @@ use Rattle.document_store.specs.Texts.{Texts, after}
 use Rattle.workspace_state.specs.Events.{event_of, fault_of, uri_of}
 use Rattle.document_units.specs.Listed.{AreFoundOf}
 use Rattle.workspace_state.specs.ProgramOfTexts.{IsProgramOfTexts}
-use Rattle.document_units.specs.Readings.{Read, AreReadAs}
+use Rattle.document_units.specs.Readings.{AreReadAs}
 use Rattle.workspace_state.specs.State.{State, AreListsFor}
 use Rattle.program_answers.specs.Updates.{ArePublished, OthersStay, Publishes, entries_shown, list_at}
 use Rattle.workspace_state.proofs.LeavesLaws.{left_texts, not_left, is_left_so}
