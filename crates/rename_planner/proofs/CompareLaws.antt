@@ -1,5 +1,5 @@
 -- The program that there is and that of edited texts can be compared, and what is found is told so.
-use Rattle.std.proofs.Common.{◌≡◌, ℕ, List, [], ◌∷◌, map, Option, Some, None, Result, Ok, Err, refl, sym, ap, ◌∙◌, subst}
+use Rattle.std.proofs.Common.{◌≡◌, ℕ, List, [], ◌∷◌, map, Option, Some, None, Ok, Err, refl, ap, ◌∙◌, subst}
 use Rattle.std.specs.FinMap.{entries}
 use Rattle.ls_base.specs.declared.answers.DocEdits.{DocEdits}
 use Rattle.ls_base.specs.declared.encoding.Encoding.{Encoding}
@@ -12,7 +12,7 @@ use Rattle.document_store.specs.Texts.{Document, Texts}
 use Rattle.document_units.specs.Readings.{Read, AreReadAs, data_in, program_in}
 use Rattle.program_answers.proofs.TextLists.{some_row}
 use Rattle.program_differences.specs.Both.{AreComparable}
-use Rattle.program_differences.specs.Differences.{AreOne, IsDifference}
+use Rattle.program_differences.specs.Differences.{AreOne}
 use Rattle.program_differences.specs.declared.plan.Difference as code
 use Rattle.rename_model.specs.Difference.{Difference}
 use Rattle.rename_laws.proofs.GivenLaws.{exports_are_given}

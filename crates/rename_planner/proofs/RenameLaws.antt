@@ -1,14 +1,12 @@
 -- What is planned and compared is the rename.
-use Rattle.std.proofs.Common.{◌≡◌, ◌+◌, ℕ, List, map, Bool, true, false, cond, Option, Some, None, Result, Ok, Err, refl, sym, ap, ◌∙◌, subst, arith}
+use Rattle.std.proofs.Common.{◌≡◌, ◌+◌, ℕ, List, map, Bool, true, false, cond, Option, Result, Ok, Err, refl, sym, ap, ◌∙◌, subst, arith}
 use Rattle.std.specs.FinMap.{entries}
-use Rattle.std.specs.Option.{ok_or}
 use Rattle.std.specs.Result.{IsErrAnd}
 use Rattle.ls_base.specs.declared.answers.DocEdits as told
 use Rattle.ls_base.specs.declared.encoding.Encoding.{Encoding}
 use Rattle.ls_base.specs.declared.places.Pos.{Pos}
 use Rattle.scheme_model.specs.declared.Occ.{Occ}
 use Rattle.scheme_model.specs.Program.{units_of}
-use Rattle.scheme_model.specs.Spelling.{is_joined}
 use Rattle.rename_model.specs.Difference.{Difference, first_difference}
 use Rattle.document_store.specs.Texts.{Document, Texts}
 use Rattle.document_units.specs.Readings.{Read, AreReadAs, data_in, program_in}
@@ -17,10 +15,9 @@ use Rattle.program_differences.specs.Differences.{plan_as}
 use Rattle.program_differences.specs.declared.plan.Difference as code
 use Rattle.program_differences.specs.Exported.{changes_as}
 use Rattle.program_expansion.specs.UsesInTurn.{uses_in}
-use Rattle.text_edits.specs.Members.{prefix_of, stem_of}
 use Rattle.rename_conditions.specs.Readers.{Reader, IsReader}
-use Rattle.rename_conditions.specs.Opened.{Opened, DocEdits, edited_in, edits_in, plan_in, program_read, told_edits}
-use Rattle.rename_conditions.specs.Renames.{Refusal, NotBound, IsStandard, BadName, Unreadable, PrefixLost, PrefixClash, TooLong, Differs, broken, ◌>>=◌, unless, first_of, joined_at, standard_names, new_symbol, first_unread, is_reserved, clashes, errors_in_reach, first_too_long, difference_by, rename_in}
+use Rattle.rename_conditions.specs.Opened.{Opened, edited_in, plan_in, program_read}
+use Rattle.rename_conditions.specs.Renames.{Refusal, Differs, ◌>>=◌, unless, difference_by, rename_in}
 use Rattle.workspace_state.specs.Edited.{edited_texts}
 use Rattle.workspace_state.proofs.EditedLaws.{edited_entries}
 use Rattle.rename_planner.specs.Planning.{ComesTo, Holds, IsPlanned, planned_in}

@@ -1,9 +1,9 @@
 -- The texts of libraries' names tell the libraries of two programs apart, and no two open documents have one uri.
-use Rattle.std.proofs.Common.{◌≡◌, ℕ, zero, suc, ◌==◌, List, [], ◌∷◌, ◌++◌, map, filter, Bool, true, false, cond, Option, Some, None, refl, sym, ap, ◌∙◌, subst, slice_get}
+use Rattle.std.proofs.Common.{◌≡◌, ℕ, suc, ◌==◌, List, [], ◌∷◌, map, filter, Bool, true, false, cond, Some, sym, subst}
 use Rattle.std.specs.Prelude.{not}
 use Rattle.scheme_model.specs.Data.{Datum}
 use Rattle.scheme_model.specs.Declarations.{UnitSource, behind_head, is_library, libraries_in, library_of, program_in, units_in}
-use Rattle.scheme_model.specs.Program.{Document, Placed, Prepared, Program, UnitResult, data_of, known_in, prepare, program_of, result_at, units_from, units_of}
+use Rattle.scheme_model.specs.Program.{Document, Placed, Prepared, UnitResult, data_of, known_in, prepare, program_of, result_at, units_from, units_of}
 use Rattle.scheme_model.specs.Requirements.{Known, LibraryName}
 use Rattle.scheme_tokens.specs.LibraryNames.{library_text, IsProper}
 use Rattle.scheme_tokens.proofs.NamesTold.{texts_tell}

@@ -1,12 +1,12 @@
 -- The macro uses that a rename counts are those of the edited texts, once these are expanded.
-use Rattle.std.proofs.Common.{◌≡◌, ◌+◌, ℕ, List, map, Bool, true, false, cond, Option, Some, None, Result, Ok, Err, refl, sym, ap, ◌∙◌, subst}
+use Rattle.std.proofs.Common.{◌≡◌, ℕ, List, Bool, true, false, cond, Option, Some, None, Result, Ok, Err, refl, sym, ap, ◌∙◌, subst}
 use Rattle.std.specs.Option.{ok_or}
 use Rattle.scheme_model.specs.declared.Occ.{Occ}
 use Rattle.scheme_model.specs.Spelling.{is_joined}
 use Rattle.rename_model.specs.Difference.{Difference}
 use Rattle.text_edits.specs.Members.{prefix_of, stem_of}
 use Rattle.rename_conditions.specs.Readers.{Reader}
-use Rattle.rename_conditions.specs.Opened.{Opened, DocEdits, edited_in, edits_in, told_edits}
+use Rattle.rename_conditions.specs.Opened.{Opened, edited_in, edits_in, told_edits}
 use Rattle.rename_conditions.specs.Renames.{Refusal, NotBound, IsStandard, BadName, Unreadable, PrefixLost, PrefixClash, TooLong, Differs, broken, ◌>>=◌, unless, first_of, joined_at, standard_names, new_symbol, first_unread, is_reserved, clashes, errors_in_reach, first_too_long, difference_by, rename_in}
 use Rattle.rename_planner.specs.Planning.{fitting_in, named_in, planned_in}
 use Rattle.rename_planner.specs.ToldRenames.{edited_by, is_tried}

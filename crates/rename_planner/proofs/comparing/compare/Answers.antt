@@ -1,4 +1,4 @@
-use Rattle.std.proofs.Common.{◌≡◌, sym, subst, map}
+use Rattle.std.proofs.Common.{sym, subst, map}
 use Rattle.std.specs.FinMap.{entries}
 use Rattle.scheme_model.specs.Program.{units_of}
 use Rattle.scheme_tokens.specs.LibraryNames.{library_text}
