@@ -87,8 +87,9 @@
   (pcase (nth (1- number) scheme-ls--places)
     (`(,file ,line ,character)
      (find-file file)
-     (eglot--widening
-      (goto-char (eglot--lsp-position-to-point (list :line line :character character)))))
+     (let ((at (eglot--widening (eglot--lsp-position-to-point (list :line line :character character)))))
+       (unless (<= (point-min) at (point-max)) (widen))
+       (goto-char at)))
     (_ (user-error "The last refusal has no such place"))))
 
 (provide 'scheme-ls-renames)
