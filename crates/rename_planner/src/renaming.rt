@@ -9,7 +9,7 @@ ghost use Rattle.rename_planner.specs.ToldRenames.{rename_at, rename_uses};
 use crate::comparing::compare;
 use crate::faults::RenameFault;
 use crate::planning::{Planned, plan_rename};
-use ls_base::{DocEdits, Items, Pos, Steps};
+use ls_base::{DocEdits, Items, Pos, Steps, Text};
 use std::alloc::Global;
 use std::sync::ledger::Ledger;
 use workspace_state::Workspace;
@@ -19,9 +19,9 @@ use workspace_state::Workspace;
 pub fn rename<L: Ledger>(
     alloc: Global,
     ws: &mut Workspace,
-    uri: &str,
+    uri: &Text,
     position: Pos,
-    new_name: &str,
+    new_name: &Text,
     steps: &mut Steps<L>,
 ) -> Result<Items<DocEdits>, RenameFault>
     ensures texts { ws.new.texts ≡ ws.old.texts }
@@ -34,7 +34,13 @@ pub fn rename<L: Ledger>(
     ensures steps { (r : Reader) → IsReader r → result ≢ Err RenameFault.Memory →
         steps.new ≡ steps.old + rename_uses r ws.old.encoding (entries ws.old.texts) uri.now position new_name.now }
 {
-    let Planned { edits, plan } = plan_rename(alloc, ws, uri, position, new_name)?;
+    let Planned { edits, plan } = plan_rename(
+        alloc,
+        ws,
+        uri.as_str(),
+        position,
+        new_name.as_str(),
+    )?;
     compare(alloc, ws, &edits, &plan, steps)?;
     Ok(edits)
 }

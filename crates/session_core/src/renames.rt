@@ -25,7 +25,7 @@ pub fn on_rename<L: Ledger>(
     workspace: &mut Workspace,
     id: Id,
     at: &At,
-    new_name: &str,
+    new_name: &Text,
     steps: &mut Steps<L>,
 ) -> Mem<Out>
     ensures answer { IfOk result (IsRenamed workspace.old.encoding workspace.old.texts id at.now new_name.now) }
@@ -34,7 +34,7 @@ pub fn on_rename<L: Ledger>(
     ensures steps { (r : Reader) → IsReader r → OnOk result (steps.new ≡ steps.old + rename_uses r workspace.old.encoding (entries workspace.old.texts) at.now.uri at.now.pos new_name.now) }
 {
     workspace.collect()?;
-    match rename(alloc, workspace, at.uri.as_str(), at.pos, new_name, steps) {
+    match rename(alloc, workspace, &at.uri, at.pos, new_name, steps) {
         Ok(edits) => Ok(renamed(alloc, id, edits)?),
         Err(fault) => {
             let text = refusal(alloc, workspace, &fault)?;

@@ -21,7 +21,7 @@ use crate::replies::{
     not_initialized, parse_error,
 };
 use crate::wording::BAD_PARAMS;
-use ls_base::{Answer, Mem, Memory, Query, Steps};
+use ls_base::{Answer, Mem, Memory, Query, Steps, Text};
 use lsp_messages::{At, Call, Id, Message, Note, Reject, read_message};
 use std::alloc::Global;
 use std::marker::Model;
@@ -182,7 +182,7 @@ impl Session {
                 Ok(out)
             }
             Call::Ask { at, query } => Ok(self.on_question(id, &at, query)?),
-            Call::Rename { at, new_name } => Ok(self.on_rename(id, &at, new_name.as_str(), steps)?),
+            Call::Rename { at, new_name } => Ok(self.on_rename(id, &at, &new_name, steps)?),
         }
     }
 
@@ -191,7 +191,7 @@ impl Session {
         &mut self,
         id: Id,
         at: &At,
-        new_name: &str,
+        new_name: &Text,
         steps: &mut Steps<L>,
     ) -> Mem<Out>
         ensures step { IfOk result (λ out. IsOutcome
