@@ -1,15 +1,15 @@
 -- A unit of both programs at a place of their lists.
-use Rattle.std.proofs.Common.{◌≡◌, ℕ, ◌<◌, ◌≤◌, List, length, get_or, Option, Some, None, refl, sym, ap, ◌∙◌, subst, arith}
+use Rattle.std.proofs.Common.{◌≡◌, ℕ, ◌<◌, List, length, get_or, Option, Some, None, refl, sym, subst}
 use Rattle.std.specs.Prelude.{Bool, true, false}
 use Rattle.std.specs.Option.{is_some, is_none}
 use Rattle.scheme_model.specs.declared.Occ.{Occ}
 use Rattle.scheme_model.specs.Requirements.{LibraryName}
-use Rattle.scheme_model.specs.Program.{Placed, UnitResult, Program, result_at}
+use Rattle.scheme_model.specs.Program.{Placed, Program, result_at}
 use Rattle.rename_model.specs.SameProgram.{ExportChange, unit_stretches, live_in}
 use Rattle.rename_model.specs.Difference as model
 use Rattle.rename_model.specs.Difference.{first_among}
 use Rattle.syntax_tree.specs.Names.{Names}
-use Rattle.core_tree.specs.Units.{UnitStands, UnitsStand, ProgramStands, IsProgramOf}
+use Rattle.core_tree.specs.Units.{UnitsStand, ProgramStands, IsProgramOf}
 use Rattle.core_tree.specs.declared.units.Program as code
 use Rattle.core_tree.specs.declared.units.Unit.{Unit as CodeUnit}
 use Rattle.syntax_tree.specs.declared.trees.Work.{Work}
@@ -17,13 +17,12 @@ use Rattle.program_leaves.specs.declared.sight.Sight.{Sight}
 use Rattle.program_leaves.specs.Sights.{SeesProgram}
 use Rattle.alpha_equal.specs.Compared.{TellsLive}
 use Rattle.program_differences.specs.declared.both.Programs.{Programs}
-use Rattle.program_differences.specs.declared.both.Both.{Both}
 use Rattle.program_differences.specs.declared.listed.Apart.{Apart}
 use Rattle.program_differences.specs.Apart.{AreFound, IsApart}
-use Rattle.program_differences.specs.Both.{BothStand, IsUnitOf, AreBoth, ProgramsStand, AreStanding, AreComparable}
+use Rattle.program_differences.specs.Both.{IsUnitOf, ProgramsStand, AreStanding, AreComparable}
 use Rattle.program_differences.specs.Listed.{AreAlike}
 use Rattle.program_differences.proofs.ApartLaws.{none_found}
-use Rattle.program_differences.proofs.UnitLaws.{UnitAt, units_from, unit_found, none_behind, there_at}
+use Rattle.program_differences.proofs.UnitLaws.{UnitAt, units_from, unit_found, there_at}
 
 -- what a unit of a program stands for
 pub unit_of : (work : Work) (text : LibraryName → List ℕ) (uris : List (List ℕ)) (all : List Placed) (p : Program) (cs : List CodeUnit) (n : ℕ) (c : CodeUnit) → UnitsStand work text uris all p 0 cs p.units → n < length cs → c ≡ get_or cs n c →

@@ -1,6 +1,6 @@
 -- Units are the same in their lists where the code says so, and the first that differ are those that it finds.
-use Rattle.std.proofs.Common.{◌≡◌, ◌⊎◌, inl, inr, ℕ, zero, suc, ◌+◌, ◌<◌, ◌≤◌, List, [], ◌∷◌, ◌++◌, map, drop, get_or, length, Bool, true, false, cond, Option, Some, None, refl, sym, ap, ◌∙◌, subst, arith, add-one, drop-cons}
-use Rattle.std.specs.Prelude.{◌==◌, ◌&&◌, ◌||◌, slice_get, max, nat_le, if◌then◌else◌}
+use Rattle.std.proofs.Common.{◌≡◌, ◌⊎◌, inl, inr, ℕ, zero, suc, ◌+◌, ◌<◌, ◌≤◌, List, [], ◌∷◌, ◌++◌, map, drop, get_or, length, Bool, true, false, Option, Some, None, refl, sym, ap, ◌∙◌, subst, arith, add-one}
+use Rattle.std.specs.Prelude.{◌==◌, ◌&&◌, slice_get, max, nat_le, if◌then◌else◌}
 use Rattle.std.specs.List.{flat_map}
 use Rattle.std.specs.Str.{bytes_eq}
 use Rattle.std.proofs.lemmas.Slice.Eq.{bytes_eq-Decides}
@@ -8,14 +8,12 @@ use Rattle.std.proofs.lemmas.Bool.Decides.{nat_tests}
 use Rattle.std.proofs.lemmas.List.{at_drop_more, at_drop_all}
 use Rattle.std.proofs.lemmas.Option.{same_Some}
 use Rattle.scheme_model.specs.declared.Occ.{Occ}
-use Rattle.scheme_model.specs.Declarations.{UnitKind}
 use Rattle.scheme_model.specs.Requirements.{LibraryPart, LibraryName, Symbol, Digits}
 use Rattle.scheme_model.specs.Program.{Placed, UnitResult, Program, result_at}
 use Rattle.rename_model.specs.Walks.{Point, AtShape, AtErrors, OfName, OfNumber, IsSymbol, IsNumeral, ShowsNothing, point, number}
 use Rattle.rename_model.specs.SameProgram as model
 use Rattle.rename_model.specs.SameProgram.{part_points, name_points, kind_number, listed_points, stretch, listed_stretches, least_of, error_points}
-use Rattle.rename_model.specs.Difference.{alone, first_apart, first_among}
-use Rattle.rename_model.proofs.SameLaws.{agree_none, agrees_itself}
+use Rattle.rename_model.specs.Difference.{first_apart}
 use Rattle.syntax_tree.specs.Names.{Names}
 use Rattle.syntax_tree.specs.declared.trees.Work.{Work}
 use Rattle.core_tree.specs.Units.{text_of, kind_as, error_as, unit_errors, UnitStands, UnitsStand}
@@ -26,12 +24,12 @@ use Rattle.alpha_equal.specs.declared.points.Spot.TheVariants as spots
 use Rattle.alpha_equal.specs.declared.points.Shown.TheVariants as shown
 use Rattle.alpha_equal.specs.declared.points.Told.{Told}
 use Rattle.alpha_equal.specs.declared.points.Pair.{Pair}
-use Rattle.alpha_equal.specs.Points.{IsTold, ArePair}
+use Rattle.alpha_equal.specs.Points.{ArePair}
 use Rattle.program_differences.specs.declared.listed.Apart.{Apart}
-use Rattle.program_differences.specs.Apart.{at_form, AreFound, FindsFirst}
-use Rattle.program_differences.specs.Listed.{same_name, listed_alike, alike_in, first_unlike, forms_of, AreAlike, IsNameIn, TellsApart, AreDistinct, least_among, least_or}
+use Rattle.program_differences.specs.Apart.{at_form, FindsFirst}
+use Rattle.program_differences.specs.Listed.{same_name, listed_alike, alike_in, first_unlike, forms_of, AreAlike, TellsApart, AreDistinct, least_among, least_or}
 use Rattle.program_differences.proofs.ApartLaws.{pair_found, found_first, found_next}
-use Rattle.program_differences.proofs.UnitLaws.{UnitAt, UnitsFrom, units_from, as_many, errors_are}
+use Rattle.program_differences.proofs.UnitLaws.{UnitsFrom, units_from, as_many, errors_are}
 
 -- ---- points of the shape
 

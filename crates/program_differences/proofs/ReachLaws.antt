@@ -1,5 +1,5 @@
 -- The marks of units are those of the units in reach.
-use Rattle.std.proofs.Common.{◌≡◌, ℕ, zero, suc, ◌+◌, ◌<◌, ◌≤◌, Bool, true, false, List, [], ◌∷◌, map, filter, length, replicate, drop, set, get_or, ◌-◌, refl, sym, ap, ◌∙◌, subst, arith, add-one}
+use Rattle.std.proofs.Common.{◌≡◌, ℕ, zero, suc, ◌+◌, ◌<◌, ◌≤◌, Bool, true, false, List, [], ◌∷◌, filter, length, replicate, drop, set, get_or, ◌-◌, refl, sym, ap, ◌∙◌, subst, arith, add-one}
 use Rattle.std.specs.Prelude.{◌==◌, ◌&&◌, ◌||◌, not, nat_lt, nat_le, if◌then◌else◌}
 use Rattle.std.specs.List.{list_any}
 use Rattle.std.proofs.lemmas.Bool.Decides.{nat_tests}
@@ -8,11 +8,11 @@ use Rattle.scheme_model.specs.declared.Occ.{Occ}
 use Rattle.scheme_model.specs.Program.{Placed, UnitResult, Program, is_in}
 use Rattle.scheme_model.specs.Requirements.{LibraryName}
 use Rattle.rename_model.specs.Reach as reach
-use Rattle.rename_model.specs.Reach.{holds_one, imports_of, imports_one, unit_numbers, reaching, in_reach}
+use Rattle.rename_model.specs.Reach.{holds_one, imports_one, unit_numbers, reaching, in_reach}
 use Rattle.syntax_tree.specs.declared.trees.Work.{Work}
 use Rattle.core_tree.specs.Units.{UnitsStand}
 use Rattle.core_tree.specs.declared.units.Unit.{Unit as CodeUnit}
-use Rattle.program_differences.specs.Reached.{marked, with_mark, with_holders, one_marked, with_importers, in_rounds, marks_from, Marks, HasImports, HaveImports}
+use Rattle.program_differences.specs.Reached.{marked, with_mark, with_holders, one_marked, with_importers, in_rounds, marks_from, Marks, HaveImports}
 
 -- ---- one mark
 

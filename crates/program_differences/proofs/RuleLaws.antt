@@ -9,7 +9,7 @@ use Rattle.scheme_model.specs.Trees.{Tree, name, atom, list, vector, Trees, no_t
 use Rattle.scheme_model.specs.ExpansionFaults.{Named}
 use Rattle.scheme_model.specs.RulesShape.{Role, IsLiteral, IsEllipsis, IsAny, IsVariable, Rule, Rules, Variable as RuleVariable, nowhere, role_of, pattern_variables}
 use Rattle.scheme_model.specs.Ident.{Ident as Identifier, same_ident}
-use Rattle.rename_model.specs.Walks.{Slot, LeafOf, TreeNode, OfNode, OfNumber, ShowsPlace, IsPatternVariable, IsInserted, IsRuleLiteral, in_rules, is_given, nodes_in, nodes_among, nodes_behind, list_nodes, variable_slots, pattern_name, template_name, pattern_nodes, slots_of_rule, slots_of}
+use Rattle.rename_model.specs.Walks.{Slot, LeafOf, OfNode, OfNumber, ShowsPlace, IsPatternVariable, IsInserted, IsRuleLiteral, in_rules, is_given, nodes_in, nodes_among, nodes_behind, variable_slots, pattern_name, template_name, pattern_nodes, slots_of_rule, slots_of}
 use Rattle.syntax_tree.specs.Names.{Names, AreToldApart}
 use Rattle.syntax_tree.specs.Macros.{identifiers, IsIdent, AreIdents, IsEllipsisOf, AreRules}
 use Rattle.syntax_tree.specs.Placed.{IsNamed}

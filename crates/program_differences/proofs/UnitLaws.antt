@@ -1,5 +1,5 @@
 -- The units of a program of the code from a place on, the forms of a unit, and their Errors.
-use Rattle.std.proofs.Common.{◌≡◌, inl, inr, ℕ, zero, suc, ◌+◌, ◌<◌, ◌≤◌, List, [], ◌∷◌, ◌++◌, map, length, get_or, Bool, true, false, cond, Option, Some, None, Result, Ok, Err, refl, sym, ap, ◌∙◌, subst, arith}
+use Rattle.std.proofs.Common.{◌≡◌, inl, inr, ℕ, zero, suc, ◌+◌, ◌<◌, ◌≤◌, List, [], ◌∷◌, ◌++◌, map, length, get_or, Bool, true, false, Option, Some, None, Result, Ok, Err, refl, sym, ap, ◌∙◌, subst, arith}
 use Rattle.std.specs.Prelude.{slice_get, ◌==◌, if◌then◌else◌, max}
 use Rattle.std.specs.List.{zip}
 use Rattle.std.proofs.lemmas.Bool.{ne_eqb}
@@ -8,7 +8,6 @@ use Rattle.std.proofs.lemmas.List.{map-append}
 use Rattle.scheme_model.specs.Cores.{Parts, no_parts}
 use Rattle.scheme_model.specs.Declarations.{UnitForm as ModelForm}
 use Rattle.scheme_model.specs.Entries.{Entry}
-use Rattle.scheme_model.specs.ExpansionFaults.{fault_code}
 use Rattle.scheme_model.specs.Order.{Counted}
 use Rattle.scheme_model.specs.Program.{Placed, Prepared, WholeFault, SetResult, Unknown, Faulty, Gives, ExportFault, NotDefined, SameExport, UnitResult, Program, result_at, specs_in, ImportSpec}
 use Rattle.scheme_model.specs.Requirements.{LibraryName}
@@ -16,10 +15,8 @@ use Rattle.scheme_model.specs.Steps.{Broken}
 use Rattle.scheme_model.specs.UnitExpansion.{Formed}
 use Rattle.rename_model.specs.SameProgram as same
 use Rattle.syntax_tree.specs.declared.trees.Work.{Work}
-use Rattle.core_tree.specs.Cores.{PartsStand}
-use Rattle.core_tree.specs.Levels.{DefineOnTop}
 use Rattle.core_tree.specs.Units as code
-use Rattle.core_tree.specs.Units.{UnitStands, UnitsStand, FormsStand, IsResult, IsBlank, IsExpanded}
+use Rattle.core_tree.specs.Units.{UnitStands, UnitsStand, FormsStand, IsResult, IsBlank}
 use Rattle.core_tree.specs.declared.units.ExpandedItem.{ExpandedItem}
 use Rattle.core_tree.specs.declared.units.Unit.{Unit as CodeUnit}
 use Rattle.core_tree.specs.declared.units.UnitForm.{UnitForm}

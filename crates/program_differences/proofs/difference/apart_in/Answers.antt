@@ -1,12 +1,11 @@
-use Rattle.std.proofs.Common.{◌≡◌, ◌++◌, List, length, sym, ap, ◌∙◌, subst}
+use Rattle.std.proofs.Common.{List, length, sym, ◌∙◌, subst}
 use Rattle.std.specs.Prelude.{ℕ, max}
 use Rattle.std.specs.List.{flat_map}
 use Rattle.scheme_model.specs.Program.{result_at}
-use Rattle.rename_model.specs.SameProgram.{Stretch, listed_stretches, unit_stretches}
-use Rattle.rename_model.specs.Difference.{first_among}
+use Rattle.rename_model.specs.SameProgram.{listed_stretches, unit_stretches}
 use Rattle.core_tree.specs.Units.{UnitsStand}
 use Rattle.core_tree.specs.declared.units.Unit.{Unit as CodeUnit}
-use Rattle.program_differences.specs.Apart.{AreFound, FindsFirst}
+use Rattle.program_differences.specs.Apart.{AreFound}
 use Rattle.program_differences.specs.Exported.{changes_as}
 use Rattle.program_differences.specs.Listed.{AreAlike}
 use Rattle.program_differences.proofs.ApartLaws.{found_here, found_past}

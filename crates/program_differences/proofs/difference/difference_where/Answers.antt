@@ -1,13 +1,11 @@
-use Rattle.std.proofs.Common.{List, ◌≡◌, refl, sym, ap, ◌∙◌, subst}
-use Rattle.std.specs.Prelude.{Option, Some, None}
+use Rattle.std.proofs.Common.{List, sym, ◌∙◌, subst}
+use Rattle.std.specs.Prelude.{Some, None}
 use Rattle.scheme_model.specs.declared.Occ.{Occ}
 use Rattle.rename_model.specs.SameProgram.{stretches, live_in}
 use Rattle.rename_model.specs.Difference.{first_among, option_difference, difference}
 use Rattle.program_leaves.proofs.PlacedLaws.{units_formed}
-use Rattle.program_differences.specs.declared.listed.Apart.{Apart}
-use Rattle.program_differences.specs.Apart.{AreFound}
 use Rattle.program_differences.specs.Both.{ProgramsStand}
-use Rattle.program_differences.specs.Differences.{IsDifference, plan_as, AreOne}
+use Rattle.program_differences.specs.Differences.{IsDifference, AreOne}
 use Rattle.program_differences.specs.Exported.{changes_as}
 use Rattle.program_differences.proofs.ApartLaws.{none_found}
 use Rattle.program_differences.proofs.BothLaws.{are_standing, tells_live, one_found, found_of}

@@ -3,7 +3,7 @@ use Rattle.std.specs.Prelude.{None, false}
 use Rattle.std.specs.Option.{is_none}
 use Rattle.rename_model.specs.SameProgram.{stretches, live_in}
 use Rattle.rename_model.specs.Difference.{first_among, option_difference}
-use Rattle.program_differences.specs.Differences.{plan_as, AreOne}
+use Rattle.program_differences.specs.Differences.{AreOne}
 use Rattle.program_differences.specs.Exported.{changes_as}
 use Rattle.program_differences.proofs.ApartLaws.{none_more}
 use Rattle.program_differences.proofs.BothLaws.{are_standing, comparable, programs_are, nothing_found}

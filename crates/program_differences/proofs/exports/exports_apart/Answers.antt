@@ -1,12 +1,11 @@
-use Rattle.std.proofs.Common.{◌≡◌, ◌+◌, ◌-◌, ◌<◌, ◌≤◌, ℕ, [], List, length, drop, get_or, refl, sym, ap, ◌∙◌, subst, arith}
+use Rattle.std.proofs.Common.{◌≡◌, ◌-◌, ℕ, [], List, length, get_or, refl, sym, ap, ◌∙◌, subst, arith}
 use Rattle.std.specs.Prelude.{Option, Some, None}
-use Rattle.std.specs.BTreeMap.{get_by_text}
 use Rattle.std.proofs.lemmas.List.{drop_all}
 use Rattle.scheme_model.specs.Entries.{Entry}
 use Rattle.scheme_model.specs.Meaning.{Free}
 use Rattle.scheme_model.specs.ProgramArrows.{program_table, unit_names}
 use Rattle.rename_model.specs.Walks.{ShowsNothing}
-use Rattle.rename_model.specs.SameProgram.{name_asked, export_points, external_occ}
+use Rattle.rename_model.specs.SameProgram.{name_asked, export_points}
 use Rattle.rename_model.specs.Difference.{first_apart}
 use Rattle.syntax_tree.specs.Meant.{IsEntry, AreEntries}
 use Rattle.syntax_tree.specs.declared.units.Entry as code_entry

@@ -1,5 +1,5 @@
 use Rattle.std.proofs.Common.{◌≡◌, ap}
-use Rattle.scheme_model.specs.Trees.{Atom, atom}
+use Rattle.scheme_model.specs.Trees.{atom}
 use Rattle.rename_model.specs.Walks.{AtShape, atom_points}
 use Rattle.std.specs.Prelude.{None}
 use Rattle.program_leaves.proofs.AddLaws.{adds_same}

@@ -1,10 +1,10 @@
-use Rattle.std.proofs.Common.{◌≡◌, [], ◌∷◌, sym, ap, subst, refl}
+use Rattle.std.proofs.Common.{[], ◌∷◌, sym, ap, subst, refl}
 use Rattle.std.specs.Prelude.{None}
 use Rattle.rename_model.specs.Walks as walk
 use Rattle.rename_model.specs.Walks.{AtShape, OfNode, OfNumber, OfBinders, ShowsNothing, node, number, point, use_of, atom_points, data_points, macro_points, locals_in}
 use Rattle.program_leaves.proofs.AddLaws.{adds_one, adds_same}
 use Rattle.alpha_equal.specs.declared.marks.Mark.{Mark}
-use Rattle.alpha_equal.specs.Points.{node_as, spot_as, IsPoint}
+use Rattle.alpha_equal.specs.Points.{node_as, IsPoint}
 use Rattle.alpha_equal.specs.Marks.{mark_of, IsMark}
 use Rattle.program_differences.proofs.FormLaws.{locals_are}
 use Rattle.program_differences.proofs.forms.add_mark.Goals as goal

@@ -1,6 +1,4 @@
-use Rattle.std.proofs.Common.{◌≡◌, [], ◌∷◌, ◌++◌, List, map, length, sym, ap, ◌∙◌, subst}
-use Rattle.scheme_model.specs.Cores.{Parts}
-use Rattle.scheme_model.specs.Substitution.{Table}
+use Rattle.std.proofs.Common.{[], ◌∷◌, ◌++◌, List, map, length, sym, ap, ◌∙◌, subst}
 use Rattle.rename_model.specs.Walks.{form_points}
 use Rattle.program_leaves.proofs.AddLaws.{all_match}
 use Rattle.alpha_equal.specs.Points.{IsPoint}

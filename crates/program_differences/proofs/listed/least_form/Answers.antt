@@ -1,4 +1,4 @@
-use Rattle.std.proofs.Common.{sym, arith}
+use Rattle.std.proofs.Common.{arith}
 use Rattle.core_tree.specs.declared.units.UnitError.{UnitError}
 use Rattle.program_differences.specs.Listed.{forms_of, least_among}
 use Rattle.program_differences.proofs.ListedLaws.{least_start, least_more, least_all}

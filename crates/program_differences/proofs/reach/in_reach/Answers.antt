@@ -1,4 +1,4 @@
-use Rattle.std.proofs.Common.{◌≡◌, List, length, ap, ◌∙◌}
+use Rattle.std.proofs.Common.{List, length, ap, ◌∙◌}
 use Rattle.std.specs.Prelude.{Bool}
 use Rattle.program_differences.specs.Reached.{with_holders, in_rounds, marks_from}
 use Rattle.program_differences.proofs.ReachLaws.{reach_is}

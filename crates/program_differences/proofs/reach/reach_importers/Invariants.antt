@@ -1,5 +1,5 @@
 use Rattle.std.proofs.Common.{◌≡◌, drop}
-use Rattle.std.specs.Prelude.{Bool, false}
+use Rattle.std.specs.Prelude.{false}
 use Rattle.program_differences.specs.Reached.{with_importers}
 use Rattle.program_differences.proofs.reach.reach_importers.Given as goal
 

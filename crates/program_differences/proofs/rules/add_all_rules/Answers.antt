@@ -1,4 +1,4 @@
-use Rattle.std.proofs.Common.{[], take, ap, arith}
+use Rattle.std.proofs.Common.{take, ap, arith}
 use Rattle.std.specs.List.{flat_map}
 use Rattle.rename_model.specs.Walks.{slots_of_rule}
 use Rattle.syntax_tree.specs.declared.rules.Rule as code

@@ -1,5 +1,5 @@
-use Rattle.std.proofs.Common.{◌≡◌, [], ◌∷◌, map, refl, sym, ap, ◌∙◌, subst, rules, arith}
-use Rattle.std.specs.Prelude.{Option, Some, Bool, if◌then◌else◌}
+use Rattle.std.proofs.Common.{◌≡◌, [], ◌∷◌, map, refl, sym, ap, subst, rules, arith}
+use Rattle.std.specs.Prelude.{Some, if◌then◌else◌}
 use Rattle.scheme_model.specs.Trees.{Atom, atom, Numeral, Quoted, Bytes, Character, Boolean}
 use Rattle.rename_model.specs.Walks as walk
 use Rattle.rename_model.specs.Walks.{AtRule, ShowsNothing, Fixed, in_rules, atom_points}

@@ -1,4 +1,4 @@
-use Rattle.std.proofs.Common.{ℕ, ◌++◌, Bool, length, ap}
+use Rattle.std.proofs.Common.{◌++◌, length}
 use Rattle.std.specs.Prelude.{is_some}
 use Rattle.program_leaves.proofs.AddLaws.{adds_both, adds_same}
 use Rattle.alpha_equal.specs.Slots.{IsSlot}

@@ -1,4 +1,4 @@
-use Rattle.std.proofs.Common.{◌≡◌, ℕ, ◌+◌, [], ◌∷◌, ◌++◌, sym, refl, ap, arith}
+use Rattle.std.proofs.Common.{◌≡◌, ◌+◌, [], ◌∷◌, ◌++◌, sym, refl, ap, arith}
 use Rattle.rename_model.specs.Walks.{LeafOf, IsRuleLiteral}
 use Rattle.program_leaves.proofs.AddLaws.{adds_none, adds_one, adds_both, adds_same}
 use Rattle.alpha_equal.specs.Slots.{IsSlot}

@@ -1,6 +1,6 @@
-use Rattle.std.proofs.Common.{[], arith, false, None}
+use Rattle.std.proofs.Common.{arith, false, None}
 use Rattle.scheme_model.specs.RulesShape.{role_of}
-use Rattle.rename_model.specs.Walks.{rule_slots, pattern_name, template_name}
+use Rattle.rename_model.specs.Walks.{rule_slots, pattern_name}
 use Rattle.syntax_tree.specs.Macros.{identifiers}
 use Rattle.program_leaves.proofs.AddLaws.{adds_none}
 use Rattle.program_leaves.proofs.VariableLaws.{match_at}

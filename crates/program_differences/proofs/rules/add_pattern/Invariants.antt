@@ -2,8 +2,7 @@ use Rattle.std.proofs.Common.{ℕ, List, take}
 use Rattle.std.specs.List.{flat_map}
 use Rattle.scheme_model.specs.RulesShape.{Rules, Variable, role_of}
 use Rattle.scheme_model.specs.Ident.{Ident as Identifier}
-use Rattle.rename_model.specs.Walks.{TreeNode, rule_slots, pattern_name, template_name}
-use Rattle.syntax_tree.specs.Names.{Names}
+use Rattle.rename_model.specs.Walks.{TreeNode, rule_slots, pattern_name}
 use Rattle.syntax_tree.specs.Macros.{identifiers, TellsRoles}
 use Rattle.core_tree.specs.Names.{AllMatch}
 use Rattle.program_leaves.specs.Adds.{Adds}

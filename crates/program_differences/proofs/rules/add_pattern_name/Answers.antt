@@ -1,6 +1,5 @@
-use Rattle.std.proofs.Common.{◌≡◌, [], ◌∷◌, refl, sym, ap, ◌∙◌}
-use Rattle.std.specs.Prelude.{Option, Some, None}
-use Rattle.scheme_model.specs.RulesShape.{Role}
+use Rattle.std.proofs.Common.{[], ◌∷◌, refl, sym, ap, ◌∙◌}
+use Rattle.std.specs.Prelude.{Option, Some}
 use Rattle.rename_model.specs.Walks.{LeafOf, OfNode, ShowsNothing, IsRuleLiteral, IsDots, IsUnderscore, in_rules}
 use Rattle.syntax_tree.specs.Macros.{role_as}
 use Rattle.syntax_tree.specs.declared.rules.Role.{Role as CodeRole}

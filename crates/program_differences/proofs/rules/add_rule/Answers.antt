@@ -1,9 +1,9 @@
-use Rattle.std.proofs.Common.{◌≡◌, ℕ, [], ◌++◌, List, Option, map, sym, refl, ap, ◌∙◌, subst}
+use Rattle.std.proofs.Common.{List, Option, sym, ap, ◌∙◌, subst}
 use Rattle.std.specs.List.{flat_map}
 use Rattle.scheme_model.specs.ExpansionFaults.{Named}
 use Rattle.scheme_model.specs.Ident.{Ident as Identifier}
 use Rattle.scheme_model.specs.Trees.{name, list, tree}
-use Rattle.scheme_model.specs.RulesShape.{Rule, role_of, dots_of, pattern_variables}
+use Rattle.scheme_model.specs.RulesShape.{role_of, dots_of, pattern_variables}
 use Rattle.rename_model.specs.Walks.{rule_slots, pattern_name, template_name, pattern_nodes, nodes_in}
 use Rattle.syntax_tree.specs.Macros.{identifiers}
 use Rattle.syntax_tree.specs.Placed.{IsNamed}

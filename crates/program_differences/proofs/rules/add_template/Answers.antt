@@ -1,7 +1,5 @@
-use Rattle.std.proofs.Common.{[], arith, false, None}
-use Rattle.scheme_model.specs.RulesShape.{role_of}
-use Rattle.rename_model.specs.Walks.{rule_slots, pattern_name, template_name}
-use Rattle.syntax_tree.specs.Macros.{identifiers}
+use Rattle.std.proofs.Common.{arith, false, None}
+use Rattle.rename_model.specs.Walks.{rule_slots, template_name}
 use Rattle.program_leaves.proofs.AddLaws.{adds_none}
 use Rattle.program_leaves.proofs.VariableLaws.{match_at}
 use Rattle.alpha_equal.specs.declared.trees.TreeNode.TheVariants as nodes

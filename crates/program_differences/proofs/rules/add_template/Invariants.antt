@@ -1,10 +1,9 @@
 use Rattle.std.proofs.Common.{ℕ, List, take}
 use Rattle.std.specs.List.{flat_map}
-use Rattle.scheme_model.specs.RulesShape.{Rules, Variable, role_of}
+use Rattle.scheme_model.specs.RulesShape.{Variable}
 use Rattle.scheme_model.specs.Ident.{Ident as Identifier}
-use Rattle.rename_model.specs.Walks.{TreeNode, rule_slots, pattern_name, template_name}
+use Rattle.rename_model.specs.Walks.{TreeNode, rule_slots, template_name}
 use Rattle.syntax_tree.specs.Names.{Names}
-use Rattle.syntax_tree.specs.Macros.{identifiers, TellsRoles}
 use Rattle.core_tree.specs.Names.{AllMatch}
 use Rattle.program_leaves.specs.Adds.{Adds}
 use Rattle.alpha_equal.specs.Nodes.{IsNode}

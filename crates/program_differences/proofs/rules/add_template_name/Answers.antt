@@ -1,5 +1,5 @@
-use Rattle.std.proofs.Common.{◌≡◌, [], ◌∷◌, Bool, refl, sym, ap, ◌∙◌}
-use Rattle.std.specs.Prelude.{Option, Some, None}
+use Rattle.std.proofs.Common.{[], ◌∷◌, Bool, refl, sym, ap, ◌∙◌}
+use Rattle.std.specs.Prelude.{Option, Some}
 use Rattle.rename_model.specs.Walks.{LeafOf, OfNode, ShowsNothing, IsDots, IsInserted, in_rules}
 use Rattle.program_leaves.proofs.AddLaws.{adds_one, adds_same}
 use Rattle.program_differences.specs.declared.rules.Variable.{Variable}

@@ -1,17 +1,14 @@
-use Rattle.std.proofs.Common.{◌≡◌, [], ◌∷◌, map, sym, ap, ◌∙◌, subst}
-use Rattle.std.specs.Prelude.{Option, Some, None, Bool}
+use Rattle.std.proofs.Common.{[], ◌∷◌, map, sym, ap, ◌∙◌, subst}
+use Rattle.std.specs.Prelude.{None}
 use Rattle.std.specs.BTreeMap.{get}
 use Rattle.std.specs.Ordering.{nat_cmp}
-use Rattle.scheme_model.specs.declared.Occ.{Occ}
-use Rattle.scheme_model.specs.Ident.{Ident as Identifier}
-use Rattle.rename_model.specs.Walks.{AtRule, OfNode, ShowsNothing, IsEscape, IsInserted, LeafOf, Fixed, Slot, in_rules, atom_points, list_points, vector_points, rule_slots, pattern_name, template_name}
+use Rattle.rename_model.specs.Walks.{AtRule, OfNode, ShowsNothing, IsEscape, IsInserted, LeafOf, Fixed, in_rules, atom_points, list_points, vector_points, rule_slots, template_name}
 use Rattle.program_leaves.proofs.AddLaws.{adds_same}
 use Rattle.alpha_equal.specs.declared.trees.TreeNode.{TreeNode}
 use Rattle.alpha_equal.specs.Nodes.{IsNode}
 use Rattle.alpha_equal.specs.Slots.{IsSlot}
-use Rattle.program_differences.specs.Variables.{pattern_slots, template_slots}
-use Rattle.alpha_equal.proofs.MeaningLaws.{within}
-use Rattle.program_differences.proofs.RuleLaws.{pattern_named, template_named}
+use Rattle.program_differences.specs.Variables.{template_slots}
+use Rattle.program_differences.proofs.RuleLaws.{template_named}
 use Rattle.program_differences.proofs.rules.add_template_node.Goals as goal
 
 pub returns-in_ok-add_template_name-in-Name : goal.returns-in_ok-add_template_name-in-Name

@@ -1,4 +1,4 @@
-use Rattle.std.proofs.Common.{[], List, take, sym, refl, subst, arith, false}
+use Rattle.std.proofs.Common.{[], List, sym, refl, subst, arith, false}
 use Rattle.std.specs.Prelude.{None}
 use Rattle.std.specs.List.{flat_map}
 use Rattle.scheme_model.specs.RulesShape.{role_of}

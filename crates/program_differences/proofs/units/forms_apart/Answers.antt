@@ -1,15 +1,12 @@
-use Rattle.std.proofs.Common.{◌≡◌, ◌+◌, ◌-◌, ◌<◌, ℕ, [], None, length, List, refl, sym, ap, ◌∙◌, subst, arith}
+use Rattle.std.proofs.Common.{◌≡◌, ◌+◌, ◌-◌, ◌<◌, ℕ, None, length, List, sym, ap, ◌∙◌, subst, arith}
 use Rattle.std.specs.Prelude.{Some, max}
 use Rattle.std.specs.Option.{is_some}
 use Rattle.scheme_model.specs.ProgramArrows.{program_table}
 use Rattle.rename_model.specs.SameProgram.{Stretch, stretch, items_at, form_points_at, form_stretches}
-use Rattle.rename_model.specs.Difference.{first_apart, first_among}
+use Rattle.rename_model.specs.Difference.{first_among}
 use Rattle.core_tree.specs.Units.{FormsStand}
 use Rattle.core_tree.specs.declared.units.UnitForm.{UnitForm}
-use Rattle.core_tree.specs.declared.units.ExpandedItem.{ExpandedItem}
-use Rattle.alpha_equal.specs.declared.points.Pair.{Pair}
-use Rattle.alpha_equal.specs.Points.{ArePair}
-use Rattle.program_differences.specs.Apart.{at_form, AreFound, FindsFirst}
+use Rattle.program_differences.specs.Apart.{at_form, AreFound}
 use Rattle.program_differences.proofs.ApartLaws.{pair_here, pair_past, next_form, no_form}
 use Rattle.program_differences.proofs.UnitLaws.{max_itself, form_at}
 use Rattle.program_differences.proofs.units.forms_apart.Goals as goal

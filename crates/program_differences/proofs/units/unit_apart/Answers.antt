@@ -1,10 +1,10 @@
-use Rattle.std.proofs.Common.{◌≡◌, ◌++◌, [], ◌∷◌, List, map, length, sym, ap, ◌∙◌, subst}
+use Rattle.std.proofs.Common.{◌++◌, [], ◌∷◌, map, sym, ap, ◌∙◌, subst}
 use Rattle.std.specs.Prelude.{Some, max}
 use Rattle.scheme_model.specs.ProgramArrows.{program_table}
 use Rattle.rename_model.specs.SameProgram.{Stretch, stretch, error_stretch, form_stretches, form_count, exports_at, name_asked}
 use Rattle.rename_model.specs.Difference.{first_among}
 use Rattle.core_tree.specs.Units.{error_as}
-use Rattle.program_differences.specs.Apart.{at_form, AreFound, FindsFirst}
+use Rattle.program_differences.specs.Apart.{at_form, AreFound}
 use Rattle.program_differences.specs.Exported.{changes_as}
 use Rattle.program_differences.proofs.ApartLaws.{found_here, found_past, pair_found}
 use Rattle.program_differences.proofs.units.unit_apart.Goals as goal

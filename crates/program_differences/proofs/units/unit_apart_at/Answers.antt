@@ -1,10 +1,9 @@
-use Rattle.std.proofs.Common.{◌≡◌, ◌<◌, ◌≤◌, length, get_or, List, sym, ap, ◌∙◌, subst, arith}
-use Rattle.std.specs.Prelude.{Option, Some, None}
-use Rattle.scheme_model.specs.Program.{UnitResult, result_at}
+use Rattle.std.proofs.Common.{◌<◌, ◌≤◌, length, get_or, List, sym, ap, ◌∙◌, subst, arith}
+use Rattle.std.specs.Prelude.{None}
 use Rattle.rename_model.specs.SameProgram.{unit_stretches}
 use Rattle.rename_model.specs.Difference.{first_among}
 use Rattle.core_tree.specs.declared.units.Unit.{Unit as CodeUnit}
-use Rattle.program_differences.specs.Apart.{AreFound, FindsFirst}
+use Rattle.program_differences.specs.Apart.{AreFound}
 use Rattle.program_differences.specs.Exported.{changes_as}
 use Rattle.program_differences.proofs.UnitLaws.{units_from, none_behind}
 use Rattle.program_differences.proofs.BothLaws.{unit_of, is_unit, same_count, nothing_there}

@@ -1,11 +1,9 @@
-use Rattle.std.proofs.Common.{◌≡◌, ℕ, [], ◌∷◌, false, true, List, None, ◌+◌, drop, get_or, sym, ap, ◌∙◌, subst, arith}
+use Rattle.std.proofs.Common.{ℕ, false, true, List, None, ◌+◌, drop, get_or, sym, ◌∙◌, subst, arith}
 use Rattle.std.specs.List.{flat_map}
 use Rattle.std.proofs.lemmas.List.{at_drop_more, at_drop_all}
 use Rattle.scheme_model.specs.Program.{result_at}
 use Rattle.rename_model.specs.SameProgram.{Stretch, unit_stretches}
-use Rattle.rename_model.specs.Difference as model
 use Rattle.rename_model.specs.Difference.{first_among}
-use Rattle.program_differences.specs.declared.listed.Apart.{Apart}
 use Rattle.program_differences.specs.Apart.{AreFound, FindsFirst}
 use Rattle.program_differences.specs.Exported.{changes_as}
 use Rattle.program_differences.proofs.ApartLaws.{found_here, found_past}
