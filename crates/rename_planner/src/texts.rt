@@ -1,5 +1,5 @@
 //! What a refused rename says (LSP 3.17, ResponseError).
-ghost use Rattle.std.specs.Prelude.{◌≡◌, ◌<◌, ◌++◌, ℕ, List, length, codes, IfOk};
+ghost use Rattle.std.specs.Prelude.{◌≡◌, ◌≢◌, ◌<◌, ◌++◌, ℕ, List, length, codes, IfOk, OnOk};
 ghost use Rattle.std.specs.FinMap.{entries};
 ghost use Rattle.std.specs.Fmt.{decimal};
 ghost use Rattle.scheme_model.specs.Diagnostics.{bytes_of};
@@ -24,10 +24,11 @@ use scheme_model::Occ;
 use std::alloc::Global;
 use workspace_state::Workspace;
 
-/// The text of a refusal: its number and what it is about.
+/// The text of a refusal: its number and what it is about. Want of memory is passed on.
 pub fn refusal_text(alloc: Global, ws: &Workspace, fault: &RenameFault) -> Mem<Text>
     requires documents { (d : AnyDifference) → fault.now ≡ RenameFault.Differs d → 0 < length (entries ws.now.texts) }
-    ensures { (r : Reader) (refusal : Refusal) → IsReader r → IsFaultOf ws.now.encoding (entries ws.now.texts) refusal fault.now →
+    ensures memory { OnOk result (fault.now ≢ RenameFault.Memory) }
+    ensures text { (r : Reader) (refusal : Refusal) → IsReader r → IsFaultOf ws.now.encoding (entries ws.now.texts) refusal fault.now →
         IfOk result (λ text. text ≡ spec.refusal_text ws.now.encoding (entries ws.now.texts) (opened_as r (entries ws.now.texts)) refusal) }
 {
     match fault {

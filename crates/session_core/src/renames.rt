@@ -12,7 +12,7 @@ ghost use Rattle.session_core.specs.Renamed.{IsRenamed};
 
 use crate::Out;
 use crate::replies::{renamed, request_failed};
-use ls_base::{Mem, Memory, Steps, Text};
+use ls_base::{Mem, Steps, Text};
 use lsp_messages::{At, Id};
 use rename_planner::{RenameFault, refusal_text, rename};
 use std::alloc::Global;
@@ -50,16 +50,5 @@ fn refusal(alloc: Global, workspace: &Workspace, fault: &RenameFault) -> Mem<Tex
     ensures text { (r : Reader) (answer : Result (List Edits) Refusal) → IsReader r → AnswersAs workspace.now.encoding (entries workspace.now.texts) answer (Err fault.now)
         → IfOk result (λ text. told_as workspace.now.encoding (entries workspace.now.texts) (opened_as r (entries workspace.now.texts)) answer ≡ Err text) }
 {
-    match fault {
-        RenameFault::Memory => Err(Memory),
-        RenameFault::NotBound
-        | RenameFault::Standard(_)
-        | RenameFault::BadName
-        | RenameFault::Unreadable(_)
-        | RenameFault::PrefixLost(_)
-        | RenameFault::PrefixClash(_)
-        | RenameFault::BrokenUnit { .. }
-        | RenameFault::Limit(_)
-        | RenameFault::Differs(_) => Ok(refusal_text(alloc, workspace, fault)?),
-    }
+    Ok(refusal_text(alloc, workspace, fault)?)
 }

@@ -22,8 +22,8 @@ use Rattle.rename_planner.proofs.ReadingLaws.{spans_as}
 use Rattle.rename_planner.proofs.ReadersAgree.{opened_is_read}
 use Rattle.program_answers.proofs.TextLists.{some_row}
 
-pub returns-in_ok-with-in-Differs : goal.returns-in_ok-with-in-Differs
-returns-in_ok-with-in-Differs c = λ r refusal is fault.
+pub returns-in_ok-with-in-Differs-clause-text : goal.returns-in_ok-with-in-Differs-clause-text
+returns-in_ok-with-in-Differs-clause-text c = λ r refusal is fault.
     let e = c.args.ws.now.encoding in
     let ds = entries c.args.ws.now.texts in
     let row = some_row ds in
