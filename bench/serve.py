@@ -13,6 +13,8 @@ long. The peak is the most memory that the process ever had (VmHWM); it may have
              at an eighth, a quarter, a half and the whole of 220 KB
   questions  a change of one character; definition, references, highlights, prepareRename and arrows in the document of 220 KB, the
              first of each after a change apart from the following ones; then the same where one name is used 50,000 times
+  renames    a rename in these two documents that is accepted, beside opening one, and one that each condition refuses which they can
+             fail; what the memory grows to by the renames
   many       64 documents of 64 KB: opened one after another, which takes minutes, a change, a question
   hostile    texts that are long, deep, at limits, or whose expansion is large: opening one, with its first diagnostic
 """
@@ -299,8 +301,10 @@ def found(message):
 def answered(message):
     """How much an answer holds."""
     if "error" in message:
-        return f"error {message['error']['code']}"
+        return f"error {message['error']['code']}: {message['error']['message'][:60]}"
     result = message["result"]
+    if isinstance(result, dict) and "changes" in result:
+        return f"{sum(map(len, result['changes'].values())):,} edits"
     return f"{len(result):,} of them" if isinstance(result, list) else "nothing" if result is None else "one"
 
 
@@ -381,6 +385,33 @@ class Bench:
             show(f"{name}: memory after opening", f"{len(text):,}", "", "", megabytes(opened))
             show(f"{name}: memory after all changes and questions", f"{len(text):,}", "", "", megabytes(client.peak()))
 
+    def renames(self):
+        count = how_many(DERIVED, WHOLE, 8)
+        text = procedures(DERIVED, count)
+        self.rename_all(f"{count} procedures", text, text.index(f"(g{count // 2 - 1} y a)") + 1, text.index("cond"))
+        text = "(define (f) 1)\n" + "(f)\n" * 50_000
+        self.rename_all("a name with 50,000 uses", text, text.index("(f)\n") + 1, text.index("define"))
+
+    def rename_all(self, name, text, bound, standard):
+        """Renames what is bound at an offset, and asks for renames that are refused, in a session that changes nothing."""
+        size, document = f"{len(text):,}", {"uri": URI}
+        with self.client() as client:
+            show(f"{name}: opening", size, seconds(client.open(text)[0]), "", megabytes(client.peak()))
+            for what, at, new in (
+                ("accepted", bound, "a-name-that-is-new"),
+                ("refused", 0, "x"),
+                ("refused", standard, "x"),
+                ("refused", bound, "1"),
+                ("refused", bound, "list"),
+            ):
+                params = {"textDocument": document, "position": position(text, at), "newName": new}
+                asked = [client.ask("textDocument/rename", params) for _ in range(self.runs)]
+                told = answered(asked[-1][1])
+                show(f"{name}: a rename that is {what}", size, seconds(statistics.median(it for it, _ in asked)), "", megabytes(client.peak()), told)
+            client.open("(", "file:///unread.scm")
+            taken, message = client.ask("textDocument/rename", {"textDocument": document, "position": position(text, bound), "newName": "x"})
+            show(f"{name}: a rename beside a text that doesn't read", size, seconds(taken), "", "", answered(message))
+
     def many(self):
         text = padded(procedures(DERIVED, how_many(DERIVED, 65_536)), 65_536)
         start = {"line": 0, "character": 0}
@@ -455,7 +486,7 @@ def chez(text, runs):
     return seconds(statistics.median(taken)) if len(taken) == runs else "failed"
 
 
-GROUPS = ["start", "open", "questions", "many", "hostile"]
+GROUPS = ["start", "open", "questions", "renames", "many", "hostile"]
 
 
 def main():
