@@ -1,4 +1,4 @@
-"""The rows of this folder, and which of them a session of the built program shows.
+"""The rows of this folder, and which of them the built program shows.
 
 A file NAME.rows has a row a line, CALL tab ARGUMENT tab EXPECTED; empty lines and lines that begin with '#' are for the reader. The
 files are taken in the order of their names. Rows whose calls are of the groups SESSIONS are given to the program scheme_ls by
@@ -9,7 +9,7 @@ import sys
 from typing import NamedTuple
 
 HERE = pathlib.Path(__file__).resolve().parent
-SESSIONS = {"programs", "session", "stream"}
+SESSIONS = {"command", "programs", "session", "stream"}
 
 
 class Row(NamedTuple):

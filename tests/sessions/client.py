@@ -17,8 +17,9 @@ import threading
 ROOT = pathlib.Path(__file__).resolve().parent.parent.parent
 OUT = ROOT / "crates" / "scheme_ls" / "out"
 BUILDS = {"LLVM": OUT / "scheme_ls", "Rattle's own compiler": OUT / "scheme_ls.by-rattle"}
-# The most bytes that the server reads at once.
+# The most bytes that `serve` reads at once, and `arrows`.
 PIECE = 65_536
+TEXT_PIECE = 4_096
 SECONDS = 120
 
 
@@ -110,20 +111,20 @@ def by_size(stream, size):
     return [stream[at : at + size] for at in range(0, len(stream), size)]
 
 
-def at_random(stream, seed):
+def at_random(stream, seed, most=PIECE):
     """Pieces of random sizes, small ones and large ones."""
     dice, pieces, at = random.Random(seed), [], 0
     while at < len(stream):
-        size = int(2 ** dice.uniform(0, 13))
+        size = min(most, int(2 ** dice.uniform(0, 13)))
         pieces.append(stream[at : at + size])
         at += size
     return pieces
 
 
-def cuts(stream, seed, short=4_096):
+def cuts(stream, seed, short=4_096, most=PIECE):
     """A stream in several cuts, by their names."""
-    yield "whole", by_size(stream, PIECE)
-    yield "at random", at_random(stream, seed)
+    yield "whole", by_size(stream, most)
+    yield "at random", at_random(stream, seed, most)
     if len(stream) <= short:
         yield "byte by byte", by_size(stream, 1)
 

@@ -1,4 +1,4 @@
-"""Rows as sessions: what is sent for each row, which bodies are wanted, and what came in the words of the row."""
+"""Rows as sessions and commands: what is sent for each row, which bodies are wanted, and what came in the words of the row."""
 import json
 
 import client
@@ -65,8 +65,27 @@ class Step:
         raise ValueError
 
 
+class Command:
+    """A row that is a run of the program: its words, a text that it reads, what it prints and its status."""
+
+    def __init__(self, row):
+        words, text = json.loads(row.argument)
+        printed, self.status = json.loads(row.wanted)
+        self.words, self.text, self.printed = [made(it) for it in words], made(text), printed.encode()
+        self.steps = [Step(row, [], [])]
+
+    def cuts(self, seed):
+        yield from client.cuts(self.text, seed, most=client.TEXT_PIECE)
+
+    def judge(self, written):
+        if written != self.printed:
+            yield self.steps[0].row, client.compact(written.decode(errors="replace"))
+
+
 class Session:
     """The rows of one session, of which each reply is wanted. Without `exit` it ends with status 1 at the end of the input."""
+
+    words = ["serve"]
 
     def __init__(self):
         self.steps, self.status, self.given = [], 1, None
@@ -133,7 +152,7 @@ class Renaming(Step):
 class Renamed:
     """The one row of a session. What is published before its replies isn't the row's."""
 
-    status = 0
+    words, status = ["serve"], 0
 
     def __init__(self, row):
         self.steps = [Renaming(row)]
@@ -250,7 +269,7 @@ class Question(Step):
 class Programs:
     """All rows of programs as one session. Behind each step comes a request that no server knows, whose reply ends its replies."""
 
-    status = 0
+    words, status = ["serve"], 0
 
     def __init__(self):
         self.steps, self.documents = [Step(None, [client.request(0, "initialize", {})], None)], Documents()
