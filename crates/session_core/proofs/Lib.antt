@@ -9,3 +9,4 @@ pub mod BegunLaws  -- Before `initialize` no document is open
 pub mod Asking  -- What the workspace answers is the answer to a session's question
 pub mod Renaming  -- What the workspace answers to a rename is the reply of a session
 pub mod Refused  -- What a fault says is what the rename is refused with
+pub mod Renamed  -- The answer to a rename is the one message that is sent
