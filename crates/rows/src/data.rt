@@ -1,9 +1,9 @@
 //! Rows of datum_reader: data as they are read.
-use crate::argument::{made, made_bytes};
-use crate::fault::{Row, RowFault};
-use crate::shown::Shown;
 use crate::tokens::show_fault;
 use datum_reader::{Atom, Datum, Mark, Shape, read_all};
+use row_values::argument::{made, made_bytes};
+use row_values::fault::{Row, RowFault};
+use row_values::shown::Shown;
 use serde_json::Value;
 
 pub fn answer(out: &mut Shown, call: &str, argument: &Value) -> Row<()> {

@@ -92,22 +92,19 @@
 //!         ["(import (a))","(define-library (a))"]   -> [1,0]
 #![tactic(auto)]
 
-mod argument;
 mod data;
-mod fault;
-mod lines;
 mod positions;
 mod scopes;
-mod shown;
 mod store;
 mod tokens;
 mod units;
 
 use document_store::Store;
-use fault::{Row, RowFault};
-use lines::{Call, call_of, print};
+use row_values::argument;
+use row_values::fault::{Row, RowFault};
+use row_values::lines::{Call, call_of, print};
+use row_values::shown::Shown;
 use serde_json::Value;
-use shown::Shown;
 use std::alloc::Global;
 use std::io;
 use std::io::{BufRead, BufReader, BufWriter, Write};

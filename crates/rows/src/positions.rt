@@ -1,7 +1,7 @@
 //! Rows of text_positions.
-use crate::argument::{encoding, item, made, made_bytes, number, position};
-use crate::fault::{Row, RowFault};
-use crate::shown::Shown;
+use row_values::argument::{encoding, item, made, made_bytes, number, position};
+use row_values::fault::{Row, RowFault};
+use row_values::shown::Shown;
 use serde_json::Value;
 use text_positions::Lines;
 

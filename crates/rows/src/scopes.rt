@@ -1,9 +1,9 @@
 //! Rows of scope_env: what identifiers mean in scopes.
 ghost use Rattle.std.specs.Prelude.{◌≡◌, ◌<◌, length, IfOk, OnOk};
 
-use crate::argument::{flag, item, list, number, text};
-use crate::fault::{Row, RowFault};
-use crate::shown::Shown;
+use row_values::argument::{flag, item, list, number, text};
+use row_values::fault::{Row, RowFault};
+use row_values::shown::Shown;
 use scope_env::{Env, ScopeNo};
 use serde_json::Value;
 use std::alloc::Global;

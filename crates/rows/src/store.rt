@@ -1,9 +1,9 @@
 //! Rows of document_store, whose calls follow one another.
-use crate::argument::{encoding, integer, item, list, made, made_bytes, number, range, text};
-use crate::fault::{Row, RowFault};
-use crate::shown::Shown;
 use document_store::{Store, StoreFault};
 use ls_base::{Change, Text};
+use row_values::argument::{encoding, integer, item, list, made, made_bytes, number, range, text};
+use row_values::fault::{Row, RowFault};
+use row_values::shown::Shown;
 use serde_json::Value;
 use std::alloc::Global;
 

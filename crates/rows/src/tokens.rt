@@ -1,8 +1,8 @@
 //! Rows of scheme_tokens.
-use crate::argument::{flag, item, made, made_bytes, text};
-use crate::fault::{Row, RowFault};
-use crate::shown::Shown;
 use ls_base::Span;
+use row_values::argument::{flag, item, made, made_bytes, text};
+use row_values::fault::{Row, RowFault};
+use row_values::shown::Shown;
 use scheme_tokens::{ReadFault, Token, TokenKind, front_tokens, ident_of, spell, tokens};
 use serde_json::Value;
 

@@ -1,8 +1,5 @@
 //! Rows of import_sets and library_table: units, what they import and export, and their order.
-use crate::argument::{item, list, made, made_bytes, text};
-use crate::fault::{Row, RowFault};
 use crate::scopes::{meaning_of, show_meaning};
-use crate::shown::Shown;
 use datum_reader::read_all;
 use import_sets::{ImportFault, ImportSet, NamePair, SetName, entries_of};
 use library_table::{
@@ -10,6 +7,9 @@ use library_table::{
     exports_of, order, read_program, read_unit, repeated,
 };
 use ls_base::{Items, Span, Text};
+use row_values::argument::{item, list, made, made_bytes, text};
+use row_values::fault::{Row, RowFault};
+use row_values::shown::Shown;
 use scheme_model::Occ;
 use serde_json::Value;
 use std::alloc::Global;
