@@ -388,29 +388,30 @@ class Bench:
     def renames(self):
         count = how_many(DERIVED, WHOLE, 8)
         text = procedures(DERIVED, count)
-        self.rename_all(f"{count} procedures", text, text.index(f"(g{count // 2 - 1} y a)") + 1, text.index("cond"))
+        self.rename_all(f"{count} procedures", text, text.index(f"(g{count // 2 - 1} y a)") + 1, text.index("cond"), "cdr")
         text = "(define (f) 1)\n" + "(f)\n" * 50_000
-        self.rename_all("a name with 50,000 uses", text, text.index("(f)\n") + 1, text.index("define"))
+        self.rename_all("a name with 50,000 uses", text, text.index("(f)\n") + 1, text.index("define"), "define")
 
-    def rename_all(self, name, text, bound, standard):
-        """Renames what is bound at an offset, and asks for renames that are refused, in a session that changes nothing."""
+    def rename_all(self, name, text, bound, standard, taken):
+        """Renames what is bound at an offset, and asks for renames that are refused, in a session that changes nothing. A standard name
+        stands at another offset, and another one can't be a new name."""
         size, document = f"{len(text):,}", {"uri": URI}
         with self.client() as client:
             show(f"{name}: opening", size, seconds(client.open(text)[0]), "", megabytes(client.peak()))
             for what, at, new in (
-                ("accepted", bound, "a-name-that-is-new"),
-                ("refused", 0, "x"),
-                ("refused", standard, "x"),
+                ("accepted", bound, "h"),
+                ("refused", 0, "h"),
+                ("refused", standard, "h"),
                 ("refused", bound, "1"),
-                ("refused", bound, "list"),
+                ("refused", bound, taken),
             ):
                 params = {"textDocument": document, "position": position(text, at), "newName": new}
                 asked = [client.ask("textDocument/rename", params) for _ in range(self.runs)]
                 told = answered(asked[-1][1])
                 show(f"{name}: a rename that is {what}", size, seconds(statistics.median(it for it, _ in asked)), "", megabytes(client.peak()), told)
             client.open("(", "file:///unread.scm")
-            taken, message = client.ask("textDocument/rename", {"textDocument": document, "position": position(text, bound), "newName": "x"})
-            show(f"{name}: a rename beside a text that doesn't read", size, seconds(taken), "", "", answered(message))
+            once, message = client.ask("textDocument/rename", {"textDocument": document, "position": position(text, bound), "newName": "h"})
+            show(f"{name}: a rename beside a text that doesn't read", size, seconds(once), "", "", answered(message))
 
     def many(self):
         text = padded(procedures(DERIVED, how_many(DERIVED, 65_536)), 65_536)
