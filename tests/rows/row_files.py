@@ -2,7 +2,8 @@
 
 A file NAME.rows has a row a line, CALL tab ARGUMENT tab EXPECTED; empty lines and lines that begin with '#' are for the reader. The
 files are taken in the order of their names. Rows whose calls are of the groups SESSIONS are given to the program scheme_ls by
-tests/sessions/run, and tests/sessions/README.md tells what they say; all others are answered by the program `rows`.
+tests/sessions/run, and tests/sessions/README.md tells what they say. Those of the groups PROGRAMS are answered by the program
+`program_rows`, and all others by the program `rows`.
 """
 import pathlib
 import sys
@@ -10,6 +11,7 @@ from typing import NamedTuple
 
 HERE = pathlib.Path(__file__).resolve().parent
 SESSIONS = {"command", "programs", "session", "stream"}
+PROGRAMS = {"differences"}
 
 
 class Row(NamedTuple):
@@ -20,8 +22,17 @@ class Row(NamedTuple):
     wanted: str
 
     @property
+    def group(self):
+        return self.call.split("/")[0]
+
+    @property
     def is_of_sessions(self):
-        return self.call.split("/")[0] in SESSIONS
+        return self.group in SESSIONS
+
+    @property
+    def crate(self):
+        """The crate of the program that answers it, where it is of no session."""
+        return "program_rows" if self.group in PROGRAMS else "rows"
 
 
 def rows():
