@@ -9,5 +9,6 @@ pub mod TargetLaws  -- The origins of a use, by what its meaning is
 pub mod ClassLaws  -- The class of an occurrence, which comes in as many rounds as there are links, is the least set that holds the occurrence and is closed under links both ways
 pub mod ClassWalks  -- Going from an occurrence over links
 pub mod ClassParts  -- The parts of a class and its standard names
+pub mod PartSearch  -- Whether an occurrence has a part, found by the order of parts
 pub mod AccessLaws  -- Where a program is written and read, by the leaves and the forms of the code
 pub mod SearchLaws  -- Whether an occurrence is among some in order, by a binary search

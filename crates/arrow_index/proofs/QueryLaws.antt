@@ -19,10 +19,11 @@ use Rattle.program_leaves.proofs.MemberLaws.{in_from, contains_from, in_map, fro
 use Rattle.program_leaves.proofs.KeyLaws.{one_occ, occs_equal}
 use Rattle.arrow_index.proofs.BinderLaws.{in_filter, from_filter, if_there, if_from}
 use Rattle.program_leaves.proofs.Orders.{occ_total}
+use Rattle.arrow_index.proofs.ClassLaws.{itself}
 
 -- ---- orders
 
-first_less : (a b : Ordering) → ordering_then a b ≡ Less → (a ≡ Less) ⊎ (a ≡ Equal)
+pub first_less : (a b : Ordering) → ordering_then a b ≡ Less → (a ≡ Less) ⊎ (a ≡ Equal)
 first_less Less b h = inl refl
 first_less Equal b h = inr refl
 first_less Greater b h = absurd cc
@@ -54,7 +55,7 @@ neither a Greater e h k = let l : is_lt a ≡ true = ap is_lt e in absurd cc
 pub at_binder : (o p : Occ) → is_lt (occ_cmp o p) ≡ false → not (is_lt (occ_cmp p o)) ≡ true → same_occ o p ≡ true
 at_binder o p h k = sym (occs_equal o p) ∙ neither (occ_cmp o p) (occ_cmp p o) (occ_total.antisymm o p) h k
 
-before_not_same : (o p : Occ) → is_lt (occ_cmp o p) ≡ true → same_occ o p ≡ false
+pub before_not_same : (o p : Occ) → is_lt (occ_cmp o p) ≡ true → same_occ o p ≡ false
 before_not_same o p h = sym (occs_equal o p) ∙ ap is_eq (less_from (occ_cmp o p) h)
 
 after_not_same : (o p : Occ) → not (is_lt (occ_cmp p o)) ≡ false → same_occ o p ≡ false
@@ -64,40 +65,49 @@ after_not_same o p h = sym (occs_equal o p) ∙ ap is_eq (occ_total.antisymm o p
     is_true true k = refl
     is_true false k = absurd cc
 
--- ---- pairs in order
+-- ---- what is in order, by an occurrence first
 
 below_or_same : (i j : ℕ) → i ≤ j → (i < j) ⊎ (i ≡ j)
 below_or_same i j le = elim (cases_order i j) [ inl e ↦ inr e | inr other ↦ elim other [ inl l ↦ inl l | inr g ↦ absurd (omega (arith, le, g)) ] ]
 
--- a member that comes later isn't before
-later : (x : Pair) (xs : List Pair) (j : ℕ) (d : Pair) → AllByRecursion (λ (y : Pair). pair_cmp x y ≡ Less) xs → j < length xs → pair_cmp x (get_or xs j d) ≡ Less
-later x [] j d h lt = absurd (omega (arith, lt))
-later x (y ∷ ys) zero d h lt = h.0
-later x (y ∷ ys) (suc j) d h lt = later x ys j d h.1 (omega (arith, lt))
+module _ {X : Type 0} (cmp : X → X → Ordering) where
+  -- a member that comes later isn't before
+  later : (x : X) (xs : List X) (j : ℕ) (d : X) → AllByRecursion (λ (y : X). cmp x y ≡ Less) xs → j < length xs → cmp x (get_or xs j d) ≡ Less
+  later x [] j d h lt = absurd (omega (arith, lt))
+  later x (y ∷ ys) zero d h lt = h.0
+  later x (y ∷ ys) (suc j) d h lt = later x ys j d h.1 (omega (arith, lt))
 
-in_turn : (xs : List Pair) (i j : ℕ) (d : Pair) → IsStrictlySortedBy pair_cmp xs → i < j → j < length xs → pair_cmp (get_or xs i d) (get_or xs j d) ≡ Less
-unfolding IsStrictlySortedBy
-in_turn [] i j d h lt within = absurd (omega (arith, within))
-in_turn (x ∷ xs) i zero d h lt within = absurd (omega (arith, lt))
-in_turn (x ∷ xs) zero (suc j) d h lt within = later x xs j d h.0 (omega (arith, within))
-in_turn (x ∷ xs) (suc i) (suc j) d h lt within = in_turn xs i j d h.1 (omega (arith, lt)) (omega (arith, within))
+  pub in_turn : (xs : List X) (i j : ℕ) (d : X) → IsStrictlySortedBy cmp xs → i < j → j < length xs → cmp (get_or xs i d) (get_or xs j d) ≡ Less
+  unfolding IsStrictlySortedBy
+  in_turn [] i j d h lt within = absurd (omega (arith, within))
+  in_turn (x ∷ xs) i zero d h lt within = absurd (omega (arith, lt))
+  in_turn (x ∷ xs) zero (suc j) d h lt within = later x xs j d h.0 (omega (arith, within))
+  in_turn (x ∷ xs) (suc i) (suc j) d h lt within = in_turn xs i j d h.1 (omega (arith, lt)) (omega (arith, within))
+
+  module _ (key : X → Occ) (key_first : (x y : X) → cmp x y ≡ Less → (occ_cmp (key x) (key y) ≡ Less) ⊎ (occ_cmp (key x) (key y) ≡ Equal)) where
+    pub keys_in_turn : (xs : List X) (i j : ℕ) (d : X) → IsStrictlySortedBy cmp xs → i ≤ j → j < length xs → (occ_cmp (key (get_or xs i d)) (key (get_or xs j d)) ≡ Less) ⊎ (occ_cmp (key (get_or xs i d)) (key (get_or xs j d)) ≡ Equal)
+    keys_in_turn xs i j d h le lt = elim (below_or_same i j le) [
+      | inl l ↦ key_first (get_or xs i d) (get_or xs j d) (in_turn xs i j d h l lt)
+      | inr e ↦ inr (ap (λ (n : ℕ). occ_cmp (key (get_or xs n d)) (key (get_or xs j d))) e ∙ same_equal (key (get_or xs j d)) (key (get_or xs j d)) (itself (key (get_or xs j d))))
+    ]
+
+    pub keys_before : (xs : List X) (b : Occ) → IsStrictlySortedBy cmp xs → IsPartitionedBy (λ (x : X). is_lt (occ_cmp (key x) b)) xs
+    keys_before xs b h i j d le lt e = by_less (key (get_or xs i d)) (key (get_or xs j d)) (keys_in_turn xs i j d h le lt) e
+      where
+        by_less : (x y : Occ) → (occ_cmp x y ≡ Less) ⊎ (occ_cmp x y ≡ Equal) → is_lt (occ_cmp y b) ≡ true → is_lt (occ_cmp x b) ≡ true
+        by_less x y (inl k) f = ap is_lt (occ_total.trans x y b k (less_from (occ_cmp y b) f))
+        by_less x y (inr k) f = ap is_lt (occ_total.congr x y b k) ∙ f
+
+-- ---- pairs in order
+
+pair_first : (p q : Pair) → pair_cmp p q ≡ Less → (occ_cmp p.binder q.binder ≡ Less) ⊎ (occ_cmp p.binder q.binder ≡ Equal)
+pair_first p q h = first_less (occ_cmp p.binder q.binder) (occ_cmp p.target q.target) h
 
 pub before_parts : (ps : List Pair) (b : Occ) → IsStrictlySortedBy pair_cmp ps → IsPartitionedBy (λ (p : Pair). is_lt (occ_cmp p.binder b)) ps
-before_parts ps b h i j d le lt e = by_place (below_or_same i j le)
-  where
-    by_less : (x y : Occ) → (occ_cmp x y ≡ Less) ⊎ (occ_cmp x y ≡ Equal) → is_lt (occ_cmp y b) ≡ true → is_lt (occ_cmp x b) ≡ true
-    by_less x y (inl k) f = ap is_lt (occ_total.trans x y b k (less_from (occ_cmp y b) f))
-    by_less x y (inr k) f = ap is_lt (occ_total.congr x y b k) ∙ f
-
-    by_place : (i < j) ⊎ (i ≡ j) → is_lt (occ_cmp (get_or ps i d).binder b) ≡ true
-    by_place (inl l) =
-        let x = get_or ps i d in
-        let y = get_or ps j d in
-        by_less x.binder y.binder (first_less (occ_cmp x.binder y.binder) (occ_cmp x.target y.target) (in_turn ps i j d h l lt)) e
-    by_place (inr k) = ap (λ (n : ℕ). is_lt (occ_cmp (get_or ps n d).binder b)) k ∙ e
+before_parts ps b h = keys_before pair_cmp (λ (p : Pair). p.binder) pair_first ps b h
 
 pub after_parts : (ps : List Pair) (b : Occ) → IsStrictlySortedBy pair_cmp ps → IsPartitionedBy (λ (p : Pair). not (is_lt (occ_cmp b p.binder))) ps
-after_parts ps b h i j d le lt e = by_place (below_or_same i j le)
+after_parts ps b h i j d le lt e = by_test (get_or ps i d).binder (get_or ps j d).binder (keys_in_turn pair_cmp (λ (p : Pair). p.binder) pair_first ps i j d h le lt) e (occ_cmp b (get_or ps i d).binder) refl
   where
     by_test : (x y : Occ) → (occ_cmp x y ≡ Less) ⊎ (occ_cmp x y ≡ Equal) → not (is_lt (occ_cmp b y)) ≡ true → (q : Ordering) → occ_cmp b x ≡ q → not (is_lt q) ≡ true
     by_test x y k f Equal g = refl
@@ -107,13 +117,6 @@ after_parts ps b h i j d le lt e = by_place (below_or_same i j le)
         let turn : occ_cmp b y ≡ occ_cmp b x = occ_total.antisymm b y ∙ ap ordering_reverse (sym (occ_total.congr x y b k)) ∙ sym (occ_total.antisymm b x) in
         let w : not (is_lt (occ_cmp b y)) ≡ false = ap (λ (r : Ordering). not (is_lt r)) (turn ∙ g) in
         absurd cc
-
-    by_place : (i < j) ⊎ (i ≡ j) → not (is_lt (occ_cmp b (get_or ps i d).binder)) ≡ true
-    by_place (inl l) =
-        let x = get_or ps i d in
-        let y = get_or ps j d in
-        by_test x.binder y.binder (first_less (occ_cmp x.binder y.binder) (occ_cmp x.target y.target) (in_turn ps i j d h l lt)) e (occ_cmp b x.binder) refl
-    by_place (inr k) = ap (λ (n : ℕ). not (is_lt (occ_cmp b (get_or ps n d).binder))) k ∙ e
 
 -- ---- what stands at the binder
 

@@ -1,9 +1,9 @@
 //! Classes: the occurrences that are spelled together with one, each with its prefixes. A class is found by going from the
 //! occurrence over the links, in both directions; a standard name leads nowhere.
-ghost use Rattle.std.specs.Prelude.{◌≡◌, ◌↔◌, ◌++◌, ◌∷◌, [], ℕ, List, map, not, true, IfOk, OnOk, if◌then◌else◌};
+ghost use Rattle.std.specs.Prelude.{◌≡◌, ◌≤◌, ◌↔◌, ◌++◌, ◌∷◌, [], ℕ, List, length, map, not, true, false, IfOk, OnOk, if◌then◌else◌};
 ghost use Rattle.std.specs.List.{Contains, flat_map};
-ghost use Rattle.std.specs.List.Sorted.{IsStrictlySortedBy};
-ghost use Rattle.std.specs.Ordering.{nat_cmp};
+ghost use Rattle.std.specs.List.Sorted.{IsPartitionPoint, IsStrictlySortedBy};
+ghost use Rattle.std.specs.Ordering.{is_lt, nat_cmp};
 ghost use Rattle.std.specs.Cmp.Lexicographic.{slice_cmp};
 ghost use Rattle.std.specs.BTreeSet.{contains};
 ghost use Rattle.scheme_model.specs.declared.Occ.{Occ as AnyOcc};
@@ -193,22 +193,39 @@ fn parts_in_order(parts: Vec<ClassPart>) -> Mem<Items<ClassPart>>
 
 /// The class of an occurrence: each prefix of each member, sorted by occurrence and prefix.
 pub fn class_of(alloc: Global, links: &[Link], occ: Occ) -> Mem<Items<ClassPart>>
-    ensures { (all : List ModelLink) → AreSaid links.now all → IfOk result (λ parts. AreParts parts all occ) }
+    ensures sorted { IfOk result (IsStrictlySortedBy part_cmp) }
+    ensures exact { (all : List ModelLink) → AreSaid links.now all → IfOk result (λ parts. AreParts parts all occ) }
 {
     let outside = outside_of(alloc, links, occ)?;
     let parts = all_parts(alloc, links, &outside)?;
     Ok(parts_in_order(parts)?)
 }
 
-/// The occurrences of parts.
-fn members_of(alloc: Global, parts: &[ClassPart]) -> Mem<BTreeSet<Occ>>
-    ensures { IfOk result (λ members. (o : AnyOcc) → contains occ_cmp members o ≡ has_part parts.now o) }
+/// Whether a part stands for an occurrence that comes before another.
+fn is_part_before(part: &ClassPart, occ: Occ) -> bool
+    ensures { result ≡ is_lt (occ_cmp part.now.occ occ) }
 {
-    let mut members = BTreeSet::new(alloc);
-    for part in parts {
-        members.insert(part.occ)?;
+    part.occ < occ
+}
+
+/// The place of the first part whose occurrence doesn't come before another.
+fn first_part(parts: &[ClassPart], occ: Occ) -> usize
+    requires { IsStrictlySortedBy part_cmp parts.now }
+    ensures bound { result ≤ length parts.now }
+    ensures point { IsPartitionPoint (λ p. is_lt (occ_cmp p.occ occ) ≡ true) (λ p. is_lt (occ_cmp p.occ occ) ≡ false) parts.now result }
+{
+    parts.partition_point(|part| is_part_before(part, occ))
+}
+
+/// Whether an occurrence has one of these parts.
+fn has_part(parts: &[ClassPart], occ: Occ) -> bool
+    requires { IsStrictlySortedBy part_cmp parts.now }
+    ensures { result ≡ has_part parts.now occ }
+{
+    match parts.get(first_part(parts, occ)) {
+        Some(part) => part.occ == occ,
+        None => false,
     }
-    Ok(members)
 }
 
 /// Adds a name, where that is wanted.
@@ -223,12 +240,13 @@ fn add_name(name: &Text, is_wanted: bool, names: &mut Vec<Text>) -> Mem<()>
 }
 
 /// Adds the origin of a link to a member, where it is a standard name.
-fn add_standard(link: &Link, members: &BTreeSet<Occ>, names: &mut Vec<Text>) -> Mem<()>
-    ensures { OnOk result (names.new.items ≡ names.old.items ++ names_from (λ o. contains occ_cmp members.now o) link.now) }
+fn add_standard(link: &Link, parts: &[ClassPart], names: &mut Vec<Text>) -> Mem<()>
+    requires { IsStrictlySortedBy part_cmp parts.now }
+    ensures { OnOk result (names.new.items ≡ names.old.items ++ names_from (has_part parts.now) link.now) }
 {
     match &link.origin {
         LinkOrigin::Place(_) => Ok(()),
-        LinkOrigin::Standard(name) => Ok(add_name(name, members.contains(&link.target), names)?),
+        LinkOrigin::Standard(name) => Ok(add_name(name, has_part(parts, link.target), names)?),
     }
 }
 
@@ -243,21 +261,22 @@ fn names_in_order(names: Vec<Text>) -> Mem<Items<Text>>
 }
 
 /// The standard names of links to members in no order, of which some may stand twice.
-fn all_names(alloc: Global, links: &[Link], members: &BTreeSet<Occ>) -> Mem<Vec<Text>>
-    ensures { IfOk result (λ names. names.items ≡ flat_map (names_from (λ o. contains occ_cmp members.now o)) links.now) }
+fn all_names(alloc: Global, links: &[Link], parts: &[ClassPart]) -> Mem<Vec<Text>>
+    requires { IsStrictlySortedBy part_cmp parts.now }
+    ensures { IfOk result (λ names. names.items ≡ flat_map (names_from (has_part parts.now)) links.now) }
 {
     let mut names = Vec::new(alloc);
     for link in links {
-        add_standard(link, members, &mut names)?;
+        add_standard(link, parts, &mut names)?;
     }
     Ok(names)
 }
 
 /// The standard names that a member of a class takes characters from, in order, each once. The parts are those of the class.
 pub fn standard_names(alloc: Global, links: &[Link], parts: &[ClassPart]) -> Mem<Items<Text>>
+    requires { IsStrictlySortedBy part_cmp parts.now }
     ensures { (all : List ModelLink) (occ : AnyOcc) → AreSaid links.now all → AreParts parts.now all occ → IfOk result (λ names. AreStandard names all occ) }
 {
-    let members = members_of(alloc, parts)?;
-    let names = all_names(alloc, links, &members)?;
+    let names = all_names(alloc, links, parts)?;
     Ok(names_in_order(names)?)
 }

@@ -1,19 +1,24 @@
 -- The new names of the parts of a class, and the identifiers and edits of documents, as the code keeps them.
-use Rattle.std.specs.Prelude.{ℕ, suc, ◌==◌, List, [], ◌∷◌, ◌++◌, map, Option, if◌then◌else◌}
+use Rattle.std.specs.Prelude.{◌≡◌, ℕ, suc, ◌==◌, List, [], ◌∷◌, ◌++◌, map, Option, if◌then◌else◌}
 use Rattle.scheme_model.specs.declared.Occ.{Occ}
 use Rattle.scheme_model.specs.Program.{UnitResult}
+use Rattle.scheme_model.specs.Spelling.{Link}
 use Rattle.document_store.specs.Texts.{Document}
 use Rattle.document_units.specs.Readings.{Read, spans_in}
 use Rattle.document_units.specs.declared.listing.Head.{Head}
 use Rattle.program_answers.specs.declared.classes.ClassPart.{ClassPart}
 use Rattle.text_edits.specs.Edits.{Edit}
-use Rattle.text_edits.specs.Members.{Identifier, Member, identifiers_of, name_at}
+use Rattle.text_edits.specs.Members.{Identifier, Member, identifiers_of, members_of, name_at, name_of}
 use Rattle.text_edits.specs.NewNames.{edits_of}
 use Rattle.text_edits.specs.Views.{identifier_by}
 
 -- each with its prefix and the new stem behind it
 abbrev pub named_parts : (stem : List ℕ) → List ClassPart → List Member
 named_parts stem parts = map (λ (p : ClassPart). record { occ = p.occ; name = p.prefix ++ stem }) parts
+
+-- these are the new names of the members of a class
+abbrev pub AreNamed : List Link → (stem : List ℕ) → Occ → (name : Occ → Option (List ℕ)) → Type 0
+AreNamed ls stem at name = (o : Occ) → name o ≡ name_of (members_of ls stem at) o
 
 -- those of the units of the document
 abbrev pub identifiers_in : (document : ℕ) → List Head → List Identifier

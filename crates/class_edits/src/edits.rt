@@ -8,38 +8,29 @@ ghost use Rattle.scheme_model.specs.Diagnostics.{spans_at};
 ghost use Rattle.scheme_model.specs.Sites.{or_else};
 ghost use Rattle.document_units.specs.Places.{spans_of};
 ghost use Rattle.document_units.specs.Readings.{Read, AreReadAs, program_in};
-ghost use Rattle.program_answers.specs.Classed.{IsClassOf};
 ghost use Rattle.program_answers.specs.ToldAnswers.{facts_in, text_of};
 ghost use Rattle.text_edits.specs.Members.{identifiers_of, name_at};
 ghost use Rattle.text_edits.specs.NewNames as new;
 ghost use Rattle.text_edits.specs.Views.{CanEdit, edit_of, identifier_by, occ_cmp};
-ghost use Rattle.class_edits.specs.Clashes.{clashing};
 ghost use Rattle.class_edits.specs.DocumentEdits.{CanEditAll, edits_of_class, seen};
-ghost use Rattle.class_edits.specs.Named.{edits_by, identifiers_in};
+ghost use Rattle.class_edits.specs.Named.{AreNamed, edits_by, identifiers_in};
 
-use crate::members::members;
 use document_units::listing::Head;
 use ls_base::{Items, Mem};
-use program_answers::classes::Class;
 use program_answers::open::Open;
 use std::alloc::Global;
 use std::collections::BTreeMap;
 use text_edits::{Edit, Members, TokenNames, edits_of, note_names};
 
-/// The edits of each open document by which a class gets a new stem.
-pub fn class_edits(
-    alloc: Global,
-    texts: &Open,
-    class: &Class,
-    stem: &str,
-) -> Mem<Items<Items<Edit>>>
-    ensures exact { (rs : List Read) (at : Occ) → AreReadAs (entries texts.now) rs → IsClassOf (entries texts.now) (facts_in rs) at class.now → clashing (facts_in rs).links at ≡ [] →
-        IfOk result (λ all. seen all ≡ edits_of_class (entries texts.now) rs stem.now at) }
+/// The edits of each open document by which members get their new names.
+pub fn class_edits(alloc: Global, texts: &Open, members: &Members) -> Mem<Items<Items<Edit>>>
+    // Where these are the members of a class with a new stem.
+    ensures exact { (rs : List Read) (at : Occ) (stem : List ℕ) → AreReadAs (entries texts.now) rs → AreNamed (facts_in rs).links stem at (λ o. get occ_cmp members.now o) →
+        IfOk result (λ all. seen all ≡ edits_of_class (entries texts.now) rs stem at) }
     // They can be made.
     ensures made { IfOk result (CanEditAll (entries texts.now)) }
 {
-    let members = members(alloc, class.parts.as_slice(), stem)?;
-    let all = all_edits(alloc, texts, &members)?;
+    let all = all_edits(alloc, texts, members)?;
     Ok(all)
 }
 

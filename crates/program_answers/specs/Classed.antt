@@ -27,21 +27,6 @@ IsLongest (t ∷ ts) s = Contains (t ∷ ts) s × ((u : List ℕ) → Contains (
 abbrev pub bare_part : ClassPart → bare.ClassPart
 bare_part p = record { occ = p.occ; prefix = p.prefix }
 
--- the class of an occurrence: each prefix of each member, with whether this stands between bars; and the longest prefix of its own
-pub record IsClassOf (ds : List (List ℕ × Document)) (f : Facts) (o : Occ) (c : Class) : Type 0 where
-  pub at : c.at ≡ o
-  pub joined : is_joined f.links o ≡ true
-  pub parts : AreParts (map bare_part c.parts) f.links o
-  pub bars : All (λ (p : ClassPart). p.bars ≡ has_bars ds (f.bytes p.occ)) c.parts
-  pub prefix : IsLongest (prefixes_of f.links o []) c.prefix
-
--- none exactly where no occurrence stands there, or no link joins it
-abbrev pub IsClassAt : List (List ℕ × Document) → Facts → Option Occ → Option Class → Type 0
-IsClassAt ds f None None = Unit {0}
-IsClassAt ds f None (Some c) = ⊥
-IsClassAt ds f (Some o) None = is_joined f.links o ≡ false
-IsClassAt ds f (Some o) (Some c) = IsClassOf ds f o c
-
 -- the standard name of a class that is first in byte order; none where it has none
 abbrev pub head_of : {A : Type 0} → List A → Option A
 head_of [] = None
@@ -50,3 +35,20 @@ head_of (x ∷ xs) = Some x
 abbrev pub standard_for : Facts → Option Occ → Option (List ℕ)
 standard_for f None = None
 standard_for f (Some o) = head_of (ordered_by is_below (standard_origins f.links (class_of f.links o)))
+
+-- the class of an occurrence: each prefix of each member, with whether this stands between bars; the longest prefix of its own; and the
+-- first standard name
+pub record IsClassOf (ds : List (List ℕ × Document)) (f : Facts) (o : Occ) (c : Class) : Type 0 where
+  pub at : c.at ≡ o
+  pub joined : is_joined f.links o ≡ true
+  pub parts : AreParts (map bare_part c.parts) f.links o
+  pub bars : All (λ (p : ClassPart). p.bars ≡ has_bars ds (f.bytes p.occ)) c.parts
+  pub prefix : IsLongest (prefixes_of f.links o []) c.prefix
+  pub standard : c.standard ≡ standard_for f (Some o)
+
+-- none exactly where no occurrence stands there, or no link joins it
+abbrev pub IsClassAt : List (List ℕ × Document) → Facts → Option Occ → Option Class → Type 0
+IsClassAt ds f None None = Unit {0}
+IsClassAt ds f None (Some c) = ⊥
+IsClassAt ds f (Some o) None = is_joined f.links o ≡ false
+IsClassAt ds f (Some o) (Some c) = IsClassOf ds f o c

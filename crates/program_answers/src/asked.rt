@@ -2,6 +2,7 @@
 //! of it.
 ghost use Rattle.std.specs.Prelude.{◌≡◌, ◌<◌, List, length, Some, IfOk};
 ghost use Rattle.std.specs.FinMap.{entries};
+ghost use Rattle.std.specs.List.Sorted.{IsStrictlySortedBy};
 ghost use Rattle.ls_base.specs.Positions.{offset_of};
 ghost use Rattle.scheme_model.specs.declared.Occ.{Occ as AnyOcc};
 ghost use Rattle.arrow_index.specs.Classes as classes;
@@ -61,7 +62,8 @@ impl Asked<'_> {
 
     /// The class of an occurrence.
     pub fn parts(&self, occ: Occ) -> Mem<Items<ClassPart>>
-        ensures { (rs : List Read) → IsSource self.now.texts.now rs self.now.index.now → IfOk result (λ parts. classes.AreParts parts (told.facts_in rs).links occ) }
+        ensures sorted { IfOk result (IsStrictlySortedBy classes.part_cmp) }
+        ensures exact { (rs : List Read) → IsSource self.now.texts.now rs self.now.index.now → IfOk result (λ parts. classes.AreParts parts (told.facts_in rs).links occ) }
     {
         let parts = class_of(self.alloc, self.index.links.as_slice(), occ)?;
         Ok(parts)
@@ -72,8 +74,18 @@ impl Asked<'_> {
         ensures { (rs : List Read) → IsSource self.now.texts.now rs self.now.index.now → IfOk result (λ names. classes.AreStandard names (told.facts_in rs).links occ) }
     {
         let parts = self.parts(occ)?;
+        let names = self.standard_of(parts.as_slice())?;
+        Ok(names)
+    }
+
+    /// The standard names that the class of these parts takes characters from, in order, each once.
+    pub fn standard_of(&self, parts: &[ClassPart]) -> Mem<Items<Text>>
+        requires { IsStrictlySortedBy classes.part_cmp parts.now }
+        ensures { (rs : List Read) (occ : AnyOcc) → IsSource self.now.texts.now rs self.now.index.now → classes.AreParts parts.now (told.facts_in rs).links occ →
+            IfOk result (λ names. classes.AreStandard names (told.facts_in rs).links occ) }
+    {
         let links = self.index.links.as_slice();
-        let names = standard_names(self.alloc, links, parts.as_slice())?;
+        let names = standard_names(self.alloc, links, parts)?;
         Ok(names)
     }
 

@@ -23,12 +23,13 @@ pub struct ClassPart {
     pub bars: bool,
 }
 
-/// The class of an occurrence: the longest of its own prefixes, of those of one length the last in byte order, and each prefix of each
-/// member.
+/// The class of an occurrence: the longest of its own prefixes, of those of one length the last in byte order, the first in byte order
+/// of the standard names that spell it, and each prefix of each member.
 #[derive(Debug, Drop)]
 pub struct Class {
     pub at: Occ,
     pub prefix: Text,
+    pub standard: Option<Text>,
     pub parts: Items<ClassPart>,
 }
 
@@ -55,10 +56,13 @@ fn class_of(asked: &Asked<'_>, occ: Occ) -> Mem<Class>
 {
     let parts = asked.parts(occ)?;
     let prefix = Text::of(asked.alloc, longest(parts.as_slice(), occ))?;
+    let names = asked.standard_of(parts.as_slice())?;
+    let standard = first_of(names.as_slice())?;
     let placed = with_bars(asked, parts)?;
     Ok(Class {
         at: occ,
         prefix,
+        standard,
         parts: placed,
     })
 }

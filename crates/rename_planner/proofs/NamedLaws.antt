@@ -19,14 +19,6 @@ use Rattle.rename_planner.specs.declared.faults.RenameFault.{RenameFault}
 use Rattle.rename_planner.specs.declared.planning.Named.{Named}
 use Rattle.rename_planner.proofs.BindLaws.{bind_err, bind_ok}
 
-pub joined_some : (ls : List Link) (at : Option Occ) (o : Occ) → ok_or (joined_at ls at) NotBound ≡ Ok o → at ≡ Some o
-joined_some ls None o h = absurd cc
-joined_some ls (Some p) o h = go (is_joined ls p) h
-  where
-    go : (b : Bool) → ok_or (cond b (Some p) None) NotBound ≡ Ok o → Some p ≡ Some o
-    go true k = cc
-    go false k = absurd cc
-
 module _ (e : Encoding) (ds : List (List ℕ × Document)) (rs : List Read) (at : Option Occ) (spelled : Option (List ℕ)) where
   abbrev w : Opened
   w = read_as ds rs
@@ -56,12 +48,12 @@ module _ (e : Encoding) (ds : List (List ℕ × Document)) (rs : List Read) (at 
   unbound fault h = bind_err e ds (IsClassOf ds (facts_in rs)) (IsNamed ds rs) bound _ fault h
 
   module _ (class : Class) (h1 : ComesTo e ds (IsClassOf ds (facts_in rs)) bound (Ok class)) where
-    pub is_standard : (fault : RenameFault) → ((o : Occ) → at ≡ Some o → ComesTo {B = Unit {0}} e ds Holds (standard o) (Err fault)) → Comes (Err fault)
-    is_standard fault h = bind_ok e ds (IsClassOf ds (facts_in rs)) (IsNamed ds rs) bound _ class (Err fault) h1 (λ o q is. bind_err {B = Unit {0}} e ds Holds (IsNamed ds rs) (standard o) _ fault (h o (joined_some ls at o q)))
+    pub is_standard : (fault : RenameFault) → ((o : Occ) → IsClassOf ds (facts_in rs) o class → ComesTo {B = Unit {0}} e ds Holds (standard o) (Err fault)) → Comes (Err fault)
+    is_standard fault h = bind_ok e ds (IsClassOf ds (facts_in rs)) (IsNamed ds rs) bound _ class (Err fault) h1 (λ o q is. bind_err {B = Unit {0}} e ds Holds (IsNamed ds rs) (standard o) _ fault (h o is))
 
-    module _ (h2 : (o : Occ) → at ≡ Some o → ComesTo {B = Unit {0}} e ds Holds (standard o) (Ok tt)) where
+    module _ (h2 : (o : Occ) → IsClassOf ds (facts_in rs) o class → ComesTo {B = Unit {0}} e ds Holds (standard o) (Ok tt)) where
       behind : (r : Result Named RenameFault) → ((o : Occ) → IsClassOf ds (facts_in rs) o class → ComesTo e ds (IsNamed ds rs) (named >>= λ name. readable >>= λ done. stemmed o name >>= λ stem. Ok (o, stem)) r) → Comes r
-      behind r h = bind_ok e ds (IsClassOf ds (facts_in rs)) (IsNamed ds rs) bound _ class r h1 (λ o q is. bind_ok {B = Unit {0}} e ds Holds (IsNamed ds rs) (standard o) _ tt r (h2 o (joined_some ls at o q)) (λ a p k. h o is))
+      behind r h = bind_ok e ds (IsClassOf ds (facts_in rs)) (IsNamed ds rs) bound _ class r h1 (λ o q is. bind_ok {B = Unit {0}} e ds Holds (IsNamed ds rs) (standard o) _ tt r (h2 o is) (λ a p k. h o is))
 
       pub bad_name : (fault : RenameFault) → ComesTo e ds Same named (Err fault) → Comes (Err fault)
       bad_name fault h = behind (Err fault) (λ o is. bind_err e ds Same (IsNamed ds rs) named _ fault h)

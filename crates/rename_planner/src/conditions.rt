@@ -1,5 +1,6 @@
 //! The conditions of a rename before programs are compared, one function each. They expand nothing.
 ghost use Rattle.std.specs.Prelude.{◌≡◌, ◌<◌, ◌≤◌, [], ℕ, List, length, map, None, Some, IfOk, IfNone, OnOk};
+ghost use Rattle.std.specs.BTreeMap.{get};
 ghost use Rattle.std.specs.FinMap.{entries};
 ghost use Rattle.std.specs.Option.{ok_or, option_map};
 ghost use Rattle.ls_base.specs.declared.encoding.Encoding.{Encoding as AnyEncoding};
@@ -9,8 +10,10 @@ ghost use Rattle.document_units.specs.Readings.{Read, AreReadAs};
 ghost use Rattle.program_answers.specs.Classed.{IsClassOf};
 ghost use Rattle.program_answers.specs.ToldAnswers.{facts_in, name_there};
 ghost use Rattle.text_edits.specs.Members as members;
+ghost use Rattle.text_edits.specs.Views.{occ_cmp};
 ghost use Rattle.class_edits.specs.Clashes.{clashing};
 ghost use Rattle.class_edits.specs.DocumentEdits.{CanEditAll, edits_of_class, seen, too_long};
+ghost use Rattle.class_edits.specs.Named.{AreNamed};
 ghost use Rattle.rename_conditions.specs.Readers.{Reader, IsReader};
 ghost use Rattle.rename_conditions.specs.Opened.{edited_in};
 ghost use Rattle.rename_conditions.specs.Renames as model;
@@ -21,7 +24,7 @@ use crate::faults::RenameFault;
 use class_edits::{class_edits, first_clash, first_too_long};
 use ls_base::{Items, Pos, Text};
 use std::alloc::Global;
-use text_edits::{Edit, new_symbol, stem_of};
+use text_edits::{Edit, Members, new_symbol, stem_of};
 use workspace_state::{Class, PlacedError, Workspace};
 
 /// The class of the identifier at a position, where a link joins it.
@@ -36,12 +39,15 @@ pub fn bound(ws: &Workspace, uri: &str, position: Pos) -> Result<Class, RenameFa
 }
 
 /// Refused where a standard name spells it: the first in byte order.
-pub fn no_standard(ws: &Workspace, uri: &str, position: Pos) -> Result<(), RenameFault>
-    ensures { (rs : List Read) (o : AnyOcc) → AreReadAs (entries ws.now.texts) rs → name_there ws.now.encoding (entries ws.now.texts) rs uri.now position ≡ Some o →
-        ComesTo ws.now.encoding (entries ws.now.texts) Holds (model.unless (model.first_of (model.standard_names (read_as (entries ws.now.texts) rs) o)) model.IsStandard) result }
+pub fn no_standard(class: &Class) -> Result<(), RenameFault>
+    ensures { (encoding : AnyEncoding) (ds : List (List ℕ × Document)) (rs : List Read) (o : AnyOcc) → IsClassOf ds (facts_in rs) o class.now →
+        ComesTo encoding ds Holds (model.unless (model.first_of (model.standard_names (read_as ds rs) o)) model.IsStandard) result }
 {
-    match ws.standard_at(uri, position)? {
-        Some(name) => Err(RenameFault::Standard(name)),
+    match &class.standard {
+        Some(name) => {
+            let name = name.clone()?;
+            Err(RenameFault::Standard(name))
+        }
         None => Ok(()),
     }
 }
@@ -121,17 +127,16 @@ pub fn all_whole(ws: &Workspace, class: &Class) -> Result<(), RenameFault>
 pub fn fitting_edits(
     alloc: Global,
     ws: &Workspace,
-    class: &Class,
-    stem: &str,
+    members: &Members,
 ) -> Result<Items<Items<Edit>>, RenameFault>
-    ensures exact { (rs : List Read) (o : AnyOcc) → AreReadAs (entries ws.now.texts) rs → IsClassOf (entries ws.now.texts) (facts_in rs) o class.now → clashing (facts_in rs).links o ≡ [] →
-        ComesTo ws.now.encoding (entries ws.now.texts) Holds (model.unless (model.first_too_long 0 (edited_in (read_as (entries ws.now.texts) rs) o stem.now)) model.TooLong) result }
-    ensures edits { (rs : List Read) (o : AnyOcc) → AreReadAs (entries ws.now.texts) rs → IsClassOf (entries ws.now.texts) (facts_in rs) o class.now → clashing (facts_in rs).links o ≡ [] →
-        IfOk result (λ all. seen all ≡ edits_of_class (entries ws.now.texts) rs stem.now o) }
+    ensures exact { (rs : List Read) (o : AnyOcc) (stem : List ℕ) → AreReadAs (entries ws.now.texts) rs → AreNamed (facts_in rs).links stem o (λ x. get occ_cmp members.now x) →
+        ComesTo ws.now.encoding (entries ws.now.texts) Holds (model.unless (model.first_too_long 0 (edited_in (read_as (entries ws.now.texts) rs) o stem)) model.TooLong) result }
+    ensures edits { (rs : List Read) (o : AnyOcc) (stem : List ℕ) → AreReadAs (entries ws.now.texts) rs → AreNamed (facts_in rs).links stem o (λ x. get occ_cmp members.now x) →
+        IfOk result (λ all. seen all ≡ edits_of_class (entries ws.now.texts) rs stem o) }
     ensures made { IfOk result (CanEditAll (entries ws.now.texts)) }
     ensures fit { IfOk result (λ all. too_long (entries ws.now.texts) (seen all) ≡ None) }
 {
-    let all = class_edits(alloc, ws.open(), class, stem)?;
+    let all = class_edits(alloc, ws.open(), members)?;
     match first_too_long(ws.open(), all.as_slice()) {
         Some(uri) => Err(RenameFault::Limit(Text::of(alloc, uri)?)),
         None => Ok(all),

@@ -12,6 +12,7 @@ ghost use Rattle.program_answers.specs.ToldAnswers.{facts_in, name_there};
 ghost use Rattle.text_edits.specs.Views.{occ_cmp};
 ghost use Rattle.class_edits.specs.Clashes.{clashing};
 ghost use Rattle.class_edits.specs.DocumentEdits.{CanEditAll, edits_of_class, seen, too_long};
+ghost use Rattle.class_edits.specs.Named.{AreNamed};
 ghost use Rattle.program_differences.specs.Exported.{changes_as};
 ghost use Rattle.rename_conditions.specs.Readers.{Reader, IsReader};
 ghost use Rattle.workspace_state.specs.Edited.{CanEdit};
@@ -70,9 +71,18 @@ pub fn plan_rename(
     let Named { class, stem } = name_class(alloc, ws, uri, position, new_name)?;
     no_clash(ws, &class)?;
     all_whole(ws, &class)?;
-    let all = fitting_edits(alloc, ws, &class, stem.as_str())?;
-    let planned = told(alloc, ws, &class, stem.as_str(), all.as_slice())?;
+    let members = named_members(alloc, &class, stem.as_str())?;
+    let all = fitting_edits(alloc, ws, &members)?;
+    let planned = told(alloc, ws, &class, &members, all.as_slice())?;
     Ok(planned)
+}
+
+/// The members of a class, each with its new name.
+fn named_members(alloc: Global, class: &Class, stem: &str) -> Mem<Members>
+    ensures { (ds : List (List ℕ × Entered)) (rs : List Read) (o : AnyOcc) → IsClassOf ds (facts_in rs) o class.now → clashing (facts_in rs).links o ≡ [] →
+        IfOk result (λ members. AreNamed (facts_in rs).links stem.now o (λ x. get occ_cmp members x)) }
+{
+    Ok(members(alloc, class.parts.as_slice(), stem)?)
 }
 
 /// The class of an identifier and its new stem, by the conditions on names and readings.
@@ -89,7 +99,7 @@ fn name_class(
     ensures documents { OnOk result (0 < length (entries ws.now.texts)) }
 {
     let class = bound(ws, uri, position)?;
-    no_standard(ws, uri, position)?;
+    no_standard(&class)?;
     let symbol = symbol(alloc, new_name)?;
     all_read(alloc, ws)?;
     let stem = stem(alloc, class.prefix.as_str(), symbol.as_str())?;
@@ -101,23 +111,21 @@ fn told(
     alloc: Global,
     ws: &Workspace,
     class: &Class,
-    stem: &str,
+    members: &Members,
     all: &[Items<Edit>],
 ) -> Mem<Planned>
     requires made { CanEditAll (entries ws.now.texts) all.now }
     requires fit { too_long (entries ws.now.texts) (seen all.now) ≡ None }
-    ensures exact { (rs : List Read) (o : AnyOcc) → AreReadAs (entries ws.now.texts) rs → IsClassOf (entries ws.now.texts) (facts_in rs) o class.now → clashing (facts_in rs).links o ≡ [] →
-        seen all.now ≡ edits_of_class (entries ws.now.texts) rs stem.now o →
-        IfOk result (IsPlanned ws.now.encoding (entries ws.now.texts) (read_as (entries ws.now.texts) rs) (o, stem.now)) }
-    ensures tried { (rs : List Read) (o : AnyOcc) → AreReadAs (entries ws.now.texts) rs → seen all.now ≡ edits_of_class (entries ws.now.texts) rs stem.now o →
+    ensures exact { (rs : List Read) (o : AnyOcc) (stem : List ℕ) → AreReadAs (entries ws.now.texts) rs → IsClassOf (entries ws.now.texts) (facts_in rs) o class.now →
+        AreNamed (facts_in rs).links stem o (λ x. get occ_cmp members.now x) → seen all.now ≡ edits_of_class (entries ws.now.texts) rs stem o →
+        IfOk result (IsPlanned ws.now.encoding (entries ws.now.texts) (read_as (entries ws.now.texts) rs) (o, stem)) }
+    ensures tried { (rs : List Read) (o : AnyOcc) (stem : List ℕ) → AreReadAs (entries ws.now.texts) rs → seen all.now ≡ edits_of_class (entries ws.now.texts) rs stem o →
         IfOk result (λ planned. CanEdit ws.now.encoding planned.edits (entries ws.now.texts)) }
 {
     see_texts(ws.open());
     let edits = told_edits(alloc, ws.open(), all, ws.encoding())?;
-    let parts = class.parts.as_slice();
-    let members = members(alloc, parts, stem)?;
-    let class = occurrences(alloc, parts)?;
-    let exports = changes(alloc, ws.program().units.as_slice(), &members)?;
+    let class = occurrences(alloc, class.parts.as_slice())?;
+    let exports = changes(alloc, ws.program().units.as_slice(), members)?;
     let plan = Plan { class, exports };
     Ok(Planned { edits, plan })
 }

@@ -43,7 +43,7 @@ returns-in_err-all-clause-exact c = λ r rs is are.
     let n = c.in_ok-class.field-0 in
     let h1 = c.in_ok-class.ensures.exact r rs is are in
     err_goes e ds (IsPlanned e ds w) (planned_in w at spelled) c.from_residual-in_err-all.result c.in_err-all.field-0.0 c.from_residual-in_err-all.ensures.1
-    (too_long e ds rs at spelled n h1 (λ o k. c.in_ok-no_clash.ensures.exact rs o are k) (λ o k. c.in_ok-all_whole.ensures rs o are k) _ c.in_err-all.field-0.0 (λ o k. (rw c.as_str.ensures at c.in_err-all.ensures.exact) rs o are k (c.in_ok-no_clash.ensures.apart rs o are k)))
+    (too_long e ds rs at spelled n h1 (λ o k. c.in_ok-no_clash.ensures.exact rs o are k) (λ o k. c.in_ok-all_whole.ensures rs o are k) _ c.in_err-all.field-0.0 (λ o k. c.in_err-all.ensures.exact rs o n.stem are ((rw c.as_str.ensures at c.in_ok-members.ensures) ds rs o k (c.in_ok-no_clash.ensures.apart rs o are k))))
 
 pub returns-clause-exact : goal.returns-clause-exact
 returns-clause-exact c = λ r rs is are.
@@ -55,9 +55,10 @@ returns-clause-exact c = λ r rs is are.
     let n = c.in_ok-class.field-0 in
     let h1 = c.in_ok-class.ensures.exact r rs is are in
     all_hold e ds rs at spelled n h1 (λ o k. c.in_ok-no_clash.ensures.exact rs o are k) (λ o k. c.in_ok-all_whole.ensures rs o are k) _ c.in_ok-all.all (Ok c.in_ok-planned.planned)
-    (λ o k. (rw c.as_str.ensures at c.in_ok-all.ensures.exact) rs o are k (c.in_ok-no_clash.ensures.apart rs o are k))
-    (λ o k. (rw (c.as_str-2.ensures, c.as_slice.ensures) at c.in_ok-planned.ensures.exact) rs o are k (c.in_ok-no_clash.ensures.apart rs o are k)
-    ((rw c.as_str.ensures at c.in_ok-all.ensures.edits) rs o are k (c.in_ok-no_clash.ensures.apart rs o are k)))
+    (λ o k. c.in_ok-all.ensures.exact rs o n.stem are ((rw c.as_str.ensures at c.in_ok-members.ensures) ds rs o k (c.in_ok-no_clash.ensures.apart rs o are k)))
+    (λ o k.
+    let named = (rw c.as_str.ensures at c.in_ok-members.ensures) ds rs o k (c.in_ok-no_clash.ensures.apart rs o are k) in
+    (rw c.as_slice.ensures at c.in_ok-planned.ensures.exact) rs o n.stem are k named (c.in_ok-all.ensures.edits rs o n.stem are named))
 
 pub returns-clause-tried : goal.returns-clause-tried
 returns-clause-tried c =
@@ -77,4 +78,5 @@ returns-clause-tried c =
     let it = comes_ok e ds (IsNamed ds rs) (named_in w at spelled) n h1 in
     let o = it.0.0 in
     let k = it.2.class in
-    (rw (c.as_str-2.ensures, c.as_slice.ensures) at c.in_ok-planned.ensures.tried) rs o are ((rw c.as_str.ensures at c.in_ok-all.ensures.edits) rs o are k (c.in_ok-no_clash.ensures.apart rs o are k))
+    let named = (rw c.as_str.ensures at c.in_ok-members.ensures) ds rs o k (c.in_ok-no_clash.ensures.apart rs o are k) in
+    (rw c.as_slice.ensures at c.in_ok-planned.ensures.tried) rs o n.stem are (c.in_ok-all.ensures.edits rs o n.stem are named)
