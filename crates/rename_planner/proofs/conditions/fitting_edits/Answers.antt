@@ -28,3 +28,6 @@ returns-in-None-clause-exact c = λ rs o stem are named.
     let told = sym (ap (too_long ds) (made rs o stem are named)) ∙ sym long ∙ ap (option_map (λ uri. uri.now)) c.in-None.is in
     let n = first_too_long 0 (edited_in (read_as ds rs) o stem) in
     no_document c.args.ws.now.encoding ds n TooLong _ (subst (λ (u : Option (List ℕ)). IsNumbered 0 ds u n) told (long_one (read_as ds rs) o stem 0 ds rs are))
+
+pub returns-in-None-clause-edits : goal.returns-in-None-clause-edits
+returns-in-None-clause-edits c = λ rs o stem are named. (rw c.open.ensures at c.in_ok-all.ensures.exact) rs o stem are named
