@@ -16,7 +16,7 @@ use Rattle.scheme_model.specs.Program.{Placed, ImportSpec, ExportSpec, unit_name
 use Rattle.scheme_model.specs.Live.{NameUse, entry_use, listed_uses, second_use, pair_uses, if_given, set_uses, meaning_or, origins_or, export_uses, all_export_uses}
 use Rattle.scheme_model.specs.ProgramArrows.{uses_given, uses_in_set, import_uses}
 use Rattle.scheme_model.specs.Spelling.{entry_origins, second_names}
-use Rattle.scheme_model.proofs.FrameAsks.{AllOf}
+use Rattle.scheme_model.proofs.FrameAsks.{AllOf, all_of_more}
 use Rattle.scheme_model.proofs.FrameHeld.{all_append}
 
 all_left : {X : Type 0} (P : X → Type 0) (xs ys : List X) → AllOf P (xs ++ ys) → AllOf P xs
@@ -360,3 +360,13 @@ module _ (P : Occ → Type 0) where
     pub import_uses_have : (ss : List ImportSpec) → AllOf SpecHas ss → AllOf UseHas (import_uses all rs ss)
     import_uses_have [] i = tt
     import_uses_have (s ∷ ss) i = all_append UseHas (uses_in_set all rs s.set (library_in s.set)) (import_uses all rs ss) (in_set_have s.set (library_in s.set) refl i.0) (import_uses_have ss i.1)
+
+-- ---- what holds of more places
+
+module _ (P Q : Occ → Type 0) (more : (q : Occ) → P q → Q q) where
+  source_more : (s : Source) → SourceHas P s → SourceHas Q s
+  source_more (At o) h = more o h
+  source_more (StandardName s) h = tt
+
+  pub entries_more : (es : List Entry) → EntriesHave P es → EntriesHave Q es
+  entries_more es h = all_of_more (EntryHas P) (EntryHas Q) (λ e k. all_of_more (OriginHas P) (OriginHas Q) (λ g i. source_more g.source i) e.origins k) es h

@@ -1,1 +1,3 @@
+pub mod Tmp
 pub mod EntryOrigins
+pub mod Places
