@@ -1,3 +1,4 @@
 pub mod Tmp
 pub mod EntryOrigins
 pub mod Places
+pub mod LinkOrigins

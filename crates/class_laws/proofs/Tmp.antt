@@ -1,5 +1,5 @@
 -- Temporary: members.
-use Rattle.std.proofs.Common.{◌≡◌, ◌⊎◌, inl, inr, List, [], ◌∷◌, ◌++◌, map, refl, sym, ap, subst}
+use Rattle.std.proofs.Common.{◌≡◌, ◌⊎◌, inl, inr, List, [], ◌∷◌, ◌++◌, map, filter, Bool, true, false, cond, refl, sym, ap, ◌∙◌, subst}
 use Rattle.std.specs.List.{flat_map}
 
 abbrev pub IsIn : {X : Type 0} → X → List X → Type 0
@@ -28,3 +28,12 @@ pub in_flat_map : {X Y : Type 0} (f : X → List Y) (x : X) (y : Y) (xs : List X
 in_flat_map f x y [] h k = absurd h
 in_flat_map f x y (z ∷ zs) (inl e) k = in_left y (f z) (flat_map f zs) (subst (λ w. IsIn y (f w)) (sym e) k)
 in_flat_map f x y (z ∷ zs) (inr h) k = in_right y (f z) (flat_map f zs) (in_flat_map f x y zs h k)
+
+pub in_filter : {X : Type 0} (f : X → Bool) (x : X) (xs : List X) → IsIn x xs → f x ≡ true → IsIn x (filter f xs)
+in_filter f x [] h t = absurd h
+in_filter f x (y ∷ ys) (inl e) t = subst (λ (b : Bool). IsIn x (cond b (y ∷ filter f ys) (filter f ys))) (sym (ap f e ∙ t)) (inl e)
+in_filter f x (y ∷ ys) (inr h) t = go (f y) (in_filter f x ys h t)
+  where
+    go : (b : Bool) → IsIn x (filter f ys) → IsIn x (cond b (y ∷ filter f ys) (filter f ys))
+    go true rest = inr rest
+    go false rest = rest
