@@ -166,7 +166,7 @@ module _ (many : ℕ) where
   -- ---- one unit
 
   module _ (all : List Placed) (rs : List UnitResult) (old table : Table) (p : Prepared) (fresh : is_some (result_at rs p.number) ≡ false) (few : p.number < many) (h : Settled rs old) where
-    broken_settled : (f : WholeFault) → Settled (broken_result p f ∷ rs) old
+    pub broken_settled : (f : WholeFault) → Settled (broken_result p f ∷ rs) old
     broken_settled f = more_settled rs old old (broken_result p f) fresh (λ d i. i) few tt tt h
 
     module _ (more : (d : Defined) → IsIn d old → IsIn d table) where
@@ -194,6 +194,6 @@ module _ (many : ℕ) where
             (names_have Place table p.number imports.0 (λ s. defined_from Place table p.number (λ d i u q o. given_here q (by_definition d i u o)) (Written p.number s)) entries_here) [] p.exports
             (outers_from Place p.exports (λ x i e q o. given_here q (by_outer x i e o)))
 
-      expanded_settled : (forms : Option (List Formed)) → Settled (unit_result p imports table forms ∷ rs) table
+      pub expanded_settled : (forms : Option (List Formed)) → Settled (unit_result p imports table forms ∷ rs) table
       expanded_settled None = more_settled rs old table (unit_result p imports table None) fresh more few tt tt h
       expanded_settled (Some forms) = more_settled rs old table (result forms) fresh more few (entries_here forms) (exports_here forms) h
