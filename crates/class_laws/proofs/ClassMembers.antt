@@ -1,4 +1,4 @@
--- The members of a class are what links lead to; and where each link's origin is the target of some link, none is left out of it.
+-- A class is what links join to an occurrence. Where each link's origin is the target of some link, none of it lacks a prefix.
 use Rattle.std.proofs.Common.{◌≡◌, ◌⊎◌, inl, inr, ℕ, zero, suc, List, [], ◌∷◌, ◌++◌, filter, length, Bool, true, false, not, cond, refl, sym, ap, ◌∙◌, subst, arith}
 use Rattle.std.specs.Prelude.{◌&&◌, ◌||◌, nat_lt, if◌then◌else◌}
 use Rattle.std.specs.List.{list_any}
@@ -13,62 +13,62 @@ use Rattle.program_leaves.proofs.KeyLaws.{one_occ}
 use Rattle.arrow_index.specs.Classes.{HasBothOrNone, IsClosed}
 use Rattle.arrow_index.proofs.ClassLaws.{or_left, or_right, same_test, itself as occ_itself, member_in, in_member, class_holds, class_closed, class_least}
 use Rattle.text_edits.specs.Members.{is_part}
-use Rattle.class_laws.specs.Reached.{Joins, IsReached, itself, over}
+use Rattle.class_laws.specs.Joined.{HasEnds, AreJoined, itself, over}
 use Rattle.class_laws.proofs.EntryOrigins.{SourceHas}
 use Rattle.class_laws.proofs.LinkOrigins.{IsTarget, LinkHas}
 
--- ---- what is reached is a member
+-- ---- what is joined is a member
 
 module _ (ls : List Link) (o : Occ) where
   abbrev member : Occ → Bool
   member = is_member (class_of ls o)
 
-  step_member : (l : Link) (p q : Occ) → IsIn l ls → Joins l p q → member p ≡ true → member q ≡ true
+  step_member : (l : Link) (p q : Occ) → IsIn l ls → HasEnds l p q → member p ≡ true → member q ≡ true
   step_member l p q i (inl e) h = ap member (sym e.1) ∙ sym (subst (λ (s : Source). HasBothOrNone member s l.target) e.0 (class_closed ls o l i)) ∙ h
   step_member l p q i (inr e) h = subst (λ (s : Source). HasBothOrNone member s l.target) e.0 (class_closed ls o l i) ∙ ap member e.1 ∙ h
 
-  pub reached_member : (q : Occ) → IsReached ls o q → member q ≡ true
-  reached_member _ itself = class_holds ls o
-  reached_member _ (over l p q h i j) = step_member l p q i j (reached_member p h)
+  pub joined_member : (q : Occ) → AreJoined ls o q → member q ≡ true
+  joined_member _ itself = class_holds ls o
+  joined_member _ (over l p q h i j) = step_member l p q i j (joined_member p h)
 
-  -- ---- a member is reached
+  -- ---- a member is joined
 
-  AllReached : List Occ → Type 0
-  AllReached ms = (q : Occ) → IsIn q ms → IsReached ls o q
+  AllJoined : List Occ → Type 0
+  AllJoined ms = (q : Occ) → IsIn q ms → AreJoined ls o q
 
-  with_reached : (q : Occ) (ms : List Occ) → IsReached ls o q → AllReached ms → AllReached (with_member q ms)
-  unfolding AllReached
-  with_reached q ms here h = go (is_member ms q)
+  with_joined : (q : Occ) (ms : List Occ) → AreJoined ls o q → AllJoined ms → AllJoined (with_member q ms)
+  unfolding AllJoined
+  with_joined q ms here h = go (is_member ms q)
     where
-      go : (b : Bool) → (p : Occ) → IsIn p (cond b ms (q ∷ ms)) → IsReached ls o p
+      go : (b : Bool) → (p : Occ) → IsIn p (cond b ms (q ∷ ms)) → AreJoined ls o p
       go true p i = h p i
-      go false p (inl e) = subst (IsReached ls o) e here
+      go false p (inl e) = subst (AreJoined ls o) e here
       go false p (inr i) = h p i
 
-  across_reached : (l : Link) (s : Source) → l.origin ≡ s → IsIn l ls → (ms : List Occ) → AllReached ms → AllReached (across s l.target ms)
-  unfolding AllReached
-  across_reached l (StandardName s) e i ms h = h
-  across_reached l (At p) e i ms h = go (is_member ms p) refl (is_member ms l.target) refl
+  across_joined : (l : Link) (s : Source) → l.origin ≡ s → IsIn l ls → (ms : List Occ) → AllJoined ms → AllJoined (across s l.target ms)
+  unfolding AllJoined
+  across_joined l (StandardName s) e i ms h = h
+  across_joined l (At p) e i ms h = go (is_member ms p) refl (is_member ms l.target) refl
     where
-      go : (a : Bool) → is_member ms p ≡ a → (b : Bool) → is_member ms l.target ≡ b → AllReached (cond a (with_member l.target ms) (cond b (with_member p ms) ms))
-      go true f b g = with_reached l.target ms (over l p l.target (h p (member_in p ms f)) i (inl (e, refl))) h
-      go false f true g = with_reached p ms (over l l.target p (h l.target (member_in l.target ms g)) i (inr (e, refl))) h
+      go : (a : Bool) → is_member ms p ≡ a → (b : Bool) → is_member ms l.target ≡ b → AllJoined (cond a (with_member l.target ms) (cond b (with_member p ms) ms))
+      go true f b g = with_joined l.target ms (over l p l.target (h p (member_in p ms f)) i (inl (e, refl))) h
+      go false f true g = with_joined p ms (over l l.target p (h l.target (member_in l.target ms g)) i (inr (e, refl))) h
       go false f false g = h
 
-  joined_reached : (us : List Link) → ((l : Link) → IsIn l us → IsIn l ls) → (ms : List Occ) → AllReached ms → AllReached (joined us ms)
-  joined_reached [] among ms h = h
-  joined_reached (l ∷ us) among ms h = joined_reached us (λ m i. among m (inr i)) (across l.origin l.target ms) (across_reached l l.origin refl (among l (inl refl)) ms h)
+  round_joined : (us : List Link) → ((l : Link) → IsIn l us → IsIn l ls) → (ms : List Occ) → AllJoined ms → AllJoined (joined us ms)
+  round_joined [] among ms h = h
+  round_joined (l ∷ us) among ms h = round_joined us (λ m i. among m (inr i)) (across l.origin l.target ms) (across_joined l l.origin refl (among l (inl refl)) ms h)
 
-  closed_reached : (n : ℕ) (ms : List Occ) → AllReached ms → AllReached (closed ls n ms)
-  closed_reached zero ms h = h
-  closed_reached (suc n) ms h = closed_reached n (joined ls ms) (joined_reached ls (λ l i. i) ms h)
+  rounds_joined : (n : ℕ) (ms : List Occ) → AllJoined ms → AllJoined (closed ls n ms)
+  rounds_joined zero ms h = h
+  rounds_joined (suc n) ms h = rounds_joined n (joined ls ms) (round_joined ls (λ l i. i) ms h)
 
-  all_reached : (q : Occ) → IsIn q (class_of ls o) → IsReached ls o q
-  unfolding AllReached
-  all_reached = closed_reached (length ls) (o ∷ []) first
+  pub all_joined : (q : Occ) → IsIn q (class_of ls o) → AreJoined ls o q
+  unfolding AllJoined
+  all_joined = rounds_joined (length ls) (o ∷ []) first
     where
-      first : (q : Occ) → IsIn q (o ∷ []) → IsReached ls o q
-      first q (inl e) = subst (IsReached ls o) e itself
+      first : (q : Occ) → IsIn q (o ∷ []) → AreJoined ls o q
+      first q (inl e) = subst (AreJoined ls o) e itself
       first q (inr i) = absurd i
 
 -- ---- prefixes
@@ -133,6 +133,23 @@ filter_all : {X : Type 0} (f : X → Bool) (xs : List X) → ((x : X) → IsIn x
 filter_all f [] h = refl
 filter_all f (x ∷ xs) h = ap (λ b. cond b (x ∷ filter f xs) (filter f xs)) (h x (inl refl)) ∙ ap (λ ys. x ∷ ys) (filter_all f xs (λ y i. h y (inr i)))
 
+filter_none : {X : Type 0} (f : X → Bool) (xs : List X) → ((x : X) → IsIn x xs → f x ≡ false) → filter f xs ≡ []
+filter_none f [] h = refl
+filter_none f (x ∷ xs) h = ap (λ b. cond b (x ∷ filter f xs) (filter f xs)) (h x (inl refl)) ∙ filter_none f xs (λ y i. h y (inr i))
+
+pub of_filter : {X : Type 0} (f : X → Bool) (x : X) (xs : List X) → IsIn x (filter f xs) → IsIn x xs
+of_filter f x [] h = absurd h
+of_filter f x (y ∷ ys) h = go (of_filter f x ys) (f y) h
+  where
+    go : (IsIn x (filter f ys) → IsIn x ys) → (b : Bool) → IsIn x (cond b (y ∷ filter f ys) (filter f ys)) → IsIn x (y ∷ ys)
+    go more true (inl e) = inl e
+    go more true (inr i) = inr (more i)
+    go more false i = inr (more i)
+
+not_false : (b : Bool) → not b ≡ true → b ≡ false
+not_false false h = refl
+not_false true h = cc
+
 module _ (ls : List Link) (lead : AllOf (LinkHas (IsTarget ls)) ls) where
   end_part : (q : Occ) (l : Link) → IsIn l ls → is_end q l ≡ true → is_part ls q ≡ true
   end_part q l i e = go (or_cases (same_occ l.target q) (is_place l.origin q) e)
@@ -164,3 +181,16 @@ module _ (ls : List Link) (lead : AllOf (LinkHas (IsTarget ls)) ls) where
   -- none is left out
   pub class_whole : (o : Occ) → is_joined ls o ≡ true → filter (is_part ls) (class_of ls o) ≡ class_of ls o
   class_whole o h = filter_all (is_part ls) (class_of ls o) (λ q i. class_least ls o (is_part ls) (joined_part o h) parts_closed q (in_member q (class_of ls o) i))
+
+  -- what no link joins has none
+  others_closed : IsClosed ls (λ (q : Occ). not (is_part ls q))
+  others_closed l i = go l.origin (parts_closed l i)
+    where
+      go : (s : Source) → HasBothOrNone (is_part ls) s l.target → HasBothOrNone (λ (q : Occ). not (is_part ls q)) s l.target
+      go (At p) t = ap not t
+      go (StandardName s) t = tt
+
+  pub class_none : (o : Occ) → is_joined ls o ≡ false → filter (is_part ls) (class_of ls o) ≡ []
+  class_none o h =
+      filter_none (is_part ls) (class_of ls o)
+      (λ q i. not_false (is_part ls q) (class_least ls o (λ (p : Occ). not (is_part ls p)) (ap not (parts_are_joined o ∙ h)) others_closed q (in_member q (class_of ls o) i)))

@@ -1,4 +1,4 @@
--- What holds of the places that spell what libraries export, and of the second identifiers of a unit's imports, holds of the places that
+-- Where the places that spell what libraries export are of a kind, and a unit's new names stand at such places, so are the places that
 -- spell what the unit imports, what it names there, and what it exports.
 use Rattle.std.proofs.Common.{◌≡◌, ℕ, List, [], ◌∷◌, ◌++◌, map, filter, Bool, true, false, not, cond, Option, Some, None, Result, Ok, Err, refl, sym, ap, ◌∙◌, subst}
 use Rattle.std.specs.Str.{bytes_eq}

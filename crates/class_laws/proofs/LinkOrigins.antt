@@ -1,4 +1,4 @@
--- Each place from which an identifier of a program takes its characters is itself what a link leads to.
+-- Each place from which an identifier of a program takes its characters is the target of a link.
 use Rattle.std.proofs.Common.{◌≡◌, ◌⊎◌, inl, inr, ℕ, List, [], ◌∷◌, ◌++◌, filter, Bool, true, false, not, cond, Option, Some, None, refl, sym, ap, ◌∙◌, subst}
 use Rattle.std.specs.Prelude.{◌||◌}
 use Rattle.std.specs.List.{flat_map}
@@ -18,7 +18,8 @@ use Rattle.scheme_model.specs.ProgramArrows.{Arrow, program_leaves, program_keyw
 use Rattle.scheme_model.specs.Spelling.{Link, entries_at, imported_origins, defined_or, ident_origins, target_origins, links_at, target_links, name_links, arrow_links, links_to_themselves, leaf_targets, macro_links, links_with, second_places, second_places_in, links_of}
 use Rattle.scheme_model.proofs.FrameAsks.{AllOf}
 use Rattle.scheme_model.proofs.FrameHeld.{all_append}
-use Rattle.class_laws.proofs.Tmp.{IsIn, in_left, in_right, in_flat_map, in_filter}
+use Rattle.program_leaves.specs.Members.{IsIn}
+use Rattle.program_leaves.proofs.MemberLaws.{in_left, in_right, in_flat_map}
 use Rattle.class_laws.proofs.EntryOrigins.{SourceHas, OriginHas, OccHas, EntriesHave, EntryOr, UseHas, DefinedHas, SpecHas, UnitsExport, outer_use, entries_more, place_has, at_has, origins_have, names_have, import_uses_have, export_uses_have}
 use Rattle.class_laws.proofs.Places.{all_from, IsGivenBy, by_definition, by_second, by_outer, IsPlace, found_among, found_number, defined_from, spec_from, outers_from}
 
@@ -31,6 +32,15 @@ target_left ls ms q h = (h.0, in_left h.0 ls ms h.1, h.2)
 
 target_right : (ls ms : List Link) (q : Occ) → IsTarget ms q → IsTarget (ls ++ ms) q
 target_right ls ms q h = (h.0, in_right h.0 ls ms h.1, h.2)
+
+in_filter : {X : Type 0} (f : X → Bool) (x : X) (xs : List X) → IsIn x xs → f x ≡ true → IsIn x (filter f xs)
+in_filter f x [] h t = absurd h
+in_filter f x (y ∷ ys) (inl e) t = subst (λ (b : Bool). IsIn x (cond b (y ∷ filter f ys) (filter f ys))) (sym (ap f e ∙ t)) (inl e)
+in_filter f x (y ∷ ys) (inr h) t = go (f y) (in_filter f x ys h t)
+  where
+    go : (b : Bool) → IsIn x (filter f ys) → IsIn x (cond b (y ∷ filter f ys) (filter f ys))
+    go true rest = inr rest
+    go false rest = rest
 
 -- ---- what is linked to itself
 

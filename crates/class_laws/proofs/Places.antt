@@ -21,7 +21,8 @@ use Rattle.scheme_model.specs.ProgramArrows.{places_at}
 use Rattle.scheme_model.specs.Spelling.{second_names, second_places}
 use Rattle.scheme_model.proofs.FrameAsks.{AllOf}
 use Rattle.scheme_model.proofs.FramePrograms.{program_law}
-use Rattle.class_laws.proofs.Tmp.{IsIn, in_left, in_right}
+use Rattle.program_leaves.specs.Members.{IsIn}
+use Rattle.program_leaves.proofs.MemberLaws.{in_left, in_right}
 use Rattle.class_laws.proofs.EntryOrigins.{OccHas, EntriesHave, SpecHas, OuterHas, DefinedHas, UnitsExport, entries_more, names_have, exports_have, unit_entries_have}
 
 -- ---- lists and tests

@@ -1,1 +1,1 @@
-pub mod Reached
+pub mod Joined  -- Which occurrences links join, over others or not
