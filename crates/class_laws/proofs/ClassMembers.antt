@@ -1,9 +1,7 @@
 -- A class is what links join to an occurrence. Where each link's origin is the target of some link, none of it lacks a prefix.
 use Rattle.std.proofs.Common.{◌≡◌, ◌⊎◌, inl, inr, ℕ, zero, suc, List, [], ◌∷◌, ◌++◌, filter, length, Bool, true, false, not, cond, refl, sym, ap, ◌∙◌, subst, arith}
-use Rattle.std.specs.Prelude.{◌&&◌, ◌||◌, nat_lt, if◌then◌else◌}
-use Rattle.std.specs.List.{list_any}
+use Rattle.std.specs.Prelude.{◌&&◌, nat_lt}
 use Rattle.std.proofs.lemmas.Bool.{lt-ltb, or_cases}
-use Rattle.std.specs.Str.{bytes_eq}
 use Rattle.scheme_model.specs.declared.Occ.{Occ}
 use Rattle.scheme_model.specs.Entries.{Source, At, StandardName, same_occ}
 use Rattle.scheme_model.specs.Spelling.{Link, is_place, is_end, is_joined, is_member, with_member, across, joined, closed, class_of, has_prefix, prefixes_of}

@@ -1,27 +1,25 @@
 -- Each place from which an identifier of a program takes its characters is the target of a link.
-use Rattle.std.proofs.Common.{◌≡◌, ◌⊎◌, inl, inr, ℕ, List, [], ◌∷◌, ◌++◌, filter, Bool, true, false, not, cond, Option, Some, None, refl, sym, ap, ◌∙◌, subst}
-use Rattle.std.specs.Prelude.{◌||◌}
+use Rattle.std.proofs.Common.{◌≡◌, inl, inr, ℕ, List, [], ◌∷◌, ◌++◌, filter, Bool, true, false, not, cond, Option, Some, None, refl, sym, ap, ◌∙◌, subst}
 use Rattle.std.specs.List.{flat_map}
 use Rattle.scheme_model.specs.declared.Occ.{Occ}
 use Rattle.scheme_model.specs.Identifiers.{Number, same_number}
 use Rattle.scheme_model.specs.Ident.{Ident, Written, Inserted, same_ident}
 use Rattle.scheme_model.specs.Trees.{Tree, name, atom, list, vector, Trees, no_trees, tree, Tail, proper, dotted}
 use Rattle.scheme_model.specs.Meaning.{Meaning, Local, Global, Standard, Free}
-use Rattle.scheme_model.specs.Order.{is_some}
-use Rattle.scheme_model.specs.Cores.{Target, Bound, LocalNumber, Definition, RuleLeaf}
+use Rattle.scheme_model.specs.Cores.{Target, Bound, LocalNumber, Definition}
 use Rattle.scheme_model.specs.RulesShape.{Rule, Rules, Variable, pattern_variables}
 use Rattle.scheme_model.specs.Substitution.{Table, Defined, defined_in}
-use Rattle.scheme_model.specs.Entries.{Source, At, StandardName, Origin, Entry, entry_at, place_origin}
+use Rattle.scheme_model.specs.Entries.{At, Origin, Entry, entry_at, place_origin}
 use Rattle.scheme_model.specs.Program.{Placed, ImportSpec, ExportSpec, WholeFault, UnitResult, Program, result_at, names_of_unit, is_some_fault}
 use Rattle.scheme_model.specs.Live.{CoreLeaf, Binds, Uses, Assigns, Quotes, Defines, NameUse, export_uses, all_export_uses}
 use Rattle.scheme_model.specs.ProgramArrows.{Arrow, program_leaves, program_keywords, import_uses, unit_names, program_names, is_whole, program_table, local_at, bound_here, arrow_of, is_live_at, core_targets, ident_names, variable_arrow, template_arrows, template_arrows_all, template_arrows_tail, rule_arrows, places_at, variable_places, rule_binders, leaf_binders, table_binders, binders_in}
-use Rattle.scheme_model.specs.Spelling.{Link, entries_at, imported_origins, defined_or, ident_origins, target_origins, links_at, target_links, name_links, arrow_links, links_to_themselves, leaf_targets, macro_links, links_with, second_places, second_places_in, links_of}
+use Rattle.scheme_model.specs.Spelling.{Link, entries_at, imported_origins, defined_or, ident_origins, target_origins, links_at, target_links, name_links, arrow_links, links_to_themselves, leaf_targets, macro_links, second_places, second_places_in, links_of}
 use Rattle.scheme_model.proofs.FrameAsks.{AllOf}
 use Rattle.scheme_model.proofs.FrameHeld.{all_append}
 use Rattle.program_leaves.specs.Members.{IsIn}
 use Rattle.program_leaves.proofs.MemberLaws.{in_left, in_right, in_flat_map}
-use Rattle.class_laws.proofs.EntryOrigins.{SourceHas, OriginHas, OccHas, EntriesHave, EntryOr, UseHas, DefinedHas, SpecHas, UnitsExport, outer_use, entries_more, place_has, at_has, origins_have, names_have, import_uses_have, export_uses_have}
-use Rattle.class_laws.proofs.Places.{all_from, IsGivenBy, by_definition, by_second, by_outer, IsPlace, found_among, found_number, defined_from, spec_from, outers_from}
+use Rattle.class_laws.proofs.EntryOrigins.{SourceHas, OriginHas, OccHas, EntriesHave, UseHas, DefinedHas, SpecHas, UnitsExport, outer_use, entries_more, place_has, at_has, origins_have, names_have, import_uses_have, export_uses_have}
+use Rattle.class_laws.proofs.Places.{all_from, IsGivenBy, by_definition, by_second, by_outer, IsPlace, found_among, defined_from, spec_from, outers_from}
 
 -- a link leads to it
 abbrev pub IsTarget : List Link → Occ → Type 0
@@ -179,7 +177,7 @@ module _ (P : Occ → Type 0) where
 
   -- what defines an identifier, what imports it, and what binds it are such places
   module _ (leaves : List CoreLeaf) (table : Table) (rs : List UnitResult) (locals : (q : Occ) → IsIn q (leaf_binders leaves) → P q) (defined : (u : ℕ) (i : Ident) → DefinedHas P (defined_in table u i))
-    (entries : (n : ℕ) (r : UnitResult) → result_at rs n ≡ Some r → EntriesHave P r.entries) where
+      (entries : (n : ℕ) (r : UnitResult) → result_at rs n ≡ Some r → EntriesHave P r.entries) where
     or_has : (d : Option Defined) (gs : List Origin) → DefinedHas P d → AllOf (OriginHas P) gs → AllOf (OriginHas P) (defined_or d gs)
     or_has None gs h k = k
     or_has (Some d) gs h k = place_has P d.occ h

@@ -1,5 +1,5 @@
 -- The class that a rename takes in open documents is by links alone.
-use Rattle.std.proofs.Common.{◌≡◌, ℕ, List, [], map, Bool, true, false, sym, subst}
+use Rattle.std.proofs.Common.{◌≡◌, ℕ, List, [], map, true, false, sym, subst}
 use Rattle.scheme_model.specs.declared.Occ.{Occ}
 use Rattle.scheme_model.specs.Spelling.{is_joined, is_member, class_of}
 use Rattle.scheme_model.proofs.FrameAsks.{AllOf}

@@ -1,26 +1,22 @@
 -- The places that spell what units import and export: each is where a unit that isn't broken as a whole defines something, or renames
 -- what it imports or exports.
-use Rattle.std.proofs.Common.{◌≡◌, inl, inr, ℕ, zero, suc, ◌+◌, ◌≤◌, ◌<◌, List, [], ◌∷◌, ◌++◌, length, Bool, true, false, not, cond, Option, Some, None, refl, sym, ap, ◌∙◌, subst, arith}
-use Rattle.std.specs.Prelude.{◌==◌, ◌&&◌, ◌||◌}
+use Rattle.std.proofs.Common.{◌≡◌, inl, inr, ℕ, ◌<◌, List, [], ◌∷◌, Bool, true, false, cond, Option, Some, None, refl, sym, ap, ◌∙◌, subst, arith}
+use Rattle.std.specs.Prelude.{◌==◌, ◌&&◌}
 use Rattle.std.specs.List.{flat_map}
-use Rattle.std.proofs.lemmas.Bool.{and_parts, eq-eqb}
+use Rattle.std.proofs.lemmas.Bool.{eq-eqb}
 use Rattle.std.proofs.lemmas.Bool.Decides.{nat_tests}
 use Rattle.std.proofs.lemmas.Option.{same_Some}
 use Rattle.scheme_model.specs.declared.Occ.{Occ}
 use Rattle.scheme_model.specs.Ident.{Ident, Written, same_ident}
 use Rattle.scheme_model.specs.ExpansionFaults.{Named}
 use Rattle.scheme_model.specs.Order.{is_some}
-use Rattle.scheme_model.specs.Requirements.{Known}
-use Rattle.scheme_model.specs.Entries.{Entry, ImportSet, has_bad}
+use Rattle.scheme_model.specs.Entries.{Entry}
 use Rattle.scheme_model.specs.Substitution.{Table, Defined, defined_in}
 use Rattle.scheme_model.specs.UnitExpansion.{Formed}
-use Rattle.scheme_model.specs.ScopedExpansion.{ScopedState}
-use Rattle.scheme_model.specs.Program.{Document, known_in, Placed, units_of, Prepared, prepare, WholeFault, ImportSpec, ExportSpec, SetResult, UnitResult, Program, result_at, names_of_unit, broken_result, unit_result, unit_entries, fault_before, is_ready, first_ready, all_done, in_order, program_of}
-use Rattle.scheme_model.specs.ScopedProgram.{ScopedProgress, scoped_start_after, scoped_unit_over, scoped_by_fault, scoped_worked, scoped_work, scoped_before, scoped_program_of}
+use Rattle.scheme_model.specs.Program.{Placed, Prepared, WholeFault, ImportSpec, ExportSpec, SetResult, UnitResult, result_at, names_of_unit, broken_result, unit_result, unit_entries}
 use Rattle.scheme_model.specs.ProgramArrows.{places_at}
 use Rattle.scheme_model.specs.Spelling.{second_names, second_places}
 use Rattle.scheme_model.proofs.FrameAsks.{AllOf}
-use Rattle.scheme_model.proofs.FramePrograms.{program_law}
 use Rattle.program_leaves.specs.Members.{IsIn}
 use Rattle.program_leaves.proofs.MemberLaws.{in_left, in_right}
 use Rattle.class_laws.proofs.EntryOrigins.{OccHas, EntriesHave, SpecHas, OuterHas, DefinedHas, UnitsExport, entries_more, names_have, exports_have, unit_entries_have}
@@ -120,9 +116,10 @@ occ_has P (Some q) h = h q refl
 module _ (P : Occ → Type 0) where
   seconds_from : (ns : List (Named (List ℕ))) → ((q : Occ) → IsIn q (flat_map (λ (n : Named (List ℕ)). places_at n.occ) ns) → P q) → AllOf (λ (n : Named (List ℕ)). OccHas P n.occ) ns
   seconds_from [] h = tt
-  seconds_from (n ∷ ns) h =
-      (occ_has P n.occ (λ q e. h q (in_left q (places_at n.occ) (flat_map (λ (n : Named (List ℕ)). places_at n.occ) ns) (subst (λ o. IsIn q (places_at o)) (sym e) (inl refl)))),
-      seconds_from ns (λ q i. h q (in_right q (places_at n.occ) (flat_map (λ (n : Named (List ℕ)). places_at n.occ) ns) i)))
+  seconds_from (n ∷ ns) h = (
+    occ_has P n.occ (λ q e. h q (in_left q (places_at n.occ) (flat_map (λ (n : Named (List ℕ)). places_at n.occ) ns) (subst (λ o. IsIn q (places_at o)) (sym e) (inl refl)))),
+    seconds_from ns (λ q i. h q (in_right q (places_at n.occ) (flat_map (λ (n : Named (List ℕ)). places_at n.occ) ns) i)),
+  )
 
   pub spec_from : (s : ImportSpec) → ((q : Occ) → IsIn q (second_places s.set) → P q) → SpecHas P s
   spec_from s h e = seconds_from (second_names s.set) (λ q i. h q (subst (λ b. IsIn q (cond b [] (flat_map (λ (n : Named (List ℕ)). places_at n.occ) (second_names s.set)))) (sym e) i))
