@@ -71,9 +71,6 @@ module _ (ls : List Link) (o : Occ) where
 
 -- ---- prefixes
 
-has_none : (t : List ℕ) → has_prefix [] t ≡ false
-has_none t = refl
-
 -- those that were seen stay
 some_stays : (ls : List Link) (o : Occ) (seen : List (List ℕ)) → nat_lt 0 (length seen) ≡ true → nat_lt 0 (length (prefixes_of ls o seen)) ≡ true
 some_stays [] o seen h = h

@@ -1,5 +1,4 @@
--- Where the places that spell what libraries export are of a kind, and a unit's new names stand at such places, so are the places that
--- spell what the unit imports, what it names there, and what it exports.
+-- What holds of the places that spell entries holds of those that import sets give and units export, if it holds of new names too.
 use Rattle.std.proofs.Common.{◌≡◌, ℕ, List, [], ◌∷◌, ◌++◌, map, filter, Bool, true, false, not, cond, Option, Some, None, Result, Ok, Err, refl}
 use Rattle.std.specs.Str.{bytes_eq}
 use Rattle.scheme_model.specs.declared.Occ.{Occ}

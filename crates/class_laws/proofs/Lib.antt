@@ -1,4 +1,4 @@
-pub mod EntryOrigins  -- Where the places that spell what libraries export are of a kind, and a unit's new names stand at such places, so are the places that spell what the unit imports, what it names there, and what it exports
+pub mod EntryOrigins  -- What holds of the places that spell entries holds of those that import sets give and units export, if it holds of new names too
 pub mod Places  -- The places that spell what units import and export
 pub mod LinkOrigins  -- Each place from which an identifier of a program takes its characters is the target of a link
 pub mod ProgramSpelled  -- Places spell what the units of a program import and export, since each unit is worked on behind those that it imports
