@@ -1,0 +1,1 @@
+pub mod Joined  -- Which occurrences links join, over others or not
