@@ -29,14 +29,14 @@ use std::io::{BufRead, BufReader, BufWriter, Write};
 use std::marker::Brand;
 use std::sync::ledger::{Blank, Ledger};
 
-/// The answer to a row, whose macro uses are counted for nobody.
-fn answer<L: Ledger>(alloc: Global, blank: Blank, line: &str) -> Row<String>
+/// The answer to a row, whose macro uses are counted for nobody. (Its counter could not be proved where the line came as a `&str`.)
+fn answer<L: Ledger>(alloc: Global, blank: Blank, line: &String) -> Row<String>
     requires name { blank.name ≡ L.name }
     requires parts { blank.parts ≡ L.parts }
     requires some { 0 < blank.parts }
 {
     let mut steps = Steps::<L>::new(blank);
-    let call = call_of(line)?;
+    let call = call_of(line.as_str())?;
     if call.group != "differences" {
         return Err(RowFault::NoCall);
     }
@@ -47,7 +47,7 @@ fn answer<L: Ledger>(alloc: Global, blank: Blank, line: &str) -> Row<String>
 }
 
 /// The same, with a counter of its own.
-fn counted(alloc: Global, line: &str) -> Row<String> {
+fn counted(alloc: Global, line: &String) -> Row<String> {
     Ok(answer::<Brand>(alloc, Blank::new(1), line)?)
 }
 
@@ -55,7 +55,8 @@ fn main(rt: HostRuntime) -> io::Result<()> {
     let alloc = rt.alloc();
     let mut out = BufWriter::new(alloc, io::writer(&rt))?;
     for line in BufReader::new(alloc, rt.reader())?.lines(alloc) {
-        print(&mut out, &counted(alloc, line?.as_str()))?;
+        let line = line?;
+        print(&mut out, &counted(alloc, &line))?;
     }
     out.flush()
 }
