@@ -51,4 +51,4 @@ HasValue read found = MatchOption found (Unit {0}) (λ m. IsSome (read (rows_of 
 
 -- a value is what is read of what was found, and none where nothing was
 abbrev pub IsValue : {V : Type 0} → (List Row → Option V) → Option ArgMatches → Option V → Type 0
-IsValue {V} read found value = MatchOption found (value ≡ None {T = V}) (λ m. read (rows_of (found_of m)) ≡ value)
+IsValue {V} read found value = MatchOption found (value ≡ None) (λ m. read (rows_of (found_of m)) ≡ value)

@@ -28,4 +28,4 @@ AreFound rows None = ⊥
 AreFound rows (Some four) = IsEach rows four
 
 abbrev pub AreValues : Option ArgMatches → Option FourWords → Type 0
-AreValues found four = MatchOption found (four ≡ None {T = FourWords}) (λ m. AreFound (rows_of (found_of m)) four)
+AreValues found four = MatchOption found (four ≡ None) (λ m. AreFound (rows_of (found_of m)) four)
