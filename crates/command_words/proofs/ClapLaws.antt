@@ -168,6 +168,9 @@ ranged old new id rule same range =
     ap rule_of same
     ∙ λ j. record (rule j) { range = range_is new.num_vals (record { start_inclusive = 1; end_inclusive = usize_max }) range j }
 
+pub stays_local : (old new : Arg) → new ≡ record old { num_vals = new.num_vals } → old.global ≡ false → new.global ≡ false
+stays_local old new same local = ap (λ (a : Arg). a.global) same ∙ local
+
 -- ---- values of several words
 
 no_values_case : (o v : Option (List Word)) → None ≡ v → v ≡ o → IsSome o → ⊥
