@@ -1,12 +1,12 @@
 -- What is found in the words of a command says of them.
-use Rattle.std.proofs.Common.{◌≡◌, ◌≢◌, ◌<◌, ◌≤◌, ◌^◌, ℕ, List, [], ◌∷◌, length, map, Bool, true, false, Option, Some, None, is_some, IsTrue, refl, ap, sym, ◌∙◌, subst, codes, arith}
+use Rattle.std.proofs.Common.{◌≡◌, ◌≢◌, ◌<◌, ◌≤◌, ◌^◌, ℕ, List, [], ◌∷◌, length, true, false, Option, Some, None, is_some, IsTrue, refl, ap, sym, ◌∙◌, subst, codes, arith}
 use Rattle.std.specs.Prelude.{IsSome, IsSomeAnd, MatchOption, option_map}
 use Rattle.std.specs.Borrow.{Bor}
 use Rattle.std.proofs.lemmas.Bool.{false≢true}
 use Rattle.std.proofs.lemmas.List.{length-map}
 use Rattle.clap.specs.Lexer.{usize_max}
 use Rattle.clap.specs.Matches.{first_value, found_of, matched_of, raw_values}
-use Rattle.clap.specs.Simple.{App, is_simple, matches_of}
+use Rattle.clap.specs.Simple.{App, is_simple}
 use Rattle.clap.specs.Faults.{fault_of, is_simple_and_free}
 use Rattle.clap.specs.Walk.{Row, all_of, first_of, rows_of, rule_of}
 use Rattle.clap.specs.declared.builder.arg.Arg.{Arg}
@@ -18,7 +18,7 @@ use Rattle.command_words.specs.ClapWords.{Finds, HasValue, IsValue, command_line
 use Rattle.command_words.specs.FourValues.{AreFound, AreValues, HasFourValues}
 use Rattle.command_words.specs.Words.{Word}
 use Rattle.command_words.specs.declared.clap_words.FourWords.{FourWords}
-use Rattle.command_words.proofs.ClapRuns.{AreFour, four_found, four_taken, none_refused, none_taken, one_found, one_taken, some_found, some_refused}
+use Rattle.command_words.proofs.ClapRuns.{four_found, four_taken, none_refused, none_taken, one_found, one_taken, some_found, some_refused}
 
 moved : (app other : App) (line words : List Word) (found : Option ArgMatches) → app ≡ other → line ≡ words → Finds app line found → Finds other words found
 moved app other line words found apps lines h =

@@ -128,7 +128,7 @@ pub added : (words slice later new : List Word) (word copy : Word) (b : Bool) (m
 added words slice later new word copy b most same tested is now room few pushed cloned = (
   pushed ∙ ap (λ (w : Word). words ++ w ∷ []) cloned ∙ sym (not_there words slice word b same tested is),
   let longer = ap (λ (ws : List Word). length ws) pushed in
-  let all = ap (λ (ws : List Word). length ws) now in omega (arith, longer, all, room, few, length-append words (copy ∷ [])),
+      let all = ap (λ (ws : List Word). length ws) now in omega (arith, longer, all, room, few, length-append words (copy ∷ [])),
 )
 
 abbrev Adds : (all new : List Word) → Word → ℕ → Bool → Type 0

@@ -1,5 +1,5 @@
 -- Which command a first word asks for.
-use Rattle.std.proofs.Common.{◌≡◌, ◌≢◌, ◌<◌, ◌≤◌, ◌⊎◌, ℕ, List, [], ◌∷◌, length, Bool, true, false, refl, ap, sym, ◌∙◌, subst, inl, inr, arith, codes, drop, get_or, String, Global}
+use Rattle.std.proofs.Common.{◌≡◌, ◌≢◌, ◌<◌, ◌≤◌, ◌⊎◌, ℕ, List, [], ◌∷◌, length, true, false, refl, ap, sym, ◌∙◌, subst, inl, inr, arith, codes, drop, get_or, String, Global}
 use Rattle.std.specs.Str.{bytes_eq}
 use Rattle.std.specs.String.{string_bytes}
 use Rattle.std.proofs.lemmas.Slice.Eq.{bytes_eq-Decides}
@@ -191,13 +191,16 @@ asked_as name all words command same h = let P : List Word → Type 0 = λ ws. P
 -- four words, of which two write the numbers of a position, or don't
 pub rename_at : (file line column name l c : Word) (position : Pos) → l ≡ line → c ≡ column → IsNumber l position.line × IsNumber c position.character
     → AsksBy (codes "rename") (file ∷ line ∷ column ∷ name ∷ []) (Rename file position name)
-rename_at file line column name l c position lines columns numbers = (refl, record {
-  line = line;
-  column = column;
-  words_are = refl;
-  line_is = number_of_same line l position.line lines numbers.0;
-  column_is = number_of_same column c position.character columns numbers.1;
-})
+rename_at file line column name l c position lines columns numbers = (
+  refl,
+  record {
+    line = line;
+    column = column;
+    words_are = refl;
+    line_is = number_of_same line l position.line lines numbers.0;
+    column_is = number_of_same column c position.character columns numbers.1;
+  },
+)
 
 pub no_position : (file line column name l c : Word) → l ≡ line → c ≡ column → ((position : Pos) → ¬ (IsNumber l position.line × IsNumber c position.character))
     → Picks (AsksBy (codes "rename") (file ∷ line ∷ column ∷ name ∷ [])) Unknown

@@ -1,8 +1,7 @@
 -- Which words are numbers.
-use Rattle.std.proofs.Common.{◌≡◌, ◌<◌, ◌≤◌, ◌^◌, ◌+◌, ℕ, List, [], ◌∷◌, length, drop, Bool, true, false, cond, refl, ap, sym, ◌∙◌, subst, arith, get_or, eqb}
+use Rattle.std.proofs.Common.{◌≡◌, ◌<◌, ◌≤◌, ◌^◌, ℕ, [], ◌∷◌, length, drop, Bool, true, false, cond, ap, sym, ◌∙◌, subst, arith, get_or, eqb}
 use Rattle.std.specs.Prelude.{MatchOption, Ok, Err, Result}
 use Rattle.std.proofs.Math.Nat.{pow-le-pow_right}
-use Rattle.std.proofs.lemmas.Bool.{false≢true}
 use Rattle.std.proofs.lemmas.Bool.Decides.{nat_tests}
 use Rattle.std.proofs.lemmas.Int.Digits.{digits_value-lt}
 use Rattle.std.specs.Char.{digit_value}

@@ -1,5 +1,5 @@
 -- Words ask for one command.
-use Rattle.std.proofs.Common.{◌≡◌, ◌<◌, ◌≤◌, ◌⊎◌, ℕ, List, [], ◌∷◌, length, refl, ap, sym, ◌∙◌, subst, inl, inr, arith, codes}
+use Rattle.std.proofs.Common.{◌≡◌, ◌<◌, ◌≤◌, ◌⊎◌, ℕ, List, [], ◌∷◌, length, refl, ap, sym, ◌∙◌, subst, inl, inr, arith}
 use Rattle.ls_base.specs.Limits.{max_documents}
 use Rattle.ls_base.specs.declared.places.Pos.{Pos}
 use Rattle.std.specs.Str.Parse.{digits_value}
@@ -7,7 +7,7 @@ use Rattle.command_words.specs.Commands.{AreRenameWords, AreSelfrunWords, AreWor
 use Rattle.command_words.specs.Different.{different}
 use Rattle.command_words.specs.Numbers.{IsNumber}
 use Rattle.command_words.specs.Words.{Word, positional_words}
-use Rattle.command_words.proofs.Naming.{IsCheck, arrows_only, asked_by, check_only, rename_only, replay_only, selfrun_only, serve_only}
+use Rattle.command_words.proofs.Naming.{arrows_only, asked_by, check_only, rename_only, replay_only, selfrun_only, serve_only}
 use Rattle.command_words.specs.declared.command.Command.{Command}
 use Rattle.command_words.specs.declared.command.Command.TheVariants.{Arrows, Check, Rename, Replay, Selfrun, Serve, TooManyFiles, Unknown}
 

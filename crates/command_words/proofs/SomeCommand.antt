@@ -1,12 +1,11 @@
 -- Words ask for some command.
-use Rattle.std.proofs.Common.{◌≡◌, ◌≢◌, ◌<◌, ◌≤◌, ◌⊎◌, ℕ, List, [], ◌∷◌, length, Bool, true, false, refl, sym, ◌∙◌, subst, inl, inr, arith, codes, ltb}
+use Rattle.std.proofs.Common.{◌≡◌, ◌<◌, ◌≤◌, ◌⊎◌, ℕ, List, [], ◌∷◌, length, Bool, true, false, refl, sym, subst, inl, inr, arith, codes, ltb}
 use Rattle.std.specs.Str.{bytes_eq}
 use Rattle.std.specs.Str.Parse.{AllDigits, digits_value}
 use Rattle.std.specs.Char.{digit_value}
 use Rattle.std.proofs.lemmas.Bool.Decides.{nat_tests}
 use Rattle.std.proofs.lemmas.Slice.Eq.{bytes_eq-Decides}
 use Rattle.ls_base.specs.Limits.{max_documents}
-use Rattle.ls_base.specs.declared.places.Pos.{Pos}
 use Rattle.command_words.specs.Commands.{AsksBy, CommandOf, Picks}
 use Rattle.command_words.specs.Different.{different}
 use Rattle.command_words.specs.Numbers.{IsNumber}
@@ -142,7 +141,7 @@ name_case first words false false false false false true a_is s_is r_is c_is n_i
 name_case first words false false false false false false a_is s_is r_is c_is n_is f_is = (
   Unknown,
   no_name first words (unlike first (codes "arrows") a_is) (unlike first (codes "serve") s_is) (unlike first (codes "replay") r_is) (unlike first (codes "check") c_is)
-  (unlike first (codes "rename") n_is) (unlike first (codes "selfrun") f_is),
+      (unlike first (codes "rename") n_is) (unlike first (codes "selfrun") f_is),
 )
 
 by_name : (first : Word) (words : List Word) → HasCommand first words

@@ -7,8 +7,8 @@ ghost use Rattle.command_words.specs.ClapWords.{Finds, HasValue, IsValue, seen};
 ghost use Rattle.command_words.specs.FourValues.{AreValues, HasEach, HasFourValues, IsEach};
 ghost use Rattle.command_words.specs.Words.{Word};
 
-use clap::{Arg, ArgAction, ArgMatches, Command};
 use clap::error::ErrorKind;
+use clap::{Arg, ArgAction, ArgMatches, Command};
 use ls_base::{Items, Mem, Memory, Text};
 use std::alloc::{AllocError, Global};
 
@@ -136,7 +136,11 @@ fn argument<'a>(alloc: Global, id: &'a str) -> Arg<'a>
 }
 
 /// The command's word, `--`, and the words.
-fn command_line<'a>(alloc: Global, first: &'a str, words: &[&'a str]) -> Result<Vec<&'a str>, AllocError>
+fn command_line<'a>(
+    alloc: Global,
+    first: &'a str,
+    words: &[&'a str],
+) -> Result<Vec<&'a str>, AllocError>
     ensures { IfOk result (λ line. seen line.items ≡ spec.command_line first.now (seen words.now)) }
 {
     let mut line = Vec::new(alloc);
@@ -154,7 +158,11 @@ fn found<'a>(command: Command<'a>, line: &'a [&'a str]) -> Mem<Option<ArgMatches
     match command.try_get_matches_from(line) {
         Ok(matches) => Ok(Some(matches)),
         Err(error) => {
-            if error.kind() == ErrorKind::OutOfMemory { Err(Memory) } else { Ok(None) }
+            if error.kind() == ErrorKind::OutOfMemory {
+                Err(Memory)
+            } else {
+                Ok(None)
+            }
         }
     }
 }

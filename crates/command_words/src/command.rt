@@ -9,9 +9,13 @@ pub enum Command {
     /// `serve`: a session over the standard input and output.
     Serve,
     /// `replay FILE`: a session over the bytes of a file.
-    Replay { file: Text },
+    Replay {
+        file: Text,
+    },
     /// `check FILE...`: the diagnostics of different files, 1 to 64 of them, in the order of their first words.
-    Check { files: Items<Text> },
+    Check {
+        files: Items<Text>,
+    },
     /// `check FILE...` with more than 64 different files.
     TooManyFiles,
     /// `rename FILE LINE COL NAME`: a rename in a file. The position is zero-based and counts UTF-16 units.
@@ -21,7 +25,9 @@ pub enum Command {
         name: Text,
     },
     /// `selfrun N`: a workspace of so many libraries, 1 to 60.
-    Selfrun { libraries: u32 },
+    Selfrun {
+        libraries: u32,
+    },
     /// No command.
     Unknown,
 }

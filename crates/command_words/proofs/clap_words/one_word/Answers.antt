@@ -1,5 +1,5 @@
 use Rattle.std.proofs.Common.{◌≡◌, ◌∙◌, ap, ap₂}
-use Rattle.clap.specs.Words.{app_of, is_simple_and_free, new_app, with_rule}
+use Rattle.clap.specs.Words.{app_of, is_simple_and_free, with_rule}
 use Rattle.command_words.specs.ClapWords.{seen, with_one_word}
 use Rattle.command_words.proofs.ClapLaws.{word_is, word_there}
 use Rattle.command_words.proofs.ClapRuns.{one_simple}

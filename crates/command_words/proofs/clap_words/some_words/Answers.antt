@@ -1,5 +1,5 @@
 use Rattle.std.proofs.Common.{◌≡◌, ◌∙◌, ap, ap₂, codes, false, arith}
-use Rattle.clap.specs.Words.{app_of, is_simple_and_free, new_app, with_rule}
+use Rattle.clap.specs.Words.{app_of, is_simple_and_free, with_rule}
 use Rattle.command_words.specs.ClapWords.{seen, with_some_words}
 use Rattle.command_words.proofs.ClapLaws.{all_are, all_there, few_words, ranged, stays_local}
 use Rattle.command_words.proofs.ClapRuns.{some_simple}

@@ -1,5 +1,5 @@
 use Rattle.std.proofs.Common.{sym, arith}
-use Rattle.command_words.proofs.PositionalLaws.{all_front, back_taken, below_length, front_is, no_back}
+use Rattle.command_words.proofs.PositionalLaws.{all_front, back_taken, front_is, no_back}
 use Rattle.command_words.proofs.positionals.parts.Goals as goal
 
 pub returns-in-Some-clause-front : goal.returns-in-Some-clause-front

@@ -13,5 +13,5 @@ pub returns : goal.returns
 returns c = (
   all_taken c.args.words.now c.parts.result.0.now c.has_option.result c.has_empty.result c.parts.ensures.front c.has_option.ensures c.if-has_option.false c.has_empty.ensures c.if-has_empty.false,
   all_added c.args.words.now c.parts.result.0.now c.parts.result.1.now (seen c.new-all.result.items) (seen c.push_words.new.all.items) (seen c.push_words-2.new.all.items) (ap seen c.new-all.ensures.items)
-  c.parts.ensures.front c.parts.ensures.back c.in_ok-push_words.ensures c.in_ok-push_words-2.ensures,
+      c.parts.ensures.front c.parts.ensures.back c.in_ok-push_words.ensures c.in_ok-push_words-2.ensures,
 )
