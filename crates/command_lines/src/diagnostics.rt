@@ -35,7 +35,7 @@ pub fn diagnostic_lines(
     Ok(text)
 }
 
-/// The line of a diagnostic: where it starts, whether it is an Error, its code and its text.
+/// The line of a diagnostic: where it starts, and what is found there.
 fn diagnostic_line(
     alloc: Global,
     uri: &str,
@@ -44,18 +44,18 @@ fn diagnostic_line(
     ensures { IfOk result (λ text. string_bytes text ≡ spec.diagnostic_line uri.now diagnostic.now) }
 {
     let at = place_text(alloc, diagnostic.range.start)?;
-    let kind = kind_of(diagnostic.severity);
     let finding = finding_text(alloc, diagnostic)?;
-    format!(in alloc; "{uri}:{at}: {kind} {finding}\n")
+    format!(in alloc; "{uri}:{at}: {finding}\n")
 }
 
-/// The code of a diagnostic and its text.
+/// Whether a diagnostic is an Error, its code and its text.
 fn finding_text(alloc: Global, diagnostic: &Diagnostic) -> Result<String, AllocError>
     ensures { IfOk result (λ text. string_bytes text ≡ spec.finding_text diagnostic.now) }
 {
+    let kind = kind_of(diagnostic.severity);
     let code = diagnostic.code;
     let message = diagnostic.message.as_str();
-    format!(in alloc; "{code} {message}")
+    format!(in alloc; "{kind} {code} {message}")
 }
 
 /// The word for a severity.
