@@ -1,5 +1,5 @@
 -- Files that are fetched one after another.
-use Rattle.std.proofs.Common.{◌≡◌, ◌≤◌, ◌<◌, ◌+◌, ℕ, List, [], ◌∷◌, ◌++◌, length, map, take, drop, get_or, append_assoc, append-nil, length-append, refl, ap, sym, ◌∙◌, subst, arith, Option, Some, None, Err, add-one, drop-cons, suc}
+use Rattle.std.proofs.Common.{◌≡◌, ◌≤◌, ◌<◌, ◌+◌, ℕ, List, [], ◌∷◌, ◌++◌, length, take, drop, get_or, append_assoc, append-nil, length-append, refl, ap, sym, ◌∙◌, subst, arith, Option, Some, None, Err, add-one, drop-cons, suc}
 use Rattle.std.proofs.lemmas.List.{map-append, take-append-drop, take_more}
 use Rattle.std.specs.List.{AllByRecursion}
 use Rattle.std.specs.declared.vec.Vec.{Vec}
@@ -7,7 +7,7 @@ use Rattle.std.specs.declared.alloc.Global.{Global}
 use Rattle.ls_outside.specs.Files.{FetchTells, Gives}
 use Rattle.ls_outside.specs.declared.files.Fetch.TheVariants as fetch
 use Rattle.file_fetching.specs.FilesSeen.{AsksFor, FilesSeen}
-use Rattle.file_fetching.specs.Fetching.{AreHeld, AsksCalmly, AsksFirst, FetchStopsAs, Fetches, FetchesAll, FetchingEndsAs, IsHeld, IsOver, StopsAt, bytes_in}
+use Rattle.file_fetching.specs.Fetching.{AreHeld, AsksCalmly, AsksFirst, FetchStopsAs, Fetches, FetchesAll, FetchingEndsAs, IsHeld, IsOver, bytes_in}
 use Rattle.file_fetching.specs.declared.fetching.FetchStop.{FetchStop}
 use Rattle.file_fetching.specs.declared.fetching.FetchStop.TheVariants.{Failed, Long, Memory}
 

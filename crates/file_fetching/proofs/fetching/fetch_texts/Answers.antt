@@ -1,9 +1,7 @@
-use Rattle.std.proofs.Common.{◌≡◌, ◌+◌, ◌++◌, ◌∷◌, [], ◌∙◌, List, ℕ, arith, ap, drop, sym, take}
+use Rattle.std.proofs.Common.{◌+◌, ◌∙◌, arith, drop, take}
 use Rattle.std.proofs.lemmas.List.{take_all}
 use Rattle.std.proofs.lemmas.Result.{err_from_is_err_and}
 use Rattle.ls_base.specs.Limits.{max_text}
-use Rattle.file_fetching.specs.FilesSeen.{files_seen, FilesSeen}
-use Rattle.file_fetching.specs.Fetching.{bytes_in}
 use Rattle.file_fetching.proofs.FetchLaws.{bytes_push, fetched_all, fetched_more, fetched_none, no_room, split_here, stopped, take_here}
 use Rattle.file_fetching.proofs.fetching.fetch_texts.Goals as goal
 
