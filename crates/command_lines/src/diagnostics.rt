@@ -36,11 +36,7 @@ pub fn diagnostic_lines(
 }
 
 /// The line of a diagnostic: where it starts, and what is found there.
-fn diagnostic_line(
-    alloc: Global,
-    uri: &str,
-    diagnostic: &Diagnostic,
-) -> Result<String, AllocError>
+fn diagnostic_line(alloc: Global, uri: &str, diagnostic: &Diagnostic) -> Result<String, AllocError>
     ensures { IfOk result (λ text. string_bytes text ≡ spec.diagnostic_line uri.now diagnostic.now) }
 {
     let at = place_text(alloc, diagnostic.range.start)?;
@@ -62,7 +58,11 @@ fn finding_text(alloc: Global, diagnostic: &Diagnostic) -> Result<String, AllocE
 fn kind_of(severity: u8) -> &'static str
     ensures { result.now ≡ spec.kind_of severity }
 {
-    if severity == ERROR { "error" } else { "warning" }
+    if severity == ERROR {
+        "error"
+    } else {
+        "warning"
+    }
 }
 
 /// The diagnostic of a file that isn't UTF-8, at its begin.
@@ -84,5 +84,7 @@ pub fn not_utf8(alloc: Global) -> Mem<Diagnostic>
 pub fn has_error(diagnostics: &[Diagnostic]) -> bool
     ensures { result ≡ spec.has_error diagnostics.now }
 {
-    diagnostics.iter().any(|diagnostic| diagnostic.severity == ERROR)
+    diagnostics
+        .iter()
+        .any(|diagnostic| diagnostic.severity == ERROR)
 }
