@@ -13,14 +13,13 @@ is_error d = d.severity == 1
 abbrev pub kind_of : ℕ → List ℕ
 kind_of severity = if severity == 1 then codes "error" else codes "warning"
 
--- `CODE TEXT`
+-- `error CODE TEXT`, or `warning` in place of `error`
 abbrev pub finding_text : Diagnostic → List ℕ
-finding_text d = decimal d.code ++ (codes " " ++ d.message)
+finding_text d = kind_of d.severity ++ (codes " " ++ decimal d.code) ++ (codes " " ++ d.message)
 
--- `URI:LINE:COLUMN: error CODE TEXT`, or `warning` in place of `error`
+-- `URI:LINE:COLUMN: error CODE TEXT`
 abbrev pub diagnostic_line : (uri : List ℕ) → Diagnostic → List ℕ
-diagnostic_line uri d =
-    uri ++ (codes ":" ++ place_text d.range.start) ++ (codes ": " ++ kind_of d.severity) ++ (codes " " ++ finding_text d) ++ codes "\n"
+diagnostic_line uri d = uri ++ (codes ":" ++ place_text d.range.start) ++ (codes ": " ++ finding_text d) ++ codes "\n"
 
 abbrev pub diagnostic_lines : (uri : List ℕ) → List Diagnostic → List ℕ
 diagnostic_lines uri [] = []

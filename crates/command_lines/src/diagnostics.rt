@@ -35,34 +35,34 @@ pub fn diagnostic_lines(
     Ok(text)
 }
 
-/// The line of a diagnostic: where it starts, whether it is an Error, its code and its text.
-fn diagnostic_line(
-    alloc: Global,
-    uri: &str,
-    diagnostic: &Diagnostic,
-) -> Result<String, AllocError>
+/// The line of a diagnostic: where it starts, and what is found there.
+fn diagnostic_line(alloc: Global, uri: &str, diagnostic: &Diagnostic) -> Result<String, AllocError>
     ensures { IfOk result (λ text. string_bytes text ≡ spec.diagnostic_line uri.now diagnostic.now) }
 {
     let at = place_text(alloc, diagnostic.range.start)?;
-    let kind = kind_of(diagnostic.severity);
     let finding = finding_text(alloc, diagnostic)?;
-    format!(in alloc; "{uri}:{at}: {kind} {finding}\n")
+    format!(in alloc; "{uri}:{at}: {finding}\n")
 }
 
-/// The code of a diagnostic and its text.
+/// Whether a diagnostic is an Error, its code and its text.
 fn finding_text(alloc: Global, diagnostic: &Diagnostic) -> Result<String, AllocError>
     ensures { IfOk result (λ text. string_bytes text ≡ spec.finding_text diagnostic.now) }
 {
+    let kind = kind_of(diagnostic.severity);
     let code = diagnostic.code;
     let message = diagnostic.message.as_str();
-    format!(in alloc; "{code} {message}")
+    format!(in alloc; "{kind} {code} {message}")
 }
 
 /// The word for a severity.
 fn kind_of(severity: u8) -> &'static str
     ensures { result.now ≡ spec.kind_of severity }
 {
-    if severity == ERROR { "error" } else { "warning" }
+    if severity == ERROR {
+        "error"
+    } else {
+        "warning"
+    }
 }
 
 /// The diagnostic of a file that isn't UTF-8, at its begin.
@@ -84,5 +84,7 @@ pub fn not_utf8(alloc: Global) -> Mem<Diagnostic>
 pub fn has_error(diagnostics: &[Diagnostic]) -> bool
     ensures { result ≡ spec.has_error diagnostics.now }
 {
-    diagnostics.iter().any(|diagnostic| diagnostic.severity == ERROR)
+    diagnostics
+        .iter()
+        .any(|diagnostic| diagnostic.severity == ERROR)
 }

@@ -55,15 +55,11 @@ pub fn fetch_texts<F: Files>(
 }
 
 /// The content of a file of at most 1,048,576 bytes, which is fetched once.
-pub fn fetch_text<F: Files>(
-    alloc: Global,
-    name: &str,
-    files: &mut F,
-) -> Result<Vec<u8>, FetchStop>
+pub fn fetch_text<F: Files>(alloc: Global, name: &str, files: &mut F) -> Result<Vec<u8>, FetchStop>
     ensures { FetchEndsAs (files_seen (F.held files.old) (F.asked files.old) (F.faults files.old))
         (files_seen (F.held files.new) (F.asked files.new) (F.faults files.new)) name.now max_text result }
 {
-    Ok(fetch(alloc, name, MAX_TEXT, files)?)
+    fetch(alloc, name, MAX_TEXT, files)
 }
 
 /// The content of a file of at most 67,108,864 bytes, a recorded session, which is fetched once.
@@ -75,16 +71,11 @@ pub fn fetch_recording<F: Files>(
     ensures { FetchEndsAs (files_seen (F.held files.old) (F.asked files.old) (F.faults files.old))
         (files_seen (F.held files.new) (F.asked files.new) (F.faults files.new)) name.now max_recording result }
 {
-    Ok(fetch(alloc, name, MAX_RECORDING, files)?)
+    fetch(alloc, name, MAX_RECORDING, files)
 }
 
 /// The content of a file of at most `max` bytes, which is fetched once.
-fn fetch<F: Files>(
-    alloc: Global,
-    name: &str,
-    max: u32,
-    files: &mut F,
-) -> Result<Vec<u8>, FetchStop>
+fn fetch<F: Files>(alloc: Global, name: &str, max: u32, files: &mut F) -> Result<Vec<u8>, FetchStop>
     ensures { FetchEndsAs (files_seen (F.held files.old) (F.asked files.old) (F.faults files.old))
         (files_seen (F.held files.new) (F.asked files.new) (F.faults files.new)) name.now max result }
 {

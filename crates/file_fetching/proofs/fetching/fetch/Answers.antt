@@ -1,3 +1,4 @@
+use Rattle.std.proofs.Common.{arith}
 use Rattle.file_fetching.proofs.FetchLaws.{is_held, is_over}
 use Rattle.file_fetching.proofs.fetching.fetch.Goals as goal
 
@@ -5,7 +6,7 @@ pub returns-in-Bytes : goal.returns-in-Bytes
 returns-in-Bytes g c = record {
   asks = record { asked = c.in-Bytes.ensures.asks; held = c.in-Bytes.ensures.stays };
   no_fault = c.in-Bytes.ensures.counts;
-  within_limit = c.in-Bytes.ensures.within;
+  within_limit = omega (arith, c.in-Bytes.ensures.within, c.in-Bytes.content.ok.0);
   is = is_held _ _ _ _ c.in-Bytes.ensures.tells;
 }
 
