@@ -75,3 +75,12 @@ zip_short (n ∷ ns) (c ∷ cs) = omega (arith, zip_short ns cs)
 
 pub all_of : (ns cs : List (List ℕ)) (i : ℕ) → length ns ≤ i → take i (zip ns cs) ≡ zip ns cs
 all_of ns cs i past = take_all (zip ns cs) i (omega (arith, zip_short ns cs))
+
+-- what comes of the files up to the next
+pub next_file : {B : Type 0} (f : B → List ℕ × List ℕ → B) (b : B) (ns : List (List ℕ)) (vs : List (Vec ℕ Global)) (i : ℕ) (n : List ℕ) (v : Vec ℕ Global) → slice_get ns i ≡ Some n → slice_get vs i ≡ Some v →
+    (was now : B) (bytes : List ℕ) → was ≡ fold f b (take i (zip ns (bytes_in vs))) → bytes ≡ v.items → now ≡ f was (n, bytes) → now ≡ fold f b (take (suc i) (zip ns (bytes_in vs)))
+next_file f b ns vs i n v at there was now bytes before same is = is ∙ (λ k. f (before k) (n, same k)) ∙ sym (one_more f b ns vs i n v at there)
+
+pub put_as : {Y : Type 0} (es : List (String Y × List Diagnostic)) (new : List (String Y × List Diagnostic)) (k : String Y) (v : List Diagnostic) (name : List ℕ) → new ≡ insert_entry string_cmp es k v → string_bytes k ≡ name → v ≡ not_utf8 ∷ [] →
+    map shown new ≡ put (slice_cmp nat_cmp) name (not_utf8 ∷ []) (map shown es)
+put_as es new k v name is key list = ap (map shown) is ∙ put_shown es k v ∙ (λ j. put (slice_cmp nat_cmp) (key j) (list j) (map shown es))

@@ -1,9 +1,12 @@
 //! The diagnostics of files, which are the open documents (LSP 3.17, Diagnostic).
-ghost use Rattle.std.specs.Prelude.{◌≡◌, ◌≤◌, ◌+◌, List, map, length, vec_len, IfOk, OnOk};
-ghost use Rattle.std.specs.List.{All, fold, zip};
-ghost use Rattle.std.specs.FinMap.{entries};
+ghost use Rattle.std.specs.Prelude.{◌≡◌, ◌≤◌, ◌+◌, List, [], ◌∷◌, length, IfOk, OnOk};
+ghost use Rattle.std.specs.List.{AllByRecursion, fold, zip};
+ghost use Rattle.std.specs.Cmp.Lexicographic.{slice_cmp};
+ghost use Rattle.std.specs.FinMap.{entries, put};
+ghost use Rattle.std.specs.Ordering.{nat_cmp};
 ghost use Rattle.ls_base.specs.Limits.{max_documents, max_text};
 ghost use Rattle.ls_base.specs.declared.encoding.Encoding.TheVariants.{Utf16};
+ghost use Rattle.command_lines.specs.Diagnostics as diagnostics;
 ghost use Rattle.document_units.specs.Readings.{Read, AreReadAs};
 ghost use Rattle.program_answers.specs.Updates.{AreListsOf, entries_shown};
 ghost use Rattle.program_expansion.specs.UsesInTurn.{uses_in};
@@ -11,7 +14,6 @@ ghost use Rattle.file_commands.specs.Checking.{checked_in, bytes_in, open_file, 
 
 use command_lines::{diagnostic_lines, has_error, not_utf8};
 use document_store::Store;
-use ls_base::limits::MAX_DOCUMENTS;
 use ls_base::{Encoding, Items, Mem, Memory, Steps, Text};
 use program_answers::lists::{Lists, lists};
 use program_answers::open::Open;
@@ -40,7 +42,7 @@ pub fn check_files<L: Ledger>(
 ) -> Mem<Checked>
     requires each { length contents.now ≡ length names.now }
     requires few { length names.now ≤ max_documents }
-    requires short { All (λ content. vec_len content ≤ max_text) contents.now }
+    requires short { AllByRecursion (λ content. length content ≤ max_text) (bytes_in contents.now) }
     ensures checked { (rs : List Read) → AreReadAs (entries (opened names.now (bytes_in contents.now))) rs →
         IfOk result (λ checked. checked ≡ checked_in rs names.now (bytes_in contents.now)) }
     // Each macro use that the definition counts for the texts is a step, once.
@@ -49,7 +51,7 @@ pub fn check_files<L: Ledger>(
     let store = open_files(alloc, names, contents)?;
     let mut lists = listed(alloc, store, steps)?;
     add_unopened(alloc, &mut lists, names, contents)?;
-    printed(alloc, &lists)
+    Ok(printed(alloc, &lists)?)
 }
 
 /// The documents of the files that are UTF-8.
@@ -65,6 +67,7 @@ fn open_files(alloc: Global, names: &[Text], contents: &[Vec<u8>]) -> Mem<Store>
 }
 
 /// Opens the document of a file, if it is UTF-8. Any refusal is answered as want of memory.
+#[tactic(auto, using(crate::proofs::FileLaws::put_in, crate::proofs::FileLaws::left_out))]
 fn open_file(store: &mut Store, name: &Text, content: &[u8]) -> Mem<()>
     ensures { OnOk result (store.new ≡ open_file store.old (name.now, content.now)) }
 {
@@ -92,7 +95,12 @@ fn listed<L: Ledger>(alloc: Global, store: Store, steps: &mut Steps<L>) -> Mem<L
         ..
     } = reading;
     let texts = Open::of(store, documents, heads, errors);
-    lists(alloc, &texts, findings.as_slice(), Encoding::Utf16)
+    Ok(lists(
+        alloc,
+        &texts,
+        findings.as_slice(),
+        Encoding::Utf16,
+    )?)
 }
 
 /// Adds to the lists of documents those of the files that aren't UTF-8.
@@ -107,12 +115,21 @@ fn add_unopened(alloc: Global, lists: &mut Lists, names: &[Text], contents: &[Ve
 }
 
 /// Adds the list of a file, if it isn't UTF-8.
+#[tactic(auto, using(crate::proofs::FileLaws::kept_out, crate::proofs::FileLaws::put_out))]
 fn add_file(alloc: Global, lists: &mut Lists, name: &Text, content: &[u8]) -> Mem<()>
     ensures { OnOk result (entries_shown lists.new ≡ with_file (entries_shown lists.old) (name.now, content.now)) }
 {
-    if str::from_utf8(content).is_ok() {
-        return Ok(());
+    match str::from_utf8(content) {
+        Ok(_) => Ok(()),
+        Err(_) => Ok(add_not_utf8(alloc, lists, name)?),
     }
+}
+
+/// Adds the list of a file that isn't UTF-8.
+#[tactic(auto, using(crate::proofs::FileLaws::put_as))]
+fn add_not_utf8(alloc: Global, lists: &mut Lists, name: &Text) -> Mem<()>
+    ensures { OnOk result (entries_shown lists.new ≡ put (slice_cmp nat_cmp) name.now (diagnostics.not_utf8 ∷ []) (entries_shown lists.old)) }
+{
     let mut list = Items::new(alloc);
     list.push(not_utf8(alloc)?)?;
     lists.insert(String::from_str(alloc, name.as_str())?, list)?;
