@@ -1,0 +1,45 @@
+-- The bodies that a window holds, when one comes behind them and when the first goes.
+use Rattle.std.proofs.Common.{◌≡◌, ℕ, suc, zero, ◌+◌, ◌<◌, ◌≤◌, List, [], ◌∷◌, ◌++◌, length, take, drop, get_or, map, Option, Some, None, refl, sym, ap, ◌∙◌, subst, add-one, arith}
+use Rattle.std.proofs.lemmas.List.{map-append, take_more}
+use Rattle.lsp_messages.specs.declared.message.Id.{Id}
+use Rattle.lookahead.specs.Roles.{role_of}
+use Rattle.lookahead.specs.Cancelled.{cancelled_by}
+use Rattle.lookahead.specs.Windows.{Leaves}
+use Rattle.lookahead.specs.Counts.{bodies_in, roles_in}
+use Rattle.lookahead.specs.declared.held.Held.{Held}
+use Rattle.lookahead.specs.declared.role.Role.{Role}
+use Rattle.lookahead.specs.declared.window.Next.{Next}
+
+pub roles_behind : (held : List Held) → drop 1 (roles_in held) ≡ roles_in (drop 1 held)
+roles_behind [] = refl
+roles_behind (h ∷ held) = refl
+
+-- what stands first
+pub first_and_rest : {A : Type 0} → (xs : List A) (x : A) → 0 < length xs → x ≡ get_or xs 0 x → xs ≡ x ∷ drop 1 xs
+first_and_rest [] x h e = absurd (omega arith)
+first_and_rest (y ∷ ys) x h e = ap (λ z. z ∷ ys) (sym e)
+
+-- the bodies behind the first, up to a place, and the one at the place
+pub behind_more : (held : List Held) (place : ℕ) (d : Held) → 1 ≤ place → place < length held
+    → roles_in (drop 1 (take (place + 1) held)) ≡ roles_in (drop 1 (take place held)) ++ (get_or held place d).role ∷ []
+behind_more [] place d low high = absurd (omega arith)
+behind_more (h ∷ held) zero d low high = absurd (omega arith)
+behind_more (h ∷ held) (suc n) d low high =
+    let more = take_more held n d (omega arith) in
+    ap (λ (k : ℕ). roles_in (drop 1 (take k (h ∷ held)))) (add-one (suc n))
+    ∙ ap (λ (k : ℕ). roles_in (take k held)) (sym (add-one n))
+    ∙ ap roles_in more ∙ map-append (λ (x : Held). x.role) (take n held) (get_or held n d ∷ [])
+
+-- the oldest body leaves
+leaves_at : (first : Held) (behind : List Held) (gone : Option Id) → roles_in (first ∷ behind) ≡ map role_of (bodies_in (first ∷ behind)) → gone ≡ cancelled_by first.role (roles_in behind)
+    → Leaves (bodies_in (first ∷ behind)) (Some (record { body = first.body; cancelled = gone })) (bodies_in behind)
+leaves_at first behind gone read is =
+    let role : first.role ≡ role_of first.body.items = cc in
+    let roles : roles_in behind ≡ map role_of (bodies_in behind) = cc in
+    (refl, is ∙ (λ j. cancelled_by (role j) (roles j)), refl)
+
+pub leaves : (held : List Held) (first : Held) (behind : List Held) (gone : Option Id) → held ≡ first ∷ behind → roles_in held ≡ map role_of (bodies_in held)
+    → gone ≡ cancelled_by first.role (roles_in behind) → Leaves (bodies_in held) (Some (record { body = first.body; cancelled = gone })) (bodies_in behind)
+leaves held first behind gone is read cancelled =
+    subst (λ (xs : List Held). Leaves (bodies_in xs) (Some (record { body = first.body; cancelled = gone })) (bodies_in behind)) (sym is)
+      (leaves_at first behind gone (subst (λ (xs : List Held). roles_in xs ≡ map role_of (bodies_in xs)) is read) cancelled)
