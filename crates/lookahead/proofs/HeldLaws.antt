@@ -1,6 +1,6 @@
 -- The bodies that a window holds, when one comes behind them and when the first goes.
 use Rattle.std.proofs.Common.{◌≡◌, ℕ, suc, zero, ◌+◌, ◌<◌, ◌≤◌, List, [], ◌∷◌, ◌++◌, length, take, drop, get_or, map, Option, Some, None, refl, sym, ap, ◌∙◌, subst, add-one, arith}
-use Rattle.std.proofs.lemmas.List.{map-append, take_more}
+use Rattle.std.proofs.lemmas.List.{length-drop, length-map, length-take, map-append, take_more}
 use Rattle.lsp_messages.specs.declared.message.Id.{Id}
 use Rattle.lookahead.specs.Roles.{role_of}
 use Rattle.lookahead.specs.Cancelled.{cancelled_by}
@@ -29,6 +29,16 @@ behind_more (h ∷ held) (suc n) d low high =
     ap (λ (k : ℕ). roles_in (drop 1 (take k (h ∷ held)))) (add-one (suc n))
     ∙ ap (λ (k : ℕ). roles_in (take k held)) (sym (add-one n))
     ∙ ap roles_in more ∙ map-append (λ (x : Held). x.role) (take n held) (get_or held n d ∷ [])
+
+pub one_behind : (held : List Held) (place : ℕ) (x : Held) → 1 ≤ place → place < length held → x ≡ get_or held place x
+    → roles_in (drop 1 (take (place + 1) held)) ≡ roles_in (drop 1 (take place held)) ++ x.role ∷ []
+one_behind held place x low high is = behind_more held place x low high ∙ ap (λ (h : Held). roles_in (drop 1 (take place held)) ++ h.role ∷ []) (sym is)
+
+pub held_few : (held : List Held) → length held ≤ 64 → length (roles_in held) ≤ 64
+held_few held few = simp length-map few
+
+pub behind_few : (held : List Held) (place : ℕ) → length held ≤ 64 → length (roles_in (drop 1 (take place held))) ≤ 64
+behind_few held place few = simp (length-map, length-drop, length-take) (omega arith)
 
 -- the oldest body leaves
 leaves_at : (first : Held) (behind : List Held) (gone : Option Id) → roles_in (first ∷ behind) ≡ map role_of (bodies_in (first ∷ behind)) → gone ≡ cancelled_by first.role (roles_in behind)

@@ -1,9 +1,10 @@
 -- How many cancellations stand among bodies, when one comes behind them and when the first goes.
-use Rattle.std.proofs.Common.{◌≡◌, ℕ, ◌+◌, ◌-◌, ◌≤◌, List, [], ◌∷◌, ◌++◌, length, Bool, true, false, refl, sym, ap, ◌∙◌, zero-add, arith}
+use Rattle.std.proofs.Common.{◌≡◌, ℕ, ◌+◌, ◌-◌, ◌^◌, ◌<◌, ◌≤◌, List, [], ◌∷◌, ◌++◌, length, Bool, true, false, Option, Some, None, refl, sym, ap, ◌∙◌, subst, zero-add, add-zero, arith}
 use Rattle.std.specs.Prelude.{◌||◌, nat_lt, if◌then◌else◌}
 use Rattle.std.proofs.lemmas.Bool.Decides.{nat_tests}
 use Rattle.lsp_messages.specs.declared.message.Id.{Id}
-use Rattle.lookahead.specs.Cancelled.{is_cancelled, same_id}
+use Rattle.lsp_messages.specs.declared.message.Id.TheVariants.{Number, Name}
+use Rattle.lookahead.specs.Cancelled.{cancelled_by, is_cancelled, same_id}
 use Rattle.lookahead.specs.Counts.{IsOf, cancellations_of, count_of, has_exit}
 use Rattle.lookahead.specs.declared.cancellations.Cancellations.{Cancellations}
 use Rattle.lookahead.specs.declared.role.Role.{Role}
@@ -86,14 +87,51 @@ one_alone : (b : Bool) (n : ℕ) → n + (if b then 1 else 0) ≡ n + ((if b the
 one_alone true n = omega arith
 one_alone false n = omega arith
 
-pub taken_cancellation : (roles : List Role) (other : Id) (old new : Cancellations) → old.closed ≡ false → new.closed ≡ old.closed
-    → ((id : Id) → count_of new id ≡ count_of old id + (if same_id id other then 1 else 0)) → IsOf roles old → IsOf (roles ++ Cancellation other ∷ []) new
-taken_cancellation roles other old new open closes counts of =
-    taken_behind roles (Cancellation other) old new open (closes ∙ open) (λ id. counts id ∙ one_alone (same_id id other) (count_of old id)) of
+pub taken_cancellation : (roles : List Role) (role : Role) (other : Id) (old new : Cancellations) → role ≡ Cancellation other → old.closed ≡ false → new.closed ≡ old.closed
+    → ((id : Id) → count_of new id ≡ count_of old id + (if same_id id other then 1 else 0)) → IsOf roles old → IsOf (roles ++ role ∷ []) new
+taken_cancellation roles role other old new is open closes counts of =
+    subst (λ (r : Role). IsOf (roles ++ r ∷ []) new) (sym is)
+      (taken_behind roles (Cancellation other) old new open (closes ∙ open) (λ id. counts id ∙ one_alone (same_id id other) (count_of old id)) of)
 
--- nothing is counted otherwise
-pub same_counts : (roles : List Role) (old new : Cancellations) → new.closed ≡ old.closed → ((id : Id) → count_of new id ≡ count_of old id) → IsOf roles old → IsOf roles new
-same_counts roles old new closes counts of = record { counted = λ id. counts id ∙ of.counted id; exits = closes ∙ of.exits }
+-- an `exit`
+same_maps : (all : Cancellations) (closed : Bool) (id : Id) → count_of (record { numbers = all.numbers; names = all.names; closed = closed }) id ≡ count_of all id
+same_maps all closed (Number n) = refl
+same_maps all closed (Name s) = refl
+
+pub taken_exit : (roles : List Role) (role : Role) (old : Cancellations) → role ≡ Exit → old.closed ≡ false → IsOf roles old
+    → IsOf (roles ++ role ∷ []) (record { numbers = old.numbers; names = old.names; closed = true })
+taken_exit roles role old is open of =
+    let new : Cancellations = record { numbers = old.numbers; names = old.names; closed = true } in
+    subst (λ (r : Role). IsOf (roles ++ r ∷ []) new) (sym is)
+      (taken_behind roles Exit old new open refl (λ id. same_maps old true id ∙ sym (add-zero (count_of old id))) of)
+
+-- anything else
+abbrev pub Uncounted : Role → Type 0
+Uncounted (Request id) = Unit {0}
+Uncounted (Cancellation id) = ⊥
+Uncounted Exit = ⊥
+Uncounted Other = Unit {0}
+
+pub taken_uncounted : (roles : List Role) (role : Role) (all : Cancellations) → Uncounted role → all.closed ≡ false → IsOf roles all → IsOf (roles ++ role ∷ []) all
+taken_uncounted roles (Request other) all u open of = taken_behind roles (Request other) all all open open (λ id. sym (add-zero (count_of all id))) of
+taken_uncounted roles (Cancellation other) all u open of = absurd u
+taken_uncounted roles Exit all u open of = absurd u
+taken_uncounted roles Other all u open of = taken_behind roles Other all all open open (λ id. sym (add-zero (count_of all id))) of
+
+-- there is room for one more
+pub room : (roles : List Role) (all : Cancellations) (id : Id) → IsOf roles all → length roles ≤ 64 → count_of all id + 1 < 2 ^ 32
+room roles all id of few =
+    let most = few_counted id roles in
+    let same = of.counted id in
+    omega arith
+
+-- ---- whether one names an id
+
+pub found : (role : Role) (id : Id) (all : Cancellations) (roles : List Role) (b : Bool) → role ≡ Request id → b ≡ nat_lt 0 (count_of all id) → IsOf roles all
+    → (if b then Some id else None) ≡ cancelled_by role roles
+found role id all roles b is has of =
+    let e : b ≡ is_cancelled id roles = has ∙ ap (λ n. nat_lt 0 n) (of.counted id) ∙ cancelled_where_counted id roles in
+    ap (λ (x : Bool). if x then Some id else None) e ∙ ap (λ (r : Role). cancelled_by r roles) (sym is)
 
 -- ---- the first body goes
 
@@ -101,9 +139,17 @@ less_one : (b : Bool) (n : ℕ) → ((if b then 1 else 0) + n) - (if b then 1 el
 less_one true n = omega arith
 less_one false n = omega arith
 
-pub gone_cancellation : (later : List Role) (other : Id) (old new : Cancellations) → new.closed ≡ old.closed
-    → ((id : Id) → count_of new id ≡ count_of old id - (if same_id id other then 1 else 0)) → IsOf (Cancellation other ∷ later) old → IsOf later new
-gone_cancellation later other old new closes counts of = record {
-  counted = λ id. counts id ∙ ap (λ n. n - (if same_id id other then 1 else 0)) (of.counted id) ∙ less_one (same_id id other) (cancellations_of id later);
-  exits = closes ∙ of.exits
-}
+pub gone_cancellation : (first : Role) (later : List Role) (other : Id) (old new : Cancellations) → first ≡ Cancellation other → new.closed ≡ old.closed
+    → ((id : Id) → count_of new id ≡ count_of old id - (if same_id id other then 1 else 0)) → IsOf (first ∷ later) old → IsOf later new
+gone_cancellation first later other old new is closes counts of =
+    let all : IsOf (Cancellation other ∷ later) old = subst (λ (r : Role). IsOf (r ∷ later) old) is of in
+    record {
+      counted = λ id. counts id ∙ ap (λ n. n - (if same_id id other then 1 else 0)) (all.counted id) ∙ less_one (same_id id other) (cancellations_of id later);
+      exits = closes ∙ all.exits
+    }
+
+pub gone_uncounted : (first : Role) (later : List Role) (all : Cancellations) → Uncounted first → IsOf (first ∷ later) all → IsOf later all
+gone_uncounted (Request other) later all u of = record { counted = of.counted; exits = of.exits }
+gone_uncounted (Cancellation other) later all u of = absurd u
+gone_uncounted Exit later all u of = absurd u
+gone_uncounted Other later all u of = record { counted = of.counted; exits = of.exits }

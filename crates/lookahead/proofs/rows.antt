@@ -1,0 +1,2 @@
+pub mod CancelledRows
+pub mod AheadRows
