@@ -1,5 +1,5 @@
 -- Up to an `exit`, what stands behind it doesn't matter.
-use Rattle.std.proofs.Common.{◌≡◌, ℕ, zero, suc, ◌+◌, List, [], ◌∷◌, ◌++◌, length, take, map, Bool, Option, Some, None, refl, sym, ap, ◌∙◌, subst, arith}
+use Rattle.std.proofs.Common.{◌≡◌, ℕ, zero, suc, ◌+◌, ◌-◌, ◌%◌, List, [], ◌∷◌, ◌++◌, length, take, map, Bool, Option, Some, None, refl, sym, ap, ◌∙◌, subst, arith}
 use Rattle.std.specs.Prelude.{◌||◌, if◌then◌else◌}
 use Rattle.std.proofs.lemmas.List.{length-map}
 use Rattle.lsp_messages.specs.declared.message.Id.{Id}
@@ -25,7 +25,7 @@ of_role Other before after others n = refl
 
 from_place : (before after others : List Role) (place : ℕ) → take (suc (length before)) (cancelled_from place (before ++ Exit ∷ after)) ≡ take (suc (length before)) (cancelled_from place (before ++ Exit ∷ others))
 from_place [] after others place = refl
-from_place (role ∷ before) after others place = λ j. of_role role before after others _ j ∷ from_place before after others (suc place) j
+from_place (role ∷ before) after others place = λ j. of_role role before after others (63 - place % 64) j ∷ from_place before after others (suc place) j
 
 mapped : (before : List (List ℕ)) (exit : List ℕ) (after : List (List ℕ)) → role_of exit ≡ Exit → map role_of (before ++ exit ∷ after) ≡ map role_of before ++ Exit ∷ map role_of after
 mapped [] exit after h = λ j. h j ∷ map role_of after

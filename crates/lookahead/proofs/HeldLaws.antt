@@ -41,15 +41,40 @@ pub behind_few : (held : List Held) (place : ℕ) → length held ≤ 64 → len
 behind_few held place few = simp (length-map, length-drop, length-take) (omega arith)
 
 -- the oldest body leaves
-leaves_at : (first : Held) (behind : List Held) (gone : Option Id) → roles_in (first ∷ behind) ≡ map role_of (bodies_in (first ∷ behind)) → gone ≡ cancelled_by first.role (roles_in behind)
-    → Leaves (bodies_in (first ∷ behind)) (Some (record { body = first.body; cancelled = gone })) (bodies_in behind)
-leaves_at first behind gone read is =
+leaves_at : (first : Held) (behind : List Held) (told : Option Id) → roles_in (first ∷ behind) ≡ map role_of (bodies_in (first ∷ behind)) → told ≡ cancelled_by first.role (roles_in behind)
+    → Leaves (bodies_in (first ∷ behind)) (Some (record { body = first.body; cancelled = told })) (bodies_in behind)
+leaves_at first behind told read is =
     let role : first.role ≡ role_of first.body.items = cc in
     let roles : roles_in behind ≡ map role_of (bodies_in behind) = cc in
     (refl, is ∙ (λ j. cancelled_by (role j) (roles j)), refl)
 
-pub leaves : (held : List Held) (first : Held) (behind : List Held) (gone : Option Id) → held ≡ first ∷ behind → roles_in held ≡ map role_of (bodies_in held)
-    → gone ≡ cancelled_by first.role (roles_in behind) → Leaves (bodies_in held) (Some (record { body = first.body; cancelled = gone })) (bodies_in behind)
-leaves held first behind gone is read cancelled =
-    subst (λ (xs : List Held). Leaves (bodies_in xs) (Some (record { body = first.body; cancelled = gone })) (bodies_in behind)) (sym is)
-      (leaves_at first behind gone (subst (λ (xs : List Held). roles_in xs ≡ map role_of (bodies_in xs)) is read) cancelled)
+pub leaves : (held : List Held) (first : Held) (behind : List Held) (told : Option Id) → held ≡ first ∷ behind → roles_in held ≡ map role_of (bodies_in held)
+    → told ≡ cancelled_by first.role (roles_in behind) → Leaves (bodies_in held) (Some (record { body = first.body; cancelled = told })) (bodies_in behind)
+leaves held first behind told is read cancelled =
+    subst (λ (xs : List Held). Leaves (bodies_in xs) (Some (record { body = first.body; cancelled = told })) (bodies_in behind)) (sym is)
+      (leaves_at first behind told (subst (λ (xs : List Held). roles_in xs ≡ map role_of (bodies_in xs)) is read) cancelled)
+
+-- none leaves where none is held
+pub none_leaves : (held left : List Held) → length held ≡ 0 → length left ≡ 0 → Leaves (bodies_in held) None (bodies_in left)
+none_leaves [] [] h l = refl
+none_leaves [] (x ∷ left) h l = absurd (omega arith)
+none_leaves (x ∷ held) left h l = absurd (omega arith)
+
+-- ---- one more body
+
+pub roles_more : (held : List Held) (x : Held) → roles_in (held ++ x ∷ []) ≡ roles_in held ++ x.role ∷ []
+roles_more held x = map-append (λ (h : Held). h.role) held (x ∷ [])
+
+pub bodies_more : (held : List Held) (x : Held) → bodies_in (held ++ x ∷ []) ≡ bodies_in held ++ x.body.items ∷ []
+bodies_more held x = map-append (λ (h : Held). h.body.items) held (x ∷ [])
+
+pub read_more : (held : List Held) (x : Held) → roles_in held ≡ map role_of (bodies_in held) → x.role ≡ role_of x.body.items
+    → roles_in (held ++ x ∷ []) ≡ map role_of (bodies_in (held ++ x ∷ []))
+read_more held x read is =
+    roles_more held x ∙ (λ j. read j ++ is j ∷ []) ∙ sym (map-append role_of (bodies_in held) (x.body.items ∷ [])) ∙ ap (map role_of) (sym (bodies_more held x))
+
+-- ---- the first body goes
+
+pub read_behind : (held : List Held) → roles_in held ≡ map role_of (bodies_in held) → roles_in (drop 1 held) ≡ map role_of (bodies_in (drop 1 held))
+read_behind [] read = refl
+read_behind (x ∷ held) read = cc

@@ -13,9 +13,9 @@ HasCompletion bytes bodies pieces = (given : List (List (List ℕ))) × (end : E
 
 with_piece : (bytes piece : List ℕ) (bodies all completed : List (List ℕ)) (pieces : List (List ℕ)) (after : End) → IsFrames (bytes ++ piece) all after → all ≡ bodies ++ completed
     → ((more : List (List ℕ)) (end : End) → IsFrames (bytes ++ piece) more end → HasCompletion (bytes ++ piece) more pieces) → HasCompletion bytes bodies (piece ∷ pieces)
-with_piece bytes piece bodies all completed pieces after frames is rest =
+with_piece bytes piece bodies all completed pieces after frames is onward =
     let here : IsFrames (bytes ++ piece) (bodies ++ completed) after = subst (λ (b : List (List ℕ)). IsFrames (bytes ++ piece) b after) is frames in
-    let more = rest (bodies ++ completed) after here in
+    let more = onward (bodies ++ completed) after here in
     (completed ∷ more.0, more.1, ((after, here), more.2))
 
 completion_from : (pieces : List (List ℕ)) (bytes : List ℕ) (bodies : List (List ℕ)) (end : End) → IsFrames bytes bodies end → HasCompletion bytes bodies pieces

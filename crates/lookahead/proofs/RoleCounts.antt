@@ -1,5 +1,5 @@
 -- How many cancellations stand among bodies, when one comes behind them and when the first goes.
-use Rattle.std.proofs.Common.{◌≡◌, ℕ, ◌+◌, ◌-◌, ◌^◌, ◌<◌, ◌≤◌, List, [], ◌∷◌, ◌++◌, length, Bool, true, false, Option, Some, None, refl, sym, ap, ◌∙◌, subst, zero-add, add-zero, arith}
+use Rattle.std.proofs.Common.{◌≡◌, ◌⊎◌, inl, inr, ℕ, ◌+◌, ◌-◌, ◌^◌, ◌<◌, ◌≤◌, List, [], ◌∷◌, ◌++◌, length, Bool, true, false, Option, Some, None, refl, sym, ap, ◌∙◌, subst, zero-add, add-zero, arith}
 use Rattle.std.specs.Prelude.{◌||◌, nat_lt, if◌then◌else◌}
 use Rattle.std.proofs.lemmas.Bool.Decides.{nat_tests}
 use Rattle.lsp_messages.specs.declared.message.Id.{Id}
@@ -75,8 +75,8 @@ taken_behind_exit roles role all closed of =
 -- a body comes behind the others that counts so much, and closes them or not
 pub taken_behind : (roles : List Role) (role : Role) (old new : Cancellations) → old.closed ≡ false → new.closed ≡ has_exit (role ∷ [])
     → ((id : Id) → count_of new id ≡ count_of old id + cancellations_of id (role ∷ [])) → IsOf roles old → IsOf (roles ++ role ∷ []) new
-taken_behind roles role old new open closes counts of =
-    let h : has_exit roles ≡ false = sym of.exits ∙ open in
+taken_behind roles role old new unclosed closes counts of =
+    let h : has_exit roles ≡ false = sym of.exits ∙ unclosed in
     record {
       counted = λ id. counts id ∙ ap (λ n. n + cancellations_of id (role ∷ [])) (of.counted id) ∙ sym (before_exit id roles role h);
       exits = closes ∙ sym (exit_last roles role h)
@@ -89,9 +89,9 @@ one_alone false n = omega arith
 
 pub taken_cancellation : (roles : List Role) (role : Role) (other : Id) (old new : Cancellations) → role ≡ Cancellation other → old.closed ≡ false → new.closed ≡ old.closed
     → ((id : Id) → count_of new id ≡ count_of old id + (if same_id id other then 1 else 0)) → IsOf roles old → IsOf (roles ++ role ∷ []) new
-taken_cancellation roles role other old new is open closes counts of =
+taken_cancellation roles role other old new is unclosed closes counts of =
     subst (λ (r : Role). IsOf (roles ++ r ∷ []) new) (sym is)
-      (taken_behind roles (Cancellation other) old new open (closes ∙ open) (λ id. counts id ∙ one_alone (same_id id other) (count_of old id)) of)
+      (taken_behind roles (Cancellation other) old new unclosed (closes ∙ unclosed) (λ id. counts id ∙ one_alone (same_id id other) (count_of old id)) of)
 
 -- an `exit`
 same_maps : (all : Cancellations) (closed : Bool) (id : Id) → count_of (record { numbers = all.numbers; names = all.names; closed = closed }) id ≡ count_of all id
@@ -100,10 +100,10 @@ same_maps all closed (Name s) = refl
 
 pub taken_exit : (roles : List Role) (role : Role) (old : Cancellations) → role ≡ Exit → old.closed ≡ false → IsOf roles old
     → IsOf (roles ++ role ∷ []) (record { numbers = old.numbers; names = old.names; closed = true })
-taken_exit roles role old is open of =
+taken_exit roles role old is unclosed of =
     let new : Cancellations = record { numbers = old.numbers; names = old.names; closed = true } in
     subst (λ (r : Role). IsOf (roles ++ r ∷ []) new) (sym is)
-      (taken_behind roles Exit old new open refl (λ id. same_maps old true id ∙ sym (add-zero (count_of old id))) of)
+      (taken_behind roles Exit old new unclosed refl (λ id. same_maps old true id ∙ sym (add-zero (count_of old id))) of)
 
 -- anything else
 abbrev pub Uncounted : Role → Type 0
@@ -112,11 +112,14 @@ Uncounted (Cancellation id) = ⊥
 Uncounted Exit = ⊥
 Uncounted Other = Unit {0}
 
+pub uncounted_either : (role : Role) → ((id : Id) × (role ≡ Request id)) ⊎ (role ≡ Other) → Uncounted role
+uncounted_either role h = elim h [ inl p ↦ subst Uncounted (sym p.1) tt | inr e ↦ subst Uncounted (sym e) tt ]
+
 pub taken_uncounted : (roles : List Role) (role : Role) (all : Cancellations) → Uncounted role → all.closed ≡ false → IsOf roles all → IsOf (roles ++ role ∷ []) all
-taken_uncounted roles (Request other) all u open of = taken_behind roles (Request other) all all open open (λ id. sym (add-zero (count_of all id))) of
-taken_uncounted roles (Cancellation other) all u open of = absurd u
-taken_uncounted roles Exit all u open of = absurd u
-taken_uncounted roles Other all u open of = taken_behind roles Other all all open open (λ id. sym (add-zero (count_of all id))) of
+taken_uncounted roles (Request other) all u unclosed of = taken_behind roles (Request other) all all unclosed unclosed (λ id. sym (add-zero (count_of all id))) of
+taken_uncounted roles (Cancellation other) all u unclosed of = absurd u
+taken_uncounted roles Exit all u unclosed of = absurd u
+taken_uncounted roles Other all u unclosed of = taken_behind roles Other all all unclosed unclosed (λ id. sym (add-zero (count_of all id))) of
 
 -- there is room for one more
 pub room : (roles : List Role) (all : Cancellations) (id : Id) → IsOf roles all → length roles ≤ 64 → count_of all id + 1 < 2 ^ 32

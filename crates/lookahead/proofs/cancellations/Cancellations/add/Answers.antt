@@ -1,5 +1,4 @@
-use Rattle.std.proofs.Common.{sym, subst}
-use Rattle.lookahead.proofs.RoleCounts.{Uncounted, taken_behind_exit, taken_cancellation, taken_exit, taken_uncounted}
+use Rattle.lookahead.proofs.RoleCounts.{uncounted_either, taken_behind_exit, taken_cancellation, taken_exit, taken_uncounted}
 use Rattle.lookahead.proofs.cancellations.Cancellations.add.Goals as goal
 
 pub returns-then-self-clause-ok : goal.returns-then-self-clause-ok
@@ -13,7 +12,7 @@ pub returns-in-Exit-clause-ok : goal.returns-in-Exit-clause-ok
 returns-in-Exit-clause-ok c = λ roles of. taken_exit roles c.args.role.now c.args.self.now c.in-Exit.is c.if-self.false of
 
 pub returns-in-Request-clause-ok : goal.returns-in-Request-clause-ok
-returns-in-Request-clause-ok c = λ roles of. taken_uncounted roles c.args.role.now c.args.self.now (subst Uncounted (sym c.in-Request.is) tt) c.if-self.false of
+returns-in-Request-clause-ok c = λ roles of. taken_uncounted roles c.args.role.now c.args.self.now (uncounted_either c.args.role.now c.in-Request.is) c.if-self.false of
 
 pub returns-in-Request-2-clause-ok : goal.returns-in-Request-2-clause-ok
-returns-in-Request-2-clause-ok c = λ roles of. taken_uncounted roles c.args.role.now c.args.self.now (subst Uncounted (sym c.in-Request.is) tt) c.if-self.false of
+returns-in-Request-2-clause-ok c = λ roles of. taken_uncounted roles c.args.role.now c.args.self.now (uncounted_either c.args.role.now c.in-Request.is) c.if-self.false of
