@@ -48,8 +48,12 @@ class CancelledBodies(kinds.Kind):
     crate = "lookahead"
     module = "BodyRows"
     says = "Bodies that a piece completes, as a client writes them, and which are cancelled; from outside."
+    unfolding = "serde_json_on_literals is_utf8 chars encode_utf8"
     head = """
 use Rattle.std.specs.Prelude.{◌≡◌, pos, neg_ℤ, List, [], ◌∷◌, Option, Some, None, codes, refl}
+use Rattle.std.specs.Char.{encode_utf8}
+use Rattle.std.specs.Str.{is_utf8, chars}
+use Rattle.serde_json.proofs.OnLiterals.{serde_json_on_literals}
 use Rattle.lsp_messages.specs.declared.message.Id.TheVariants.{Number, Name}
 use Rattle.lookahead.specs.Cancelled.{cancelled_in}
 """

@@ -1,5 +1,5 @@
 -- Up to an `exit`, what stands behind it doesn't matter.
-use Rattle.std.proofs.Common.{◌≡◌, ℕ, zero, suc, ◌+◌, ◌-◌, ◌%◌, List, [], ◌∷◌, ◌++◌, length, take, map, Bool, Option, Some, None, refl, sym, ap, ◌∙◌, subst, arith}
+use Rattle.std.proofs.Common.{◌≡◌, ℕ, zero, suc, ◌+◌, ◌-◌, ◌%◌, List, [], ◌∷◌, ◌++◌, length, take, map, Bool, Some, None, refl, sym, ap, ◌∙◌, subst, arith}
 use Rattle.std.specs.Prelude.{◌||◌, if◌then◌else◌}
 use Rattle.std.proofs.lemmas.List.{length-map}
 use Rattle.lsp_messages.specs.declared.message.Id.{Id}
@@ -37,7 +37,7 @@ exit_bars before exit after others h =
     let n = length before + 1 in
     let count : suc (length (map role_of before)) ≡ n = let l = length-map before role_of in omega arith in
     let same = subst (λ (k : ℕ). take k (cancelled_from 0 (map role_of before ++ Exit ∷ map role_of after)) ≡ take k (cancelled_from 0 (map role_of before ++ Exit ∷ map role_of others)))
-      count (from_place (map role_of before) (map role_of after) (map role_of others) 0) in
+    count (from_place (map role_of before) (map role_of after) (map role_of others) 0) in
     ap (λ (rs : List Role). take n (cancelled_from 0 rs)) (mapped before exit after h) ∙ same ∙ sym (ap (λ (rs : List Role). take n (cancelled_from 0 rs)) (mapped before exit others h))
 
 pub alone_by : (role : Role) → cancelled_by role [] ≡ None

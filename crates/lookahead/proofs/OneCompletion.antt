@@ -2,10 +2,10 @@
 use Rattle.std.proofs.Common.{◌≡◌, ℕ, List, [], ◌∷◌, ◌++◌, refl, sym, subst}
 use Rattle.std.proofs.lemmas.List.{append_cancel_left}
 use Rattle.ls_base.specs.Frames.{End, IsFrames, rest}
-use Rattle.lsp_framing.proofs.EveryReading.{HasReading, every_reading}
+use Rattle.lsp_framing.proofs.EveryReading.{every_reading}
 use Rattle.lsp_framing.proofs.OneReading.{one_reading, bodies_grow}
 use Rattle.lsp_framing.proofs.Written.{written_again}
-use Rattle.lookahead.specs.Completed.{Completes, Complete}
+use Rattle.lookahead.specs.Completed.{Completes}
 
 -- some bodies
 abbrev HasCompletion : List ℕ → List (List ℕ) → List (List ℕ) → Type 0
@@ -39,5 +39,5 @@ only_completion (piece ∷ pieces) bytes bodies (g ∷ gs) (o ∷ os) end other 
     let e = (one_reading (bytes ++ piece) (bodies ++ g) (bodies ++ o) one.0.0 two.0.0 one.0.1 two.0.1).0 in
     let same = append_cancel_left bodies g o e in
     let more = only_completion pieces (bytes ++ piece) (bodies ++ g) gs os end other one.1
-      (subst (λ (b : List (List ℕ)). Completes (bytes ++ piece) b pieces os other) (sym e) two.1) in
+    (subst (λ (b : List (List ℕ)). Completes (bytes ++ piece) b pieces os other) (sym e) two.1) in
     (λ j. same j ∷ more.0 j, more.1)

@@ -1,5 +1,5 @@
 -- How many cancellations stand among bodies, when one comes behind them and when the first goes.
-use Rattle.std.proofs.Common.{◌≡◌, ◌⊎◌, inl, inr, ℕ, ◌+◌, ◌-◌, ◌^◌, ◌<◌, ◌≤◌, List, [], ◌∷◌, ◌++◌, length, Bool, true, false, Option, Some, None, refl, sym, ap, ◌∙◌, subst, zero-add, add-zero, arith}
+use Rattle.std.proofs.Common.{◌≡◌, ◌⊎◌, inl, inr, ℕ, ◌+◌, ◌^◌, ◌<◌, ◌≤◌, List, [], ◌∷◌, ◌++◌, length, Bool, true, false, Some, None, refl, sym, ap, ◌∙◌, subst, zero-add, add-zero, arith}
 use Rattle.std.specs.Prelude.{◌||◌, nat_lt, if◌then◌else◌}
 use Rattle.std.proofs.lemmas.Bool.Decides.{nat_tests}
 use Rattle.lsp_messages.specs.declared.message.Id.{Id}
@@ -79,7 +79,7 @@ taken_behind roles role old new unclosed closes counts of =
     let h : has_exit roles ≡ false = sym of.exits ∙ unclosed in
     record {
       counted = λ id. counts id ∙ ap (λ n. n + cancellations_of id (role ∷ [])) (of.counted id) ∙ sym (before_exit id roles role h);
-      exits = closes ∙ sym (exit_last roles role h)
+      exits = closes ∙ sym (exit_last roles role h);
     }
 
 -- a cancellation
@@ -91,7 +91,7 @@ pub taken_cancellation : (roles : List Role) (role : Role) (other : Id) (old new
     → ((id : Id) → count_of new id ≡ count_of old id + (if same_id id other then 1 else 0)) → IsOf roles old → IsOf (roles ++ role ∷ []) new
 taken_cancellation roles role other old new is unclosed closes counts of =
     subst (λ (r : Role). IsOf (roles ++ r ∷ []) new) (sym is)
-      (taken_behind roles (Cancellation other) old new unclosed (closes ∙ unclosed) (λ id. counts id ∙ one_alone (same_id id other) (count_of old id)) of)
+    (taken_behind roles (Cancellation other) old new unclosed (closes ∙ unclosed) (λ id. counts id ∙ one_alone (same_id id other) (count_of old id)) of)
 
 -- an `exit`
 same_maps : (all : Cancellations) (closed : Bool) (id : Id) → count_of (record { numbers = all.numbers; names = all.names; closed = closed }) id ≡ count_of all id
@@ -103,7 +103,7 @@ pub taken_exit : (roles : List Role) (role : Role) (old : Cancellations) → rol
 taken_exit roles role old is unclosed of =
     let new : Cancellations = record { numbers = old.numbers; names = old.names; closed = true } in
     subst (λ (r : Role). IsOf (roles ++ r ∷ []) new) (sym is)
-      (taken_behind roles Exit old new unclosed refl (λ id. same_maps old true id ∙ sym (add-zero (count_of old id))) of)
+    (taken_behind roles Exit old new unclosed refl (λ id. same_maps old true id ∙ sym (add-zero (count_of old id))) of)
 
 -- anything else
 abbrev pub Uncounted : Role → Type 0
@@ -135,24 +135,3 @@ pub found : (role : Role) (id : Id) (all : Cancellations) (roles : List Role) (b
 found role id all roles b is has of =
     let e : b ≡ is_cancelled id roles = has ∙ ap (λ n. nat_lt 0 n) (of.counted id) ∙ cancelled_where_counted id roles in
     ap (λ (x : Bool). if x then Some id else None) e ∙ ap (λ (r : Role). cancelled_by r roles) (sym is)
-
--- ---- the first body goes
-
-less_one : (b : Bool) (n : ℕ) → ((if b then 1 else 0) + n) - (if b then 1 else 0) ≡ n
-less_one true n = omega arith
-less_one false n = omega arith
-
-pub gone_cancellation : (first : Role) (later : List Role) (other : Id) (old new : Cancellations) → first ≡ Cancellation other → new.closed ≡ old.closed
-    → ((id : Id) → count_of new id ≡ count_of old id - (if same_id id other then 1 else 0)) → IsOf (first ∷ later) old → IsOf later new
-gone_cancellation first later other old new is closes counts of =
-    let all : IsOf (Cancellation other ∷ later) old = subst (λ (r : Role). IsOf (r ∷ later) old) is of in
-    record {
-      counted = λ id. counts id ∙ ap (λ n. n - (if same_id id other then 1 else 0)) (all.counted id) ∙ less_one (same_id id other) (cancellations_of id later);
-      exits = closes ∙ all.exits
-    }
-
-pub gone_uncounted : (first : Role) (later : List Role) (all : Cancellations) → Uncounted first → IsOf (first ∷ later) all → IsOf later all
-gone_uncounted (Request other) later all u of = record { counted = of.counted; exits = of.exits }
-gone_uncounted (Cancellation other) later all u of = absurd u
-gone_uncounted Exit later all u of = absurd u
-gone_uncounted Other later all u of = record { counted = of.counted; exits = of.exits }

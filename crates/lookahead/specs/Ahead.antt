@@ -1,6 +1,6 @@
 -- A session that looks ahead: before the first body of a group is answered, the others are looked at for cancellations (LSP 3.17,
 -- "Cancellation Support").
-use Rattle.std.specs.Prelude.{ℕ, List, [], ◌∷◌, Option, Some, None, codes}
+use Rattle.std.specs.Prelude.{List, [], ◌∷◌, Option, Some, None, codes}
 use Rattle.scheme_model.specs.Texts.{Offsets}
 use Rattle.scheme_model.specs.Session.{Answers, Error, Fresh, Id, Message, Mode, Reply, Run, Running, Shut, State, Stepped, followed, minus, stays, step}
 

@@ -1,5 +1,5 @@
 -- Which requests are cancelled among the bodies that a piece of a stream completes (LSP 3.17, "Cancellation Support").
-use Rattle.std.specs.Prelude.{ℕ, suc, ◌-◌, ◌%◌, List, [], ◌∷◌, Bool, true, false, ◌||◌, Option, Some, None, map, take, if◌then◌else◌}
+use Rattle.std.specs.Prelude.{ℕ, suc, ◌-◌, ◌%◌, List, [], ◌∷◌, Bool, false, ◌||◌, Option, Some, None, map, take, if◌then◌else◌}
 use Rattle.std.specs.Ordering.{int_eq}
 use Rattle.std.specs.Str.{bytes_eq}
 use Rattle.lsp_messages.specs.declared.message.Id.{Id}

@@ -122,13 +122,7 @@ impl Cancellations {
         ensures { (roles : List AnyRole) → IsOf roles self.now → result ≡ cancelled_by role roles }
     {
         match role {
-            Role::Request(id) => {
-                if self.has(&id) {
-                    Some(id)
-                } else {
-                    None
-                }
-            }
+            Role::Request(id) => { if self.has(&id) { Some(id) } else { None } }
             Role::Cancellation(_) | Role::Exit | Role::Other => None,
         }
     }

@@ -1,6 +1,6 @@
 -- Messages of a session, of which some are cancelled, and the replies; from outside.
 -- Written by tests/definitions/rows; each row is checked by computing it.
-use Rattle.std.specs.Prelude.{◌≡◌, ℕ, pos, neg_ℤ, true, List, [], ◌∷◌, Option, Some, None, codes, refl}
+use Rattle.std.specs.Prelude.{◌≡◌, ℕ, pos, neg_ℤ, true, List, [], ◌∷◌, Some, None, codes, refl}
 use Rattle.std.specs.FinMap.{empty}
 use Rattle.scheme_model.specs.Texts.{Offsets, Utf16}
 use Rattle.scheme_model.specs.Session.{Answers, Arrows, Ask, BadRequest, Capabilities, Clean, Early, Error, Exit, Id, Initialize, Message, Name, Notice, Number, Other, Rename, Renamed, Reply, Request, Result, Shutdown, UnknownMethod, begin}

@@ -1,6 +1,6 @@
 -- Bodies that a piece completes, by what they are to those before them, and which are cancelled; from outside.
 -- Written by tests/definitions/rows; each row is checked by computing it.
-use Rattle.std.specs.Prelude.{◌≡◌, pos, neg_ℤ, List, [], ◌∷◌, Option, Some, None, codes, refl}
+use Rattle.std.specs.Prelude.{◌≡◌, pos, neg_ℤ, [], ◌∷◌, Some, None, codes, refl}
 use Rattle.lsp_messages.specs.declared.message.Id.TheVariants.{Number, Name}
 use Rattle.lookahead.specs.Cancelled.{cancelled_from}
 use Rattle.lookahead.specs.declared.role.Role.TheVariants.{Request, Cancellation, Exit, Other}

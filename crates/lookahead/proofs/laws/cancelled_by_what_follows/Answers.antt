@@ -1,4 +1,4 @@
-use Rattle.std.proofs.Common.{List, ℕ, [], ◌∷◌}
+use Rattle.std.proofs.Common.{[], ◌∷◌}
 use Rattle.lookahead.specs.Roles.{role_of}
 use Rattle.lookahead.proofs.ExitBars.{alone_by, exit_bars}
 use Rattle.lookahead.proofs.laws.cancelled_by_what_follows.Goals as goal
