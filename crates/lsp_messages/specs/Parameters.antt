@@ -14,9 +14,10 @@ use Rattle.lsp_messages.specs.declared.message.At.{At}
 use Rattle.lsp_messages.specs.declared.message.Call.{Call}
 use Rattle.lsp_messages.specs.declared.message.Call.TheVariants.{Initialize, Shutdown, Ask, Rename}
 use Rattle.lsp_messages.specs.declared.message.Note.{Note}
-use Rattle.lsp_messages.specs.declared.message.Note.TheVariants.{Exit, Opened, Changed, Closed}
+use Rattle.lsp_messages.specs.declared.message.Id.{Id}
+use Rattle.lsp_messages.specs.declared.message.Note.TheVariants.{Exit, Opened, Changed, Closed, Cancel, Other}
 use Rattle.lsp_messages.specs.Encodings.{agreed_encoding}
-use Rattle.lsp_messages.specs.Fields.{◌>>=◌, field_at, text_at, boolean_at, list_at, integer_at, position_at, range_of}
+use Rattle.lsp_messages.specs.Fields.{◌>>=◌, field_at, text_at, boolean_at, list_at, integer_at, position_at, range_of, id_of}
 
 -- the document that a message's parameters name (TextDocumentIdentifier, TextDocumentItem)
 abbrev pub document_in : Data → Result Data Fault
@@ -140,6 +141,18 @@ closed_in message = do
   uri ← text_at (codes "uri") document
   Ok (Closed uri)
 
+-- what stands where a cancellation names an id (CancelParams)
+abbrev pub named_value : Data → Option Data
+named_value message = option_and_then (get (codes "id")) (get (codes "params") message)
+
+-- a cancellation of the request with this id. Without a valid id it is passed over
+abbrev pub cancellation_of : Option Id → Note
+cancellation_of None = Other
+cancellation_of (Some id) = Cancel id
+
+abbrev pub cancellation_in : Data → Note
+cancellation_in message = cancellation_of (option_and_then id_of (named_value message))
+
 -- what a notification tells, by its method
 abbrev pub note_of : List ℕ → Data → Result Note Fault
 note_of method message =
@@ -147,4 +160,5 @@ note_of method message =
     else if bytes_eq method (codes "textDocument/didOpen") then opened_in message
     else if bytes_eq method (codes "textDocument/didChange") then changed_in message
     else if bytes_eq method (codes "textDocument/didClose") then closed_in message
+    else if bytes_eq method (codes "$/cancelRequest") then Ok (cancellation_in message)
     else Err Unknown

@@ -53,11 +53,15 @@ pub enum Note {
     Closed {
         uri: Text,
     },
+    /// `$/cancelRequest` with a valid id.
+    Cancel {
+        id: Id,
+    },
     /// A notification of a known method whose parameters lack a field, or have one of another type.
     BadParams {
         method: Text,
     },
-    /// A notification of any other method.
+    /// A notification of any other method, and `$/cancelRequest` without a valid id.
     Other,
 }
 

@@ -7,7 +7,7 @@ ghost use Rattle.lsp_messages.specs.Parameters as spec;
 
 use crate::encodings::agreed_encoding;
 use crate::fault::{Fault, ReadError};
-use crate::fields::{boolean, field, integer, list, position, range, text};
+use crate::fields::{boolean, field, id, integer, list, position, range, text};
 use crate::{At, Call, Note};
 use ls_base::{Change, Items, Pos, Query, Range, Text};
 use serde_json::Value;
@@ -42,6 +42,7 @@ pub(crate) fn note(alloc: Global, method: &str, message: &Value) -> Result<Note,
         "textDocument/didOpen" => Ok(opened(alloc, message)?),
         "textDocument/didChange" => Ok(changed(alloc, message)?),
         "textDocument/didClose" => Ok(closed(alloc, message)?),
+        "$/cancelRequest" => Ok(cancellation(alloc, message)?),
         _ => Err(ReadError::Fault(Fault::Unknown)),
     }
 }
@@ -186,4 +187,24 @@ fn closed(alloc: Global, message: &Value) -> Result<Note, ReadError>
 {
     let uri = Text::of(alloc, text(document(message)?, "uri")?)?;
     Ok(Note::Closed { uri })
+}
+
+/// What stands where a cancellation names an id.
+fn named_value(message: &Value) -> Option<&Value>
+    ensures { option_map (λ v. view v.now) result ≡ spec.named_value (view message.now) }
+{
+    message.get("params")?.get("id")
+}
+
+/// A cancellation of a request. Without a valid id it is passed over.
+fn cancellation(alloc: Global, message: &Value) -> Result<Note, ReadError>
+    ensures { Gives (λ n. n) result (Ok (spec.cancellation_in (view message.now))) }
+{
+    let Some(value) = named_value(message) else {
+        return Ok(Note::Other);
+    };
+    match id(alloc, value)? {
+        None => Ok(Note::Other),
+        Some(id) => Ok(Note::Cancel { id }),
+    }
 }

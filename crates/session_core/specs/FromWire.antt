@@ -68,6 +68,7 @@ said_note notes.Exit = session.Exit
 said_note (notes.Opened uri version text) = session.Document (texts.Added uri version text)
 said_note (notes.Changed uri version changes) = session.Document (texts.Changed uri version (map said_change changes))
 said_note (notes.Closed uri) = session.Document (texts.Closed uri)
+said_note (notes.Cancel id) = session.Other
 said_note (notes.BadParams method) = session.BadParams method
 said_note notes.Other = session.Other
 

@@ -236,6 +236,7 @@ impl Session {
             Note::Opened { .. }
             | Note::Changed { .. }
             | Note::Closed { .. }
+            | Note::Cancel { .. }
             | Note::BadParams { .. }
             | Note::Other => silent(self.alloc),
         }
@@ -269,7 +270,7 @@ impl Session {
             }
             Note::Closed { uri } => Ok(self.on_event(&DocEvent::Closed { uri }, steps)?),
             Note::BadParams { method } => Ok(logged(self.alloc, BAD_PARAMS, method.as_str())?),
-            Note::Other => Ok(silent(self.alloc)),
+            Note::Cancel { .. } | Note::Other => Ok(silent(self.alloc)),
         }
     }
 

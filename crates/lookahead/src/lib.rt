@@ -1,0 +1,12 @@
+//! Bodies that are looked at together before the first of them is answered, so that a notification behind a request can cancel it
+//! (LSP 3.17, "Cancellation Support"). It knows messages and no session: the caller puts bodies in and takes them out.
+#![tactic(auto)]
+
+mod cancellations;
+mod counts;
+mod held;
+pub mod laws;
+mod role;
+mod window;
+
+pub use window::{Next, Window, WindowFault};
