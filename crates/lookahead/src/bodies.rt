@@ -37,7 +37,11 @@ impl Bodies {
     pub fn new(alloc: Global, bodies: Vec<Vec<u8>>, ahead: bool) -> Bodies
         ensures { result ≡ looked ahead (contents bodies.items) }
     {
-        let window = if ahead { Some(Window::new(alloc)) } else { None };
+        let window = if ahead {
+            Some(Window::new(alloc))
+        } else {
+            None
+        };
         Bodies {
             window,
             rest: bodies.into_iter(),

@@ -80,7 +80,12 @@ pub fn not_initialized(alloc: Global, id: Id) -> Mem<Out>
 pub fn request_cancelled(alloc: Global, id: Id) -> Mem<Out>
     ensures { IfOk result (λ out. Says out (ahead.request_cancelled (said_id id) ∷ [])) }
 {
-    Ok(error(alloc, Some(id), REQUEST_CANCELLED, wording::REQUEST_CANCELLED)?)
+    Ok(error(
+        alloc,
+        Some(id),
+        REQUEST_CANCELLED,
+        wording::REQUEST_CANCELLED,
+    )?)
 }
 
 /// What the server can do.

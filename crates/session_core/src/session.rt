@@ -94,12 +94,7 @@ impl Session {
     }
 
     /// A request that is cancelled.
-    fn on_cancelled<L: Ledger>(
-        &mut self,
-        body: &[u8],
-        id: Id,
-        steps: &mut Steps<L>,
-    ) -> Mem<Out>
+    fn on_cancelled<L: Ledger>(&mut self, body: &[u8], id: Id, steps: &mut Steps<L>) -> Mem<Out>
         ensures step { IfOk result (λ out. IsOutcome
             (cancelled_step self.old.mode self.old (said_id id) (step offsets questions self.old (said_by (message_of body.now)))) out self.new) }
         ensures kept { OnErr result (self.new ≡ self.old) }
