@@ -1,6 +1,5 @@
 -- The bodies that a piece of a stream completes, each beside the id by which it is cancelled (LSP 3.17, "Cancellation Support").
 use Rattle.std.specs.Prelude.{◌≡◌, ℕ, List, [], ◌∷◌, ◌++◌, Bool, true, false, Option, Some, None, map, zip}
-use Rattle.std.specs.Coded.{Coded, code_by, coded×, coded⊎, coded_ℕ, coded_ℤ, coded_list, coded_option}
 use Rattle.lsp_messages.specs.declared.message.Id.{Id}
 use Rattle.lookahead.specs.Cancelled.{cancelled_in}
 use Rattle.lookahead.specs.declared.window.Next.{Next}

@@ -1,4 +1,4 @@
-use Rattle.std.proofs.Common.{inl, inr, arith}
+use Rattle.std.proofs.Common.{inl, arith}
 use Rattle.lookahead.proofs.Groups.{refilled}
 use Rattle.lookahead.proofs.bodies.refill.Goals as goal
 
