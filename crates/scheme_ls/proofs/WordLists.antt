@@ -77,3 +77,19 @@ two_are_other command words word dashes r two tested other = (
     | inr h ↦ tested ∙ (bytes_eq-Decides word command).1 (first_same word dashes command (codes "--") (sym two ∙ h))
   ],
 )
+
+-- two words that are those two
+pub two_are_pair : (first second : List ℕ) (words : List (List ℕ)) (word next : List ℕ) (r : Bool) → words ≡ word ∷ next ∷ [] → bytes_eq word first ≡ true → r ≡ bytes_eq next second →
+    (IsTrue r → words ≡ first ∷ second ∷ []) × (words ≡ first ∷ second ∷ [] → IsTrue r)
+two_are_pair first second words word next r two same tested = (
+  λ t. two ∙ λ j. (bytes_eq-Decides word first).0 same j ∷ (bytes_eq-Decides next second).0 (sym tested ∙ t) j ∷ [],
+  λ h. tested ∙ (bytes_eq-Decides next second).1 (second_same _ _ _ _ (sym two ∙ h)),
+)
+
+-- two words, of which the first is another
+pub two_are_no_pair : (first second : List ℕ) (words : List (List ℕ)) (word next : List ℕ) (r : Bool) → words ≡ word ∷ next ∷ [] → r ≡ bytes_eq word first → r ≡ false →
+    (IsTrue r → words ≡ first ∷ second ∷ []) × (words ≡ first ∷ second ∷ [] → IsTrue r)
+two_are_no_pair first second words word next r two tested other = (
+  λ t. absurd (false≢true (sym other ∙ t)),
+  λ h. tested ∙ (bytes_eq-Decides word first).1 (first_same _ _ _ _ (sym two ∙ h)),
+)

@@ -4,7 +4,7 @@ use Rattle.std.specs.String.{string_bytes}
 use Rattle.std.specs.declared.string.String.{String}
 use Rattle.std.specs.declared.alloc.Global.{Global}
 use Rattle.scheme_ls.specs.declared.arguments.Command.{Command}
-use Rattle.scheme_ls.specs.declared.arguments.Command.TheVariants.{Arrows, Serve, Unknown}
+use Rattle.scheme_ls.specs.declared.arguments.Command.TheVariants.{Arrows, Serve, ServeAhead, Unknown}
 
 abbrev pub texts : List (String Global) → List (List ℕ)
 texts words = map string_bytes words
@@ -19,8 +19,13 @@ IsArrows words = IsAlone (codes "arrows") words
 abbrev pub IsServe : List (List ℕ) → Type 0
 IsServe words = IsAlone (codes "serve") words
 
+-- exactly `serve --ahead`
+abbrev pub IsServeAhead : List (List ℕ) → Type 0
+IsServeAhead words = words ≡ codes "serve" ∷ codes "--ahead" ∷ []
+
 -- the command that words ask for
 abbrev pub CommandOf : List (List ℕ) → Command → Type 0
 CommandOf words Arrows = IsArrows words
 CommandOf words Serve = IsServe words
-CommandOf words Unknown = ¬ IsArrows words × ¬ IsServe words
+CommandOf words ServeAhead = IsServeAhead words
+CommandOf words Unknown = ¬ IsArrows words × ¬ IsServe words × ¬ IsServeAhead words

@@ -1,6 +1,7 @@
 -- How a run ends, by the command that its words ask for.
 use Rattle.std.specs.Prelude.{◌≡◌, ◌⊎◌, ℕ, List}
 use Rattle.std.specs.declared.option.Option.{Option}
+use Rattle.scheme_ls.specs.AheadOutcome.{ServesAhead}
 use Rattle.scheme_ls.specs.ArrowsOutcome.{ArrowsEndsAs, OpensNone}
 use Rattle.scheme_ls.specs.Prints.{Prints, PrintsFront, SinkSeen}
 use Rattle.scheme_ls.specs.Reading.{SourceSeen}
@@ -14,7 +15,7 @@ use Rattle.scheme_ls.specs.declared.serve.SessionEnd.{SessionEnd}
 use Rattle.scheme_ls.specs.declared.status.Status.{Status}
 use Rattle.scheme_ls.specs.declared.status.Status.TheVariants.{BadWords, SinkFault}
 use Rattle.scheme_ls.specs.declared.arguments.Command.{Command}
-use Rattle.scheme_ls.specs.declared.arguments.Command.TheVariants.{Arrows, Serve, Unknown}
+use Rattle.scheme_ls.specs.declared.arguments.Command.TheVariants.{Arrows, Serve, ServeAhead, Unknown}
 
 -- what files show at a moment: what names hold, where they tell it, the names asked so far, and how often a fetch has failed
 pub record FilesSeen : Type 0 where
@@ -58,6 +59,13 @@ pub record ServeDone (old new : Seen) (status : Status) : Type 0 where
   pub files : AsksNoFile old new
   pub status_is : status ≡ session_status end
 
+-- `serve --ahead` ended with a status
+pub record ServeAheadDone (old new : Seen) (status : Status) : Type 0 where
+  pub end : SessionEnd
+  pub serves : ServesAhead old.streams new.streams old.steps new.steps end
+  pub files : AsksNoFile old new
+  pub status_is : status ≡ session_status end
+
 -- the usage was printed, or a write of it failed
 abbrev pub PrintsUsage : SinkSeen → SinkSeen → Status → Type 0
 PrintsUsage old new status = ((status ≡ BadWords) × Prints old new usage_text) ⊎ ((status ≡ SinkFault) × PrintsFront old new usage_text)
@@ -71,6 +79,7 @@ pub record UsageDone (old new : Streams) (status : Status) : Type 0 where
 abbrev pub CommandEndsAs : Command → Seen → Seen → Status → Type 0
 CommandEndsAs Arrows old new status = ArrowsDone old new status
 CommandEndsAs Serve old new status = ServeDone old new status
+CommandEndsAs ServeAhead old new status = ServeAheadDone old new status
 CommandEndsAs Unknown old new status = UsageDone old.streams new.streams status × AsksNothing old new
 
 -- how a run ends: as the command does that its words ask for

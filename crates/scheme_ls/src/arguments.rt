@@ -1,5 +1,5 @@
 //! What the words after the program's name ask for.
-ghost use Rattle.std.specs.Prelude.{◌↔◌, IsTrue};
+ghost use Rattle.std.specs.Prelude.{◌↔◌, ◌≡◌, [], ◌∷◌, IsTrue};
 ghost use Rattle.scheme_ls.specs.Arguments.{CommandOf, IsAlone, texts};
 
 /// What the program can be asked to do.
@@ -9,6 +9,8 @@ pub enum Command {
     Arrows,
     /// `serve`.
     Serve,
+    /// `serve --ahead`.
+    ServeAhead,
     /// No command.
     Unknown,
 }
@@ -24,6 +26,16 @@ fn is_alone(command: &str, words: &[String]) -> bool
     }
 }
 
+/// Whether the words are exactly these two.
+fn are_two(first: &str, second: &str, words: &[String]) -> bool
+    ensures { IsTrue result ↔ texts words.now ≡ first.now ∷ second.now ∷ [] }
+{
+    match words {
+        [word, next] => word.as_str() == first && next.as_str() == second,
+        [] | [_] | [_, _, _, ..] => false,
+    }
+}
+
 /// The command that the words ask for.
 pub fn command_of(words: &[String]) -> Command
     ensures { CommandOf (texts words.now) result }
@@ -32,6 +44,8 @@ pub fn command_of(words: &[String]) -> Command
         Command::Arrows
     } else if is_alone("serve", words) {
         Command::Serve
+    } else if are_two("serve", "--ahead", words) {
+        Command::ServeAhead
     } else {
         Command::Unknown
     }

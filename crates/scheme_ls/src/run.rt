@@ -8,7 +8,7 @@ ghost use Rattle.scheme_ls.specs.Arguments.{texts};
 use crate::arguments::{Command, command_of};
 use crate::arrows::arrows;
 use crate::printing::{SinkFailed, print_all};
-use crate::serve::serve;
+use crate::serve::{serve, serve_ahead};
 use crate::status::Status;
 use crate::wording::USAGE;
 use ls_base::Steps;
@@ -36,6 +36,7 @@ pub fn run<I: Source, O: Sink, F: Files, L: Ledger>(
     let status = match command_of(words) {
         Command::Arrows => arrows(alloc, input, output, steps).status(),
         Command::Serve => serve(alloc, input, output, steps).status(),
+        Command::ServeAhead => serve_ahead(alloc, input, output, steps).status(),
         Command::Unknown => print_usage(output),
     };
     status.code()
