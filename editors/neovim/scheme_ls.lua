@@ -2,12 +2,12 @@
 -- name at the cursor.
 --
 -- Copy this file to ~/.config/nvim/plugin/scheme_ls.lua. Of a user's own it reads, where they are set before it is loaded:
---   vim.g.scheme_ls_cmd = { 'scheme_ls', 'serve' }   the command that is the server
---   vim.g.scheme_ls_arrows = true                    whether arrows are drawn; `:SchemeArrows` turns them on and off
+--   vim.g.scheme_ls_cmd = { 'scheme_ls', 'serve', '--ahead' }   the command that is the server
+--   vim.g.scheme_ls_arrows = true                               whether arrows are drawn; `:SchemeArrows` turns them on and off
 -- and at any time:
---   vim.g.scheme_ls_roots = {}                       further folders in which the files of libraries are looked for
+--   vim.g.scheme_ls_roots = {}                                  further folders in which the files of libraries are looked for
 
-local cmd = vim.g.scheme_ls_cmd or { 'scheme_ls', 'serve' }
+local cmd = vim.g.scheme_ls_cmd or { 'scheme_ls', 'serve', '--ahead' }
 local shown = vim.g.scheme_ls_arrows ~= false
 local marks = vim.api.nvim_create_namespace('scheme_ls_arrows')
 local widest = 100 -- columns; the line beside the text stands no farther right
@@ -25,6 +25,7 @@ local looking = vim.loop.new_timer()
 local server -- the number of the client that is running
 local turn = 0 -- grows with each change of what is open: what was answered before it is old
 local answers = {} -- by buffer: the arrows of its document, and the turn that they are of
+local asking = {} -- by number: the turn of a request for arrows that isn't answered
 
 vim.api.nvim_set_hl(0, 'SchemeBinder', { default = true, link = 'DiffAdd' })
 vim.api.nvim_set_hl(0, 'SchemeUse', { default = true, link = 'Search' })
@@ -190,11 +191,12 @@ local function client_of(buffer)
 end
 
 local function ask()
-  local buffer, asked = vim.api.nvim_get_current_buf(), turn
+  local buffer, asked, sent, number = vim.api.nvim_get_current_buf(), turn, nil, nil
   local client = client_of(buffer)
   if not client or (answers[buffer] or {}).turn == turn then return end
   answers[buffer] = { turn = turn }
-  client.request('scheme/arrows', { textDocument = { uri = vim.uri_from_bufnr(buffer) } }, function(_, arrows)
+  sent, number = client.request('scheme/arrows', { textDocument = { uri = vim.uri_from_bufnr(buffer) } }, function(_, arrows)
+    asking[number] = nil
     if turn ~= asked then return end
     for _, arrow in ipairs(arrows or {}) do
       arrow.key = key(arrow.from)
@@ -202,6 +204,17 @@ local function ask()
     answers[buffer] = { turn = turn, arrows = arrows or {} }
     if buffer == vim.api.nvim_get_current_buf() and client_of(buffer) then draw(buffer, client, arrows or {}) end
   end, buffer)
+  if sent then asking[number] = asked end
+end
+
+-- Cancels the requests for arrows whose answers would be old.
+local function cancel_old(client)
+  for number, asked in pairs(asking) do
+    if asked ~= turn then
+      asking[number] = nil
+      client.cancel_request(number)
+    end
+  end
 end
 
 -- Draws the arrows of the name at the cursor. Where what is known of them is old they are asked for, when nothing has changed for a
@@ -212,6 +225,7 @@ local function redraw()
   if client and known and known.turn == turn then
     if known.arrows then draw(buffer, client, known.arrows) end
   elseif client then
+    cancel_old(client)
     waiting:stop()
     waiting:start(pause, 0, vim.schedule_wrap(ask))
   end
@@ -676,7 +690,7 @@ local function start()
   said_tired = tired
   if tired then return end
   table.insert(starts, now)
-  docs, behind = {}, {}
+  docs, behind, asking = {}, {}, {}
   server = vim.lsp.start_client({
     name = 'scheme_ls',
     cmd = cmd,

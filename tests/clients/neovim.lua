@@ -1,6 +1,6 @@
 -- What tests/clients/neovim.sh has Neovim do: the steps of the file STEPS, with the file that editors/neovim gives. It ends with
 -- status 0 where every answer is as expected. SESSION_FILE is what tests/sessions/proxy writes down.
-local here, room, program = os.getenv('HERE'), os.getenv('ROOM'), os.getenv('SCHEME_LS')
+local here, room, program = os.getenv('HERE'), os.getenv('ROOM'), os.getenv('RECORDED')
 local recording = os.getenv('SESSION_FILE')
 local patience = 40000
 
@@ -34,7 +34,8 @@ for name, text in pairs(questions.texts) do
   write(name, text)
 end
 
-vim.g.scheme_ls_cmd = { program, 'serve' }
+-- What is recorded for rows is what `serve` answers. Else the file starts what it has, which neovim.sh put on the PATH.
+if program ~= '' then vim.g.scheme_ls_cmd = { program, 'serve' } end
 vim.g.scheme_ls_roots = vim.tbl_map(function(it) return room .. '/' .. it end, questions.roots or {})
 vim.cmd('luafile ' .. here .. '/../../editors/neovim/scheme_ls.lua')
 vim.cmd('luafile ' .. here .. '/../../editors/neovim/scheme_ls_renames.lua')
@@ -345,6 +346,41 @@ end
 function steps.listed(step)
   vim.cmd('cc ' .. step.listed)
   return cursor()
+end
+
+-- The errors with which these requests were answered, by their numbers, and 0 for an answer.
+local function errors_of(numbers)
+  local found = {}
+  for line in io.lines(recording) do
+    local body = line:sub(1, 1) == '>' and vim.fn.json_decode(line:sub(3)) or {}
+    if numbers[body.id] then found[body.id] = body.error and body.error.code or 0 end
+  end
+  return found
+end
+
+-- Changes a document so many times, each change sent by itself, which is work for a while; behind them asks for a definition again and
+-- again, and cancels it at once. The server looks at what comes together, and may have to part some request from its cancellation.
+function steps.cancelled(step)
+  go(step.cancelled)
+  for number = 1, step.changes do
+    local added = number % 2 == 1
+    vim.api.nvim_buf_set_text(0, 0, 0, 0, added and 0 or 1, { added and ' ' or '' })
+    client.notify('$/setTrace', { value = 'off' }) -- Neovim sends the change before it
+  end
+  local numbers, params = {}, vim.lsp.util.make_position_params(0, client.offset_encoding)
+  for _ = 1, step.times do
+    local sent, number = client.request('textDocument/definition', params, function() end, vim.api.nvim_get_current_buf())
+    expect('whether a request was sent', sent, true)
+    client.cancel_request(number)
+    numbers[number] = true
+  end
+  local errors = {}
+  vim.wait(patience, function()
+    errors = errors_of(numbers)
+    return vim.tbl_count(errors) == step.times
+  end, 100)
+  local cancelled = vim.tbl_filter(function(code) return code == -32800 end, errors)
+  if vim.tbl_count(errors) ~= step.times or #cancelled == 0 then fail('cancelled requests are answered with ' .. vim.inspect(errors)) end
 end
 
 function steps.highlights(step)

@@ -1,9 +1,10 @@
 #!/bin/sh
 # Drives the built program with the language client of Neovim, headless, and with the file of editors/neovim: the steps of
-# questions.json (answers to all that is asked), libraries.json (what is open at the server) and renames.json (renames, and what is said
-# where one is refused), each in a Neovim of its own with a shutdown at the end, and a server that ends at once. What was sent is looked through by `wire`. It is skipped where Neovim or the
-# built program is missing. SCHEME_LS names another program, if it is set; where SESSION_FILE is set, a session is being recorded, and
-# there are the steps of questions.json alone.
+# questions.json (answers to all that is asked), libraries.json (what is open at the server), renames.json (renames, and what is said
+# where one is refused) and cancellations.json (requests that are cancelled), each in a Neovim of its own with a shutdown at the end, and a
+# server that ends at once. What was sent is looked through by `wire`. The program stands on the PATH as `scheme_ls`, so the file of
+# editors/neovim starts it by its own words. It is skipped where Neovim or the built program is missing. SCHEME_LS names another program,
+# if it is set; where SESSION_FILE is set, a session is being recorded, and there are the steps of questions.json alone, with `serve`.
 
 top=$(cd "$(dirname "$0")/../.." && pwd) || exit 1
 here=$top/tests/clients
@@ -20,6 +21,7 @@ fi
 
 room=$(mktemp -d) || exit 1
 trap 'rm -rf "$room"' EXIT
+mkdir "$room/bin"
 
 # A Neovim of nobody's, in the folder $1.
 run_nvim() {
@@ -29,9 +31,11 @@ run_nvim() {
         timeout 300 nvim --clean --headless -n "$@" -c "cquit 1"
 }
 
-# The steps of $1, with the program $2. Neovim goes on after an error of a callback, so what it says is looked through.
+# The steps of $1, with the program $2; with `serve` of the program $3, where it is told. Neovim goes on after an error of a callback, so
+# what it says is looked through.
 run_steps() {
-    HERE=$here ROOM=$room/texts-$1 STEPS=$1.json SCHEME_LS=$2 run_nvim "texts-$1" -c "luafile $here/neovim.lua" >"$room/said" 2>&1
+    ln -sf "$2" "$room/bin/scheme_ls"
+    PATH=$room/bin:$PATH HERE=$here ROOM=$room/texts-$1 STEPS=$1.json RECORDED=$3 run_nvim "texts-$1" -c "luafile $here/neovim.lua" >"$room/said" 2>&1
     if [ $? -ne 0 ] || grep -q 'Error ' "$room/said"; then
         cat "$room/said"
         exit 1
@@ -40,10 +44,10 @@ run_steps() {
 }
 
 if [ -n "$SESSION_FILE" ]; then
-    run_steps questions "$program"
+    run_steps questions "$program" "$program"
     exit
 fi
-for it in questions libraries renames; do
+for it in questions libraries renames cancellations; do
     SESSION_SERVER=$program SESSION_FILE=$room/$it.session run_steps $it "$top/tests/sessions/proxy" || exit
     "$here/wire" "$room/$it.session" || exit
 done

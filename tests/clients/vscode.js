@@ -64,7 +64,8 @@ function uriOf(file) {
   return { scheme: "file", path: file, fsPath: file, toString: () => pathToFileURL(file).href };
 }
 
-const settings = { command: [program, "serve"], roots: (questions.roots ?? []).map((it) => path.join(room, it)) };
+const { default: command } = require("../../editors/vscode/package.json").contributes.configuration.properties["schemeLs.command"];
+const settings = { command: [program, ...command.slice(1)], roots: (questions.roots ?? []).map((it) => path.join(room, it)) };
 const vscode = {
   Uri: { file: uriOf },
   window: {
