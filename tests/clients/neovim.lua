@@ -358,15 +358,26 @@ local function errors_of(numbers)
   return found
 end
 
--- Changes a document so many times, each change sent by itself, which is work for a while; behind them asks for a definition again and
--- again, and cancels it at once. The server looks at what comes together, and may have to part some request from its cancellation.
-function steps.cancelled(step)
-  go(step.cancelled)
-  for number = 1, step.changes do
+-- Changes a document so many times, each change sent by itself, which is work for a while.
+local function change_often(times)
+  for number = 1, times do
     local added = number % 2 == 1
     vim.api.nvim_buf_set_text(0, 0, 0, 0, added and 0 or 1, { added and ' ' or '' })
     client.notify('$/setTrace', { value = 'off' }) -- Neovim sends the change before it
   end
+end
+
+-- How many of these messages were sent since there were so many of them.
+local function sent_since(method, count)
+  read_on()
+  return (counts[method] or 0) - count
+end
+
+-- Asks behind changes for a definition again and again, and cancels it at once. The server looks at what comes together, and may have to
+-- part some request from its cancellation.
+function steps.cancelled(step)
+  go(step.cancelled)
+  change_often(step.changes)
   local numbers, params = {}, vim.lsp.util.make_position_params(0, client.offset_encoding)
   for _ = 1, step.times do
     local sent, number = client.request('textDocument/definition', params, function() end, vim.api.nvim_get_current_buf())
@@ -381,6 +392,18 @@ function steps.cancelled(step)
   end, 100)
   local cancelled = vim.tbl_filter(function(code) return code == -32800 end, errors)
   if vim.tbl_count(errors) ~= step.times or #cancelled == 0 then fail('cancelled requests are answered with ' .. vim.inspect(errors)) end
+end
+
+-- Whether the arrows that are asked for behind changes are cancelled by one more change, while the server is still at work.
+function steps.overtaken(step)
+  go(step.overtaken)
+  local asked, cancelled = sent_since('scheme/arrows', 0), sent_since('$/cancelRequest', 0)
+  change_often(step.changes)
+  vim.cmd('doautocmd TextChanged')
+  if not vim.wait(patience, function() return sent_since('scheme/arrows', asked) > 0 end, 10) then fail('no arrows are asked for') end
+  change_often(2)
+  vim.cmd('doautocmd TextChanged')
+  expect('how many requests are cancelled', same_soon(function() return sent_since('$/cancelRequest', cancelled) end, 1), 1)
 end
 
 function steps.highlights(step)
