@@ -1,7 +1,6 @@
 #!/usr/bin/env bash
 # Counts the instructions that `scheme_ls serve` and `scheme_ls serve --ahead` take for pieces of 64 KiB with the smallest bodies (one byte
-# each, so frames of 22 bytes and 2,978 of them in a piece), for the smallest JSON, and for small requests each cancelled by the next
-# message. The counts are those of one piece: of a stream of 5 pieces without those of a stream of one, divided by 4. Run it by hand,
+# each, so frames of 22 bytes), for small notifications, and for small requests that are each cancelled by the next message. The counts are those of one piece: of a stream of 5 pieces without those of a stream of one, divided by 4. Run it by hand,
 # outside the gate: bench/ahead.sh [PROGRAM], where PROGRAM is crates/scheme_ls/out/scheme_ls unless told. It needs valgrind.
 set -euo pipefail
 top=$(cd "$(dirname "$0")/.." && pwd)
@@ -51,18 +50,20 @@ PYTHON
 
 # the instructions of the program with the words behind the first, over this file
 instructions() {
-  local file=$1
+  local file=$1 status=0
   shift
-  valgrind --tool=callgrind --callgrind-out-file="$work/out" "$program" "$@" <"$file" 2>"$work/said" >"$work/answer" || true
+  valgrind --tool=callgrind --callgrind-out-file="$work/out" "$program" "$@" <"$file" 2>"$work/said" >"$work/answer" || status=$?
+  # the input ends without `exit`
+  [ "$status" -eq 1 ] || { echo "bench/ahead.sh: $* ended with status $status" >&2; return 1; }
   sed -n 's/^==.*== Collected : \([0-9]*\).*/\1/p' "$work/said"
 }
 
 # those of one piece
 of_one() {
   local many one
-  many=$(instructions "$work/5" "$@")
+  many=$(instructions "$work/5" "$@") || return 1
   cp "$work/answer" "$work/answer-$#"
-  one=$(instructions "$work/1" "$@")
+  one=$(instructions "$work/1" "$@") || return 1
   echo $(((many - one) / 4))
 }
 
