@@ -1,8 +1,8 @@
 #!/usr/bin/env bash
 # Counts the instructions that `scheme_ls serve` and `scheme_ls serve --ahead` take for pieces of 64 KiB with the smallest bodies (one byte
-# each, so frames of 22 bytes), for small notifications, and for small requests that are each cancelled by the next message. The counts are those of one piece: of a stream of 5 pieces without those of a stream of one, divided by 4. Run it by hand,
-# outside the gate: bench/ahead.sh [PROGRAM], where PROGRAM is crates/scheme_ls/out/scheme_ls unless told. It needs valgrind.
-set -euo pipefail
+# each, so frames of 22 bytes), for small notifications, and for small requests that are each cancelled by the next message. The counts
+# are those of one piece: of a stream of 5 pieces without those of a stream of one, divided by 4. Run it by hand, outside the gate:
+# bench/ahead.sh [PROGRAM], where PROGRAM is crates/scheme_ls/out/scheme_ls unless told. It needs valgrind.
 top=$(cd "$(dirname "$0")/.." && pwd)
 program=${1:-$top/crates/scheme_ls/out/scheme_ls}
 [ -x "$program" ] || { echo "bench/ahead.sh: $program is missing: run bin/scheme_ls first" >&2; exit 1; }
