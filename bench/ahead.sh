@@ -3,6 +3,7 @@
 # each, so frames of 22 bytes), for small notifications, and for small requests that are each cancelled by the next message. The counts
 # are those of one piece: of a stream of 5 pieces without those of a stream of one, divided by 4. Run it by hand, outside the gate:
 # bench/ahead.sh [PROGRAM], where PROGRAM is crates/scheme_ls/out/scheme_ls unless told. It needs valgrind.
+set -euo pipefail
 top=$(cd "$(dirname "$0")/.." && pwd)
 program=${1:-$top/crates/scheme_ls/out/scheme_ls}
 [ -x "$program" ] || { echo "bench/ahead.sh: $program is missing: run bin/scheme_ls first" >&2; exit 1; }

@@ -1,1 +1,0 @@
-pub mod FetchLaws  -- Files that are fetched one after another

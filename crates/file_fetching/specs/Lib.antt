@@ -1,2 +1,0 @@
-pub mod FilesSeen  -- What files show at a moment
-pub mod Fetching  -- How fetching files ends, and what was asked for
