@@ -10,8 +10,6 @@ pub mod SessionSoFar  -- A session that goes on, read by read
 pub mod PieceEndsSession  -- How a session ends in a piece
 pub mod QuietLaws  -- No step is counted over quiet bytes
 pub mod CountLaws  -- The macro uses that are counted over bodies and bytes
-pub mod WordLists  -- Lists of one or two words, and whether they are a command
 pub mod SomeOutput  -- Each stream of bytes has an output
-pub mod OneCommand  -- Words ask for one command
 pub mod AloneLaws  -- A text alone, opened where no document was open
 pub mod OneText  -- A text has one answer

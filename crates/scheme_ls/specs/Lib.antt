@@ -1,6 +1,5 @@
 pub mod Wording  -- The texts that the program says by itself
 pub mod Statuses  -- The statuses of a run, and which one each end of a command has
-pub mod Arguments  -- The commands that words ask for
 pub mod Reading  -- What was read of a source
 pub mod Printed  -- The bytes that are printed
 pub mod Alone  -- A text alone in a workspace, as the document `input`, and what is told of it
@@ -14,4 +13,5 @@ pub mod CountedBytes  -- The macro uses that are counted over bytes (R7RS 4.3)
 pub mod PieceOutcome  -- What a server makes of a piece of its input
 pub mod ServeOutcome  -- How the command `serve` ends, and why
 pub mod ArrowsOutcome  -- How the command `arrows` ends, and why
+pub mod WorkOutcome  -- How a command ends that works on files, or on a workspace made of a number
 pub mod RunOutcome  -- How a run ends, by the command that its words ask for

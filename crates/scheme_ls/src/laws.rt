@@ -2,12 +2,10 @@
 ghost use Rattle.std.specs.Prelude.{◌≡◌, ◌≢◌, ◌++◌, List, ℕ};
 ghost use Rattle.lsp_messages.specs.declared.reply.Reply.{Reply};
 ghost use Rattle.scheme_ls.specs.SessionOutput.{BeginOutput, IsOutputOf, Output, written};
-ghost use Rattle.scheme_ls.specs.Arguments.{CommandOf};
 ghost use Rattle.scheme_ls.specs.Printed.{IsAnswer};
 ghost use Rattle.scheme_ls.specs.ServeOutcome.{ServeEndsAs};
 ghost use Rattle.scheme_ls.specs.Streams.{Streams};
 ghost use Rattle.scheme_ls.specs.declared.answering.Exit.{Exit};
-ghost use Rattle.scheme_ls.specs.declared.arguments.Command.{Command};
 ghost use Rattle.scheme_ls.specs.declared.serve.SessionEnd.{SessionEnd};
 
 /// A stream of bytes has one output: each has one, and none has two. Messages that begin it are a front of what is written.
@@ -21,11 +19,6 @@ pub fn one_output()
 /// A session that `exit` ends has read something, also from a source that doesn't tell what it gives.
 pub fn exit_is_read()
     ensures { (old new : Streams) (exit : Exit) → ServeEndsAs old new (SessionEnd.Exited exit) → new.source.reads ≢ old.source.reads }
-{}
-
-/// Words ask for one command.
-pub fn one_command()
-    ensures { (words : List (List ℕ)) (one other : Command) → CommandOf words one → CommandOf words other → one ≡ other }
 {}
 
 /// A text has one answer of `arrows`: each has one, and none has two.
