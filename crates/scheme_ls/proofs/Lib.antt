@@ -13,3 +13,4 @@ pub mod CountLaws  -- The macro uses that are counted over bodies and bytes
 pub mod SomeOutput  -- Each stream of bytes has an output
 pub mod AloneLaws  -- A text alone, opened where no document was open
 pub mod OneText  -- A text has one answer
+pub mod WorkLaws  -- Contents that were fetched, and how a command ends that works on them
