@@ -11,12 +11,12 @@ use Rattle.file_fetching.specs.FilesSeen.{FilesSeen}
 use Rattle.file_fetching.specs.Fetching.{FetchStopsAs, Fetches, FetchesAll, FetchingEndsAs, max_recording}
 use Rattle.file_fetching.specs.declared.fetching.FetchStop.{FetchStop}
 use Rattle.file_commands.specs.Checking.{checked_in, opened}
-use Rattle.file_commands.specs.Renaming.{one_document, rename_counts, renamed_in}
+use Rattle.file_commands.specs.Renaming.{renamed_in, renaming_uses}
 use Rattle.file_commands.specs.declared.checking.Checked.{Checked}
 use Rattle.file_commands.specs.declared.renaming.Renamed.{Renamed}
 use Rattle.file_commands.specs.declared.renaming.Renamed.TheVariants.{Edits, Refused, NotUtf8}
 use Rattle.generated_workspace.specs.Generated.{selfrun_texts}
-use Rattle.generated_workspace.specs.Selfrun.{selfrun_counts, selfrun_lines}
+use Rattle.generated_workspace.specs.Selfrun.{selfrun_lines, selfrun_uses}
 use Rattle.scheme_ls.specs.Prints.{Prints, PrintsFront, SinkSeen}
 use Rattle.scheme_ls.specs.Reading.{SourceSeen, source_seen}
 use Rattle.scheme_ls.specs.ServeOutcome.{Serves}
@@ -108,10 +108,8 @@ pub record RenamesFile (name : List ℕ) (position : Pos) (new_name : List ℕ) 
   pub fetched : Fetches old.files new.files name max_text content
   pub r : Reader
   pub rules : IsReader r
-  pub rs : List Read
-  pub read : AreReadAs (one_document name content) rs
   pub ends : let renamed = renamed_in r name content position new_name in
-    WorkEndsAs (renamed_lines renamed) (rename_status renamed) (rename_counts r rs name content position new_name) old new status
+    WorkEndsAs (renamed_lines renamed) (rename_status renamed) (renaming_uses r name content position new_name) old new status
 
 abbrev pub RenameEndsAs : (name : List ℕ) → Pos → (new_name : List ℕ) → WorkSeen → WorkSeen → Status → Type 0
 RenameEndsAs name position new_name old new status = RenamesFile name position new_name old new status ⊎ StopsAtFile name max_text old new status
@@ -150,4 +148,4 @@ pub record SelfrunEndsAs (libraries : ℕ) (old new : WorkSeen) (status : Status
   pub rules : IsReader r
   pub rs : List Read
   pub read : AreReadAs (entries (selfrun_texts libraries)) rs
-  pub ends : WorkEndsAs (selfrun_lines r rs libraries) status.Done (selfrun_counts r libraries) old new status
+  pub ends : WorkEndsAs (selfrun_lines r rs libraries) status.Done (selfrun_uses r libraries) old new status

@@ -1,6 +1,6 @@
 //! The command `replay`: a session over the bytes of a file.
-ghost use Rattle.std.specs.Prelude.{◌≡◌, IfOk};
-ghost use Rattle.file_fetching.specs.FilesSeen.{files_seen};
+ghost use Rattle.std.specs.Prelude.{List, ℕ, IfOk};
+ghost use Rattle.file_fetching.specs.FilesSeen.{FilesSeen, files_seen};
 ghost use Rattle.ls_outside.specs.Left.{pieces_left};
 ghost use Rattle.ls_outside.specs.Sources.{AreCuts};
 ghost use Rattle.scheme_ls.specs.Prints.{sink_seen};

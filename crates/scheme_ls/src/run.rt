@@ -1,12 +1,12 @@
 //! The top call, which the program is.
-ghost use Rattle.std.specs.Prelude.{◌≡◌, ◌⊎◌, OnOk, OnErr};
-ghost use Rattle.command_words.specs.Commands.{CommandOf};
+ghost use Rattle.std.specs.Prelude.{◌≡◌, ◌≤◌, List, ℕ, length};
 ghost use Rattle.command_words.specs.Words.{texts};
-ghost use Rattle.command_words.specs.declared.command.Command.{Command};
+ghost use Rattle.command_words.specs.declared.command.Command.TheVariants as asked;
 ghost use Rattle.file_fetching.specs.FilesSeen.{files_seen};
+ghost use Rattle.ls_base.specs.Limits.{max_documents};
 ghost use Rattle.scheme_ls.specs.Prints.{sink_seen};
 ghost use Rattle.scheme_ls.specs.Reading.{source_seen};
-ghost use Rattle.scheme_ls.specs.RunOutcome.{CommandEndsAs, RunEnds, PrintsUsage, seen};
+ghost use Rattle.scheme_ls.specs.RunOutcome.{CommandEndsAs, RunEnds, seen};
 
 use crate::arrows::arrows;
 use crate::replay::replay;
@@ -15,7 +15,7 @@ use crate::status::Status;
 use crate::wording::USAGE;
 use crate::work::{check, print_lines, rename, selfrun};
 use command_words::{Command, command_of};
-use ls_base::{Mem, Memory, Steps};
+use ls_base::{Memory, Steps};
 use ls_outside::{Files, Sink, Source};
 use std::alloc::Global;
 use std::sync::ledger::Ledger;
@@ -53,7 +53,8 @@ fn obey<I: Source, O: Sink, F: Files, L: Ledger>(
     files: &mut F,
     steps: &mut Steps<L>,
 ) -> Status
-    requires { HasLimits command }
+    requires files { (names : List (List ℕ)) → command ≡ asked.Check names → length names ≤ max_documents }
+    requires libraries { (count : ℕ) → command ≡ asked.Selfrun count → (1 ≤ count) × (count ≤ 60) }
     ensures { CommandEndsAs command
         (seen (source_seen (I.left input.old) (I.faults input.old) (I.reads input.old))
         (sink_seen (O.taken output.old) (O.faults output.old) (O.writes output.old))

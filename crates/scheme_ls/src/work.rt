@@ -1,9 +1,9 @@
 //! The commands that work on files, or on a workspace made of a number, and print the lines of their work.
-ghost use Rattle.std.specs.Prelude.{◌≤◌, length};
+ghost use Rattle.std.specs.Prelude.{◌≡◌, ◌≤◌, length};
 ghost use Rattle.ls_base.specs.Limits.{max_documents};
-ghost use Rattle.file_fetching.specs.FilesSeen.{files_seen};
+ghost use Rattle.file_fetching.specs.FilesSeen.{FilesSeen, files_seen};
 ghost use Rattle.scheme_ls.specs.Prints.{sink_seen};
-ghost use Rattle.scheme_ls.specs.WorkOutcome.{CheckEndsAs, PrintsLines, RenameEndsAs, SelfrunEndsAs, work_seen};
+ghost use Rattle.scheme_ls.specs.WorkOutcome.{CheckEndsAs, PrintsLines, RenameEndsAs, SelfrunEndsAs, check_status, work_seen};
 
 use crate::printing::{SinkFailed, print_all};
 use crate::status::Status;
@@ -71,7 +71,7 @@ pub fn selfrun<O: Sink, L: Ledger>(
     steps: &mut Steps<L>,
 ) -> Status
     requires some { 1 ≤ libraries }
-    requires most { libraries ≤ 60 }
+    requires few { libraries ≤ 60 }
     ensures { (files : FilesSeen) → SelfrunEndsAs libraries
         (work_seen files (sink_seen (O.taken output.old) (O.faults output.old) (O.writes output.old)) steps.old)
         (work_seen files (sink_seen (O.taken output.new) (O.faults output.new) (O.writes output.new)) steps.new) result }
