@@ -14,3 +14,4 @@ pub mod SomeOutput  -- Each stream of bytes has an output
 pub mod AloneLaws  -- A text alone, opened where no document was open
 pub mod OneText  -- A text has one answer
 pub mod WorkLaws  -- Contents that were fetched, and how a command ends that works on them
+pub mod Causes  -- What the number of a run tells of its cause
