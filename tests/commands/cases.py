@@ -208,7 +208,7 @@ def sessions():
             found.append(scripts.Session())
         if row.call in ("session/body", "session/body-made", "stream/of"):
             found[-1].add(row)
-    return [it for it in [programs, *found] if any(step.row for step in it.steps)]
+    return [it for it in [*found, programs] if any(step.row for step in it.steps)]
 
 
 def replayed(script):
