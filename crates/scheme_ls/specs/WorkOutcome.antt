@@ -24,7 +24,7 @@ use Rattle.scheme_ls.specs.Statuses.{fetch_status, session_status}
 use Rattle.scheme_ls.specs.Streams.{streams}
 use Rattle.scheme_ls.specs.declared.serve.SessionEnd.{SessionEnd}
 use Rattle.scheme_ls.specs.declared.status.Status.{Status}
-use Rattle.scheme_ls.specs.declared.status.Status.TheVariants as status
+use Rattle.scheme_ls.specs.declared.status.Status.TheVariants as statuses
 
 -- what the files, the sink and the counter of steps show at a moment
 pub record WorkSeen : Type 0 where
@@ -39,11 +39,11 @@ work_seen files sink steps = record { files = files; sink = sink; steps = steps 
 
 -- lines were printed, and the command ended so, or a write of them failed
 abbrev pub PrintsLines : (lines : List ℕ) → (end : Status) → SinkSeen → SinkSeen → Status → Type 0
-PrintsLines lines end old new status = ((status ≡ end) × Prints old new lines) ⊎ ((status ≡ status.SinkFault) × PrintsFront old new lines)
+PrintsLines lines end old new status = ((status ≡ end) × Prints old new lines) ⊎ ((status ≡ statuses.SinkFault) × PrintsFront old new lines)
 
 -- memory ran out, and nothing was printed
 abbrev pub RunsOut : SinkSeen → SinkSeen → Status → Type 0
-RunsOut old new status = (status ≡ status.NoMemory) × (new ≡ old)
+RunsOut old new status = (status ≡ statuses.NoMemory) × (new ≡ old)
 
 -- the lines of the work were printed and its macro uses counted, or memory ran out before anything was printed
 abbrev pub WorkEndsAs : (lines : List ℕ) → (end : Status) → (uses : ℕ) → WorkSeen → WorkSeen → Status → Type 0
@@ -62,8 +62,8 @@ pub record FetchingStops (stop : FetchStop) (old new : WorkSeen) (status : Statu
 
 -- whether an Error was printed
 abbrev pub check_status : Bool → Status
-check_status true = status.Refused
-check_status false = status.Done
+check_status true = statuses.Refused
+check_status false = statuses.Done
 
 -- all files were fetched, and what is printed is what `checked_in` says of their contents
 pub record ChecksFiles (names : List (List ℕ)) (old new : WorkSeen) (status : Status) : Type 0 where
@@ -98,9 +98,9 @@ renamed_lines (Refused lines) = lines
 renamed_lines (NotUtf8 lines) = lines
 
 abbrev pub rename_status : Renamed → Status
-rename_status (Edits lines) = status.Done
-rename_status (Refused lines) = status.Refused
-rename_status (NotUtf8 lines) = status.Refused
+rename_status (Edits lines) = statuses.Done
+rename_status (Refused lines) = statuses.Refused
+rename_status (NotUtf8 lines) = statuses.Refused
 
 -- the file was fetched, and what is printed is what `renamed_in` says of its content
 pub record RenamesFile (name : List ℕ) (position : Pos) (new_name : List ℕ) (old new : WorkSeen) (status : Status) : Type 0 where
@@ -148,4 +148,4 @@ pub record SelfrunEndsAs (libraries : ℕ) (old new : WorkSeen) (status : Status
   pub rules : IsReader r
   pub rs : List Read
   pub read : AreReadAs (entries (selfrun_texts libraries)) rs
-  pub ends : WorkEndsAs (selfrun_lines r rs libraries) status.Done (selfrun_uses r libraries) old new status
+  pub ends : WorkEndsAs (selfrun_lines r rs libraries) statuses.Done (selfrun_uses r libraries) old new status
