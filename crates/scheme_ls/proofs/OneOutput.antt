@@ -8,7 +8,7 @@ use Rattle.session_core.specs.ToWire.{AreReplies}
 use Rattle.session_core.specs.Asked.{Question}
 use Rattle.session_core.proofs.OneAnswer.{one_replies}
 use Rattle.scheme_ls.specs.SessionOutput.{BeginOutput, IsOutputOf, Output, farewell, session_over, written}
-use Rattle.scheme_ls.proofs.Sessions.{are_split, ended_session, more_bodies}
+use Rattle.scheme_ls.proofs.Sessions.{are_split, ended_uncancelled, more_uncancelled}
 
 one_bodies : (bytes : List ℕ) (a b : Output) (h : IsOutputOf bytes a) (k : IsOutputOf bytes b) → (h.bodies ≡ k.bodies) × (a.end ≡ b.end)
 one_bodies bytes a b h k = one_reading bytes h.bodies k.bodies a.end b.end h.frames k.frames
@@ -25,11 +25,11 @@ one_output bytes a b h k =
 front_of_replies : (first later : List (List ℕ)) (x z : List Reply) (end : Option Ending) → (session_over first).end ≡ end → AreReplies (session_over first).replies x → AreReplies (session_over (first ++ later)).replies z →
     (rest : List Reply) × (z ≡ x ++ rest)
 front_of_replies first later x z None going answered all =
-    let more = more_bodies first later (begin empty) going in
+    let more = more_uncancelled first later (begin empty) going in
     let w = are_split (session_over first).replies _ z (subst (λ (run : Run Question). AreReplies run.replies z) more all) in
     (w.1, w.2 ∙ ap (λ (front : List Reply). front ++ w.1) (one_replies (session_over first).replies w.0 x w.3 answered))
 front_of_replies first later x z (Some exit) ended answered all =
-    let over = ended_session first later (begin empty) exit ended in
+    let over = ended_uncancelled first later (begin empty) exit ended in
     ([], one_replies (session_over first).replies z x (subst (λ (run : Run Question). AreReplies run.replies z) over all) answered ∙ sym (append-nil x))
 
 pub front_of_output : (bytes : List ℕ) (messages : List Reply) (output : Output) → BeginOutput bytes messages → IsOutputOf bytes output → (rest : List Reply) × (written output ≡ messages ++ rest)
