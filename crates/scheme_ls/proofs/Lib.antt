@@ -1,6 +1,6 @@
 pub mod Items  -- The items of a list from a place on
 pub mod Sessions  -- Sessions over bodies that come one after another
-pub mod OneOutput  -- A stream of bytes has one output, and messages that begin it are its front
+pub mod OneOutput  -- A stream has one output, and messages that begin it are its front
 pub mod ReadLaws  -- Reads one after another
 pub mod Writes  -- Bytes written one after another
 pub mod AnswerLaws  -- Bodies that are answered one after another
@@ -13,7 +13,7 @@ pub mod QuietLaws  -- No step is counted over quiet bytes
 pub mod CountLaws  -- The macro uses that are counted over bodies and pieces
 pub mod WordLists  -- Lists of one or two words, and whether they are a command
 pub mod Uncancelled  -- A session that doesn't look ahead is that of the bytes of its pieces
-pub mod SomeOutput  -- Each stream of bytes has an output
+pub mod SomeOutput  -- Each stream has an output
 pub mod OneCommand  -- Words ask for one command
 pub mod AloneLaws  -- A text alone, opened where no document was open
 pub mod OneText  -- A text has one answer

@@ -1,8 +1,7 @@
 -- Sessions over bodies that come one after another.
 use Rattle.std.proofs.Common.{◌≡◌, ℕ, List, [], ◌∷◌, ◌++◌, refl, sym, ap, ◌∙◌, append_assoc, append-nil, subst, Some, None, Option}
 use Rattle.std.specs.Prelude.{false}
-use Rattle.std.proofs.lemmas.List.{map-append}
-use Rattle.lookahead.specs.Looked.{Looked, looked, uncancelled}
+use Rattle.lookahead.specs.Looked.{Looked, looked}
 use Rattle.scheme_model.specs.Session as model
 use Rattle.scheme_model.specs.Session.{Ending, Run, State, Stepped, after_replies, followed, step}
 use Rattle.session_core.specs.FromWire.{offsets}
@@ -80,7 +79,7 @@ ended_session (body ∷ first) later state exit ended =
 -- ---- bodies of which none is cancelled
 
 -- what one body leads to
-abbrev pub one_step : State → List ℕ → Stepped Question
+abbrev one_step : State → List ℕ → Stepped Question
 one_step state body = step offsets questions state (said body)
 
 same_steps : (end : Option Ending) (s : Stepped Question) (one other : State → Run Question) → ((next : State) → one next ≡ other next) → followed end s one ≡ followed end s other
@@ -91,25 +90,6 @@ pub uncancelled_session : (bodies : List (List ℕ)) (state : State) → session
 uncancelled_session [] state = refl
 uncancelled_session (body ∷ bodies) state =
     same_steps (one_step state body).end (one_step state body) (λ next. session_from next bodies) (λ next. looked_from next (looked false bodies)) (uncancelled_session bodies)
-
-pub more_uncancelled : (first later : List (List ℕ)) (state : State) → (session_from state first).end ≡ None →
-    session_from state (first ++ later) ≡ after_replies (session_from state first).replies (session_from (session_from state first).state later)
-more_uncancelled first later state going =
-    let a = looked false first in
-    let b = looked false later in
-    let one = uncancelled_session first state in
-    uncancelled_session (first ++ later) state
-    ∙ ap (looked_from state) (map-append uncancelled first later)
-    ∙ more_bodies a b state (sym (ap (λ (run : Run Question). run.end) one) ∙ going)
-    ∙ sym (λ j. after_replies (one j).replies (uncancelled_session later (one j).state j))
-
-pub ended_uncancelled : (first later : List (List ℕ)) (state : State) (exit : Ending) → (session_from state first).end ≡ Some exit → session_from state (first ++ later) ≡ session_from state first
-ended_uncancelled first later state exit ended =
-    let one = uncancelled_session first state in
-    uncancelled_session (first ++ later) state
-    ∙ ap (looked_from state) (map-append uncancelled first later)
-    ∙ ended_session (looked false first) (looked false later) state exit (sym (ap (λ (run : Run Question). run.end) one) ∙ ended)
-    ∙ sym one
 
 -- ---- replies
 

@@ -49,7 +49,7 @@ same_run given = ap (looked_from (begin empty)) (all_uncancelled given) ∙ sym 
 
 -- ---- outputs
 
-output_as : (pieces : List (List ℕ)) (output : Output) → IsOutputBy false pieces output → IsOutputOf (bytes_of pieces) output
+pub output_as : (pieces : List (List ℕ)) (output : Output) → IsOutputBy false pieces output → IsOutputOf (bytes_of pieces) output
 output_as pieces output is = record {
   bodies = all_bodies is.given;
   frames = all_frames pieces is.given output.end is.complete;

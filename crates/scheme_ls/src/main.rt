@@ -7,6 +7,7 @@ ghost use Rattle.scheme_ls.specs.Reading.{source_seen};
 ghost use Rattle.scheme_ls.specs.RunOutcome.{RunEnds, files_seen, seen};
 ghost use Rattle.scheme_ls.specs.Arguments.{texts};
 
+pub mod ahead_laws;
 mod alone;
 mod answering;
 mod arguments;
