@@ -1,5 +1,5 @@
 //! The bodies that a piece completes, given out one after another.
-ghost use Rattle.std.specs.Prelude.{◌≡◌, ◌≤◌, [], Some, length, IfOk, OnOk};
+ghost use Rattle.std.specs.Prelude.{◌≡◌, ◌≤◌, [], Some, false, length, IfOk, OnOk};
 ghost use Rattle.std.specs.Vec.Iter.{into_iter_items};
 ghost use Rattle.lsp_framing.specs.Taken.{contents};
 ghost use Rattle.lookahead.specs.Cancelled.{max_group};
