@@ -88,7 +88,7 @@ output_then old mid server taken most piece given w output frames answered ends 
       exits = sym ends ∙ ap (λ (r : Run Question). r.end) run;
     }
 
-pub first_in : {ahead : Bool} (old mid : Streams) (server : Serving) (taken most : ℕ) (piece : List ℕ) (given : List (List ℕ)) (w : Going ahead old mid server taken most) (end : End) (first later : List Looked) (messages : List Reply) →
+abbrev pub first_in : {ahead : Bool} (old mid : Streams) (server : Serving) (taken most : ℕ) (piece : List ℕ) (given : List (List ℕ)) (w : Going ahead old mid server taken most) (end : End) (first later : List Looked) (messages : List Reply) →
     IsFrames (w.bytes ++ piece) (w.bodies ++ given) end → looked ahead given ≡ first ++ later → AreReplies (looked_from (begin empty) (w.seen ++ first)).replies messages → AnswerFirstBy ahead (w.pieces ++ piece ∷ []) messages
 first_in old mid server taken most piece given w end first later messages frames split answered = record {
   given = w.given ++ given ∷ [];

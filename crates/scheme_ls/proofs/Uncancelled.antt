@@ -148,12 +148,9 @@ front_some [] last all = (tt, all.0)
 front_some (piece ∷ before) last all = let rest = front_some before last all.1 in ((all.0, rest.0), rest.1)
 
 -- lists that end in one item each
-no_items : {A : Type 0} (x y : A) (b : List A) → [] ≡ (x ∷ b) ++ y ∷ [] → ⊥
-no_items x y b same = absurd cc
-
 same_fronts : {A : Type 0} (a b : List A) (x y : A) → a ++ x ∷ [] ≡ b ++ y ∷ [] → (a ≡ b) × (x ≡ y)
 same_fronts [] [] x y same = (refl, same_heads x y [] [] same)
-same_fronts [] (z ∷ []) x y same = absurd (no_items y y [] cc)
+same_fronts [] (z ∷ []) x y same = absurd cc
 same_fronts [] (z ∷ v ∷ b) x y same = absurd cc
 same_fronts (z ∷ []) [] x y same = absurd cc
 same_fronts (z ∷ v ∷ a) [] x y same = absurd cc
