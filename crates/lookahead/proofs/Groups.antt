@@ -16,7 +16,7 @@ use Rattle.lookahead.specs.declared.window.Next.{Next}
 -- those behind a body all belong to its group
 all_behind : (place : ℕ) (later : List Role) → place + suc (length later) ≤ 64 → take (63 - place % 64) later ≡ later
 all_behind place later few =
-    let small : place % 64 ≡ place = mod-eq_of_lt {place} {64} (omega arith) in
+    let small : place % 64 ≡ place = mod-eq_of_lt {n = place} {m = 64} (omega arith) in
     take_all (63 - place % 64) later (omega arith)
 
 -- where they stand in it doesn't matter
@@ -56,7 +56,7 @@ each_group (role ∷ later) place other same =
 -- those behind a body that fills its group with others
 behind_full : (place : ℕ) (held rest : List (List ℕ)) → place + suc (length held) ≡ 64 → take (63 - place % 64) (map role_of (held ++ rest)) ≡ take (63 - place % 64) (map role_of held)
 behind_full place held rest full =
-    let small : place % 64 ≡ place = mod-eq_of_lt {place} {64} (omega arith) in
+    let small : place % 64 ≡ place = mod-eq_of_lt {n = place} {m = 64} (omega arith) in
     let count = length-map held role_of in
     ap (λ (rs : List Role). take (63 - place % 64) rs) (map-append role_of held rest) ∙ take-append-le (63 - place % 64) (map role_of held) (map role_of rest) (omega arith)
 
@@ -72,3 +72,8 @@ one_group held rest (inl full) = full_group held rest 0 (omega arith)
 one_group held rest (inr over) =
     subst (λ (r : List (List ℕ)). looked true (held ++ r) ≡ looked true held ++ looked true r) (sym over)
     (ap (looked true) (append-nil held) ∙ sym (append-nil (looked true held)))
+
+-- a window that held nothing, once it is filled
+pub refilled : (before held rest all : List (List ℕ)) → length before ≡ 0 → held ++ rest ≡ all → (length held ≡ 64) ⊎ (rest ≡ []) → left_in (Some held) rest ≡ left_in (Some before) all
+refilled [] held rest all none same ends = sym (one_group held rest ends) ∙ ap (looked true) same
+refilled (body ∷ before) held rest all none same ends = absurd (omega arith)
