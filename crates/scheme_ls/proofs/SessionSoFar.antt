@@ -136,14 +136,14 @@ whole_more None mid new pieces buffer n room sized size wide w takes = tt
 whole_more (Some old) None new pieces buffer n room sized size wide w takes = absurd w
 whole_more (Some old) (Some mid) None pieces buffer n room sized size wide w takes = absurd takes
 whole_more (Some old) (Some []) (Some new) pieces buffer n room sized size wide w takes = absurd takes
-whole_more (Some old) (Some (piece ∷ rest)) (Some new) pieces buffer n room sized size wide w takes =
-    let short = piece_short piece (both (is_piece piece) (list_all is_piece rest) sized).0 in
+whole_more (Some old) (Some (piece ∷ others)) (Some new) pieces buffer n room sized size wide w takes =
+    let short = piece_short piece (both (is_piece piece) (list_all is_piece others) sized).0 in
     let count : n ≡ length piece = elim wide as (λ _. n ≡ length piece) [
       | inl below ↦ omega (arith, takes.count)
       | inr above ↦ omega (arith, takes.count)
     ] in
-    let p = whole_piece piece buffer rest new n count takes.bytes takes.rest in
-    w ∙ sym (append_assoc pieces (piece ∷ []) rest) ∙ λ j. (pieces ++ sym p.0 j ∷ []) ++ sym p.1 j
+    let p = whole_piece piece buffer others new n count takes.bytes takes.rest in
+    w ∙ sym (append_assoc pieces (piece ∷ []) others) ∙ λ j. (pieces ++ sym p.0 j ∷ []) ++ sym p.1 j
 
 -- a read that doesn't take the last byte that a session may take has room for a whole piece, or fills none
 wide_read : (n room taken most : ℕ) → taken + n < most → taken < most → n ≤ room → room ≡ min 65536 (most - taken) → (n < room) ⊎ (65536 ≤ room)

@@ -101,7 +101,7 @@ begin_as pieces messages (inr whole) = inr (whole.0, output_as pieces whole.0 wh
 -- ---- how a session ends
 
 written_as : (IsOutput AsOutput : Output → Type 0) (old new : SinkSeen) → ((output : Output) → IsOutput output → AsOutput output) → WritesWhole IsOutput old new → WritesWhole AsOutput old new
-written_as IsOutput AsOutput old new as w = record { output = w.output; is = as w.output w.is; prints = w.prints }
+written_as IsOutput AsOutput old new carry w = record { output = w.output; is = carry w.output w.is; prints = w.prints }
 
 session_as : (pieces : List (List ℕ)) (old new : SinkSeen) (end : SessionEnd) → SessionEndsAs (length (bytes_of pieces)) (IsOutputBy false pieces) (BeginBy false pieces) old new end →
     SessionEndsAs (length (bytes_of pieces)) (IsOutputOf (bytes_of pieces)) (BeginOutput (bytes_of pieces)) old new end
