@@ -1,7 +1,7 @@
 -- The macro uses that are counted over bodies and pieces.
 use Rattle.std.proofs.Common.{◌≡◌, ℕ, zero, suc, List, [], ◌∷◌, ◌++◌, refl, sym, ap, ◌∙◌, append_assoc, append-nil, Some, None, Option, Bool, subst, inl}
 use Rattle.std.specs.FinMap.{empty}
-use Rattle.ls_base.specs.Frames.{IsFrames, rest}
+use Rattle.ls_base.specs.Frames.{rest}
 use Rattle.lsp_framing.specs.Feeds.{Feeds}
 use Rattle.lsp_framing.proofs.OneReading.{one_reading}
 use Rattle.lookahead.specs.Looked.{Looked, looked}

@@ -15,14 +15,13 @@ use Rattle.ls_outside.specs.Calls.{CallsTake}
 use Rattle.ls_outside.specs.Sources.{ArePieces, GotTakes, bytes_of}
 use Rattle.ls_outside.specs.declared.source.Got.TheVariants as got
 use Rattle.ls_outside.proofs.CallLaws.{calls_then, last_none_all}
-use Rattle.lookahead.specs.Completed.{Complete}
 use Rattle.lookahead.specs.Looked.{Looked, looked}
-use Rattle.scheme_model.specs.Session.{Ending, Run, begin}
+use Rattle.scheme_model.specs.Session.{Run, begin}
 use Rattle.session_core.specs.Asked.{Question}
 use Rattle.session_core.specs.Counted.{AreCounted}
 use Rattle.session_core.specs.ToWire.{AreReplies}
 use Rattle.scheme_ls.specs.AheadOutcome.{AnswersBeforeLast, CountsAllBy, CountsBeginBy, ReadsPieces, ServesBy, TakesPieces}
-use Rattle.scheme_ls.specs.AheadOutput.{AnswerFirstBy, IsOutputBy, looked_from, looked_in, looked_over}
+use Rattle.scheme_ls.specs.AheadOutput.{AnswerFirstBy, IsOutputBy, looked_from, looked_over}
 use Rattle.scheme_ls.specs.BodiesOutcome.{AnswersBodies}
 use Rattle.scheme_ls.specs.PieceOutcome.{AnswersInPiece, EndsInPiece, HasFault, Serving, TakesPiece}
 use Rattle.scheme_ls.specs.Prints.{SinkSeen, Prints, PrintsFront, PrintsPart}
@@ -35,7 +34,7 @@ use Rattle.scheme_ls.specs.Streams.{Streams}
 use Rattle.scheme_ls.specs.declared.answering.Exit.{Exit}
 use Rattle.scheme_ls.specs.declared.server.FaultAt.{FaultAt}
 use Rattle.scheme_ls.specs.declared.serve.SessionEnd.TheVariants.{Exited, FrameFault, NoMemory, WriteFailed}
-use Rattle.scheme_ls.proofs.AnswerLaws.{answers_then, are_first, ends_after, part_follows}
+use Rattle.scheme_ls.proofs.AnswerLaws.{answers_then, are_first, ends_after}
 use Rattle.scheme_ls.proofs.Pieces.{complete_more, joined_more, pieces_whole, reads_no_piece, reads_piece, whole_none}
 use Rattle.scheme_ls.proofs.SessionSoFar.{Going, frames_so_far, going_frames, is_output_so_far, joined_quiet, joined_run, output_so_far, takes_more, without_farewell}
 use Rattle.scheme_ls.proofs.Sessions.{frames_more}

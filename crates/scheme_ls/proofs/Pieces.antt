@@ -1,5 +1,5 @@
 -- Pieces that are read one after another, and the bodies that they complete.
-use Rattle.std.proofs.Common.{◌≡◌, ◌⊎◌, inl, inr, ℕ, ◌+◌, ◌<◌, ◌≤◌, List, [], ◌∷◌, ◌++◌, length, take, drop, Option, Some, None, refl, sym, ap, ◌∙◌, subst, append_assoc, append-nil, arith}
+use Rattle.std.proofs.Common.{◌≡◌, ◌⊎◌, inl, inr, ℕ, ◌≤◌, List, [], ◌∷◌, ◌++◌, length, take, drop, Option, Some, None, refl, sym, ap, ◌∙◌, subst, append_assoc, append-nil, arith}
 use Rattle.std.specs.Prelude.{Bool}
 use Rattle.std.specs.List.{AllByRecursion}
 use Rattle.std.proofs.lemmas.List.{length-take, take-append-drop}
@@ -11,7 +11,7 @@ use Rattle.ls_outside.specs.declared.source.Got.TheVariants as got
 use Rattle.ls_outside.proofs.CallLaws.{bytes_more}
 use Rattle.lookahead.specs.Completed.{Complete, Completes}
 use Rattle.lookahead.specs.Looked.{Looked, looked}
-use Rattle.scheme_ls.specs.AheadOutcome.{FailsBehind, IsNonempty, IsOver, ReadsAllPieces, ReadsPieces, TakesPart, TakesPieces}
+use Rattle.scheme_ls.specs.AheadOutcome.{FailsBehind, IsNonempty, IsOver, ReadsAllPieces, ReadsPieces, TakesPieces}
 use Rattle.scheme_ls.specs.AheadOutput.{looked_in}
 use Rattle.scheme_ls.specs.Reading.{SourceSeen}
 use Rattle.scheme_ls.specs.ServeOutcome.{max_stream}

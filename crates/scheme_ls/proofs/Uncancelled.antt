@@ -1,5 +1,5 @@
 -- A session that doesn't look ahead is that of the bytes of its pieces.
-use Rattle.std.proofs.Common.{◌≡◌, ◌⊎◌, inl, inr, ℕ, ◌<◌, List, [], ◌∷◌, ◌++◌, length, map, Option, Some, None, refl, sym, ap, ◌∙◌, subst, append_assoc, append-nil}
+use Rattle.std.proofs.Common.{◌≡◌, inl, inr, ℕ, ◌<◌, List, [], ◌∷◌, ◌++◌, length, Option, Some, None, refl, sym, ap, ◌∙◌, subst, append_assoc, append-nil}
 use Rattle.std.specs.Prelude.{false}
 use Rattle.std.specs.FinMap.{empty}
 use Rattle.std.specs.List.{AllByRecursion}
@@ -14,12 +14,12 @@ use Rattle.scheme_model.specs.Session.{Run, begin}
 use Rattle.session_core.specs.Asked.{Question}
 use Rattle.session_core.specs.Counted.{AreCounted}
 use Rattle.session_core.specs.ToWire.{AreReplies}
-use Rattle.scheme_ls.specs.AheadOutcome.{AnswersBeforeLast, CountsAllBy, CountsBeginBy, CountsBy, IsNonempty, IsOver, PiecesEndAs, ReadsAllPieces, ReadsPieces, ServesBy, TakesPieces}
+use Rattle.scheme_ls.specs.AheadOutcome.{AnswersBeforeLast, CountsAllBy, CountsBeginBy, CountsBy, IsNonempty, IsOver, PiecesEndAs, ReadsPieces, ServesBy, TakesPieces}
 use Rattle.scheme_ls.specs.AheadOutput.{AnswerFirstBy, BeginBy, IsOutputBy, looked_from, looked_in, looked_over}
 use Rattle.scheme_ls.specs.CountedBytes.{CountsAll, CountsBegin}
 use Rattle.scheme_ls.specs.Prints.{SinkSeen}
-use Rattle.scheme_ls.specs.Reading.{ReadsOn, ReadsToEnd, SourceSeen, TakesAll, TakesBytes}
-use Rattle.scheme_ls.specs.ServeOutcome.{AnswersPiecesBefore, AreBeforeLast, CountsAs, Serves, SessionEndsAs, SourceEndsAs, WritesFront, WritesWhole}
+use Rattle.scheme_ls.specs.Reading.{ReadsOn, SourceSeen, TakesAll, TakesBytes}
+use Rattle.scheme_ls.specs.ServeOutcome.{AnswersPiecesBefore, AreBeforeLast, CountsAs, Serves, SessionEndsAs, SourceEndsAs, WritesWhole}
 use Rattle.scheme_ls.specs.SessionOutput.{AnswerFirst, BeginOutput, IsOutputOf, Output, session_over}
 use Rattle.scheme_ls.specs.Streams.{Streams}
 use Rattle.scheme_ls.specs.declared.serve.SessionEnd.{SessionEnd}
