@@ -92,7 +92,7 @@ class Session:
 
     def add(self, row):
         wanted, status = replies(row.wanted)
-        if row.call == "stream/of":
+        if row.group == "stream":
             self.given = [made(piece) for piece in json.loads(row.argument)]
             sent = []
         else:
@@ -115,6 +115,26 @@ class Session:
                 here += got + [rest] * bool(rest)
             if (found := step.wrong(here)) is not None:
                 yield step.row, found
+
+
+class Ahead(Session):
+    """A session that looks ahead, over pieces as they are given: how its input is cut counts."""
+
+    words = ["serve", "--ahead"]
+
+    def cuts(self, seed):
+        yield "as given", self.given
+
+
+class AheadByBytes(Ahead):
+    """The same byte by byte."""
+
+    def cuts(self, seed):
+        yield "byte by byte", client.by_size(b"".join(self.given), 1)
+
+
+# Sessions that rows give as streams.
+STREAMS = {"stream/of": Session, "stream/ahead": Ahead, "stream/ahead_by_bytes": AheadByBytes}
 
 
 class Renaming(Step):

@@ -7,12 +7,12 @@ use Rattle.std.proofs.lemmas.Bool.{false≢true}
 use Rattle.ls_base.specs.Limits.{max_documents}
 use Rattle.ls_base.specs.declared.places.Pos.{Pos}
 use Rattle.std.specs.Prelude.{MatchOption, Option, Some, None}
-use Rattle.command_words.specs.Commands.{AreRenameWords, AreSelfrunWords, AreWordsOf, Asks, AsksBy, CommandOf, Picks, name_of}
+use Rattle.command_words.specs.Commands.{AreRenameWords, AreSelfrunWords, AreWordsOf, Asks, AsksBy, PositionalOf, Picks, name_of}
 use Rattle.command_words.specs.Different.{different}
 use Rattle.command_words.specs.Numbers.{IsNumber}
 use Rattle.command_words.specs.Words.{Word, are_taken, positional_words, texts}
 use Rattle.command_words.specs.declared.command.Command.{Command}
-use Rattle.command_words.specs.declared.command.Command.TheVariants.{Arrows, Check, Rename, Replay, Selfrun, Serve, TooManyFiles, Unknown}
+use Rattle.command_words.specs.declared.command.Command.TheVariants.{Arrows, Check, Rename, Replay, Selfrun, Serve, ServeAhead, TooManyFiles, Unknown}
 
 pub some_at : {T : Type 0} (P : Type 0) (Q : T → Type 0) (o : Option T) (v : T) → o ≡ Some v → MatchOption o P Q → Q v
 some_at {T} P Q o v same h = let R : Option T → Type 0 = λ x. MatchOption x P Q in subst R same h
@@ -27,6 +27,7 @@ apart a b tested same = false≢true (sym tested ∙ (bytes_eq-Decides a b).1 sa
 pub arrows_only : (words : List Word) (command : Command) → AsksBy (codes "arrows") words command → (command ≡ Arrows) × (words ≡ [])
 arrows_only words Arrows h = (refl, h.1)
 arrows_only words Serve h = absurd (apart (codes "arrows") (codes "serve") refl h.0)
+arrows_only words ServeAhead h = absurd h.1
 arrows_only words (Replay f) h = absurd (apart (codes "arrows") (codes "replay") refl h.0)
 arrows_only words (Check fs) h = absurd (apart (codes "arrows") (codes "check") refl h.0)
 arrows_only words TooManyFiles h = absurd (apart (codes "arrows") (codes "check") refl h.0)
@@ -38,6 +39,7 @@ arrows_only words Unknown h = absurd h.1
 pub serve_only : (words : List Word) (command : Command) → AsksBy (codes "serve") words command → (command ≡ Serve) × (words ≡ [])
 serve_only words Arrows h = absurd (apart (codes "serve") (codes "arrows") refl h.0)
 serve_only words Serve h = (refl, h.1)
+serve_only words ServeAhead h = absurd h.1
 serve_only words (Replay f) h = absurd (apart (codes "serve") (codes "replay") refl h.0)
 serve_only words (Check fs) h = absurd (apart (codes "serve") (codes "check") refl h.0)
 serve_only words TooManyFiles h = absurd (apart (codes "serve") (codes "check") refl h.0)
@@ -49,6 +51,7 @@ serve_only words Unknown h = absurd h.1
 pub replay_only : (words : List Word) (command : Command) → AsksBy (codes "replay") words command → (file : Word) × (command ≡ Replay file) × (words ≡ file ∷ [])
 replay_only words Arrows h = absurd (apart (codes "replay") (codes "arrows") refl h.0)
 replay_only words Serve h = absurd (apart (codes "replay") (codes "serve") refl h.0)
+replay_only words ServeAhead h = absurd h.1
 replay_only words (Replay f) h = (f, refl, h.1)
 replay_only words (Check fs) h = absurd (apart (codes "replay") (codes "check") refl h.0)
 replay_only words TooManyFiles h = absurd (apart (codes "replay") (codes "check") refl h.0)
@@ -60,6 +63,7 @@ replay_only words Unknown h = absurd h.1
 pub rename_only : (words : List Word) (command : Command) → AsksBy (codes "rename") words command → (file : Word) × (position : Pos) × (name : Word) × (command ≡ Rename file position name) × AreRenameWords words file position name
 rename_only words Arrows h = absurd (apart (codes "rename") (codes "arrows") refl h.0)
 rename_only words Serve h = absurd (apart (codes "rename") (codes "serve") refl h.0)
+rename_only words ServeAhead h = absurd h.1
 rename_only words (Replay f) h = absurd (apart (codes "rename") (codes "replay") refl h.0)
 rename_only words (Check fs) h = absurd (apart (codes "rename") (codes "check") refl h.0)
 rename_only words TooManyFiles h = absurd (apart (codes "rename") (codes "check") refl h.0)
@@ -71,6 +75,7 @@ rename_only words Unknown h = absurd h.1
 pub selfrun_only : (words : List Word) (command : Command) → AsksBy (codes "selfrun") words command → (libraries : ℕ) × (command ≡ Selfrun libraries) × AreSelfrunWords words libraries
 selfrun_only words Arrows h = absurd (apart (codes "selfrun") (codes "arrows") refl h.0)
 selfrun_only words Serve h = absurd (apart (codes "selfrun") (codes "serve") refl h.0)
+selfrun_only words ServeAhead h = absurd h.1
 selfrun_only words (Replay f) h = absurd (apart (codes "selfrun") (codes "replay") refl h.0)
 selfrun_only words (Check fs) h = absurd (apart (codes "selfrun") (codes "check") refl h.0)
 selfrun_only words TooManyFiles h = absurd (apart (codes "selfrun") (codes "check") refl h.0)
@@ -86,6 +91,7 @@ IsCheck words command = ((files : List Word) × (command ≡ Check files) × (0 
 pub check_only : (words : List Word) (command : Command) → AsksBy (codes "check") words command → IsCheck words command
 check_only words Arrows h = absurd (apart (codes "check") (codes "arrows") refl h.0)
 check_only words Serve h = absurd (apart (codes "check") (codes "serve") refl h.0)
+check_only words ServeAhead h = absurd h.1
 check_only words (Replay f) h = absurd (apart (codes "check") (codes "replay") refl h.0)
 check_only words (Check fs) h = inl (fs, refl, h.1.0, h.1.1, h.1.2)
 check_only words TooManyFiles h = inr (refl, h.1)
@@ -170,6 +176,7 @@ out_of_range count n number outside command h =
 pub no_name : (first : Word) (words : List Word) → first ≢ codes "arrows" → first ≢ codes "serve" → first ≢ codes "replay" → first ≢ codes "check" → first ≢ codes "rename" → first ≢ codes "selfrun" → Picks (AsksBy first words) Unknown
 no_name first words a s r c n f Arrows h = a h.0
 no_name first words a s r c n f Serve h = s h.0
+no_name first words a s r c n f ServeAhead h = h.1
 no_name first words a s r c n f (Replay file) h = r h.0
 no_name first words a s r c n f (Check files) h = c h.0
 no_name first words a s r c n f TooManyFiles h = c h.0
@@ -229,9 +236,10 @@ asked_by first rest command h = (
   let P : List Word → Type 0 = λ words. AreWordsOf (positional_words words) command in subst P (sym (tails first (name_of command) rest h.rest h.words_are)) h.asks,
 )
 
-pub picked : (first : Word) (rest : List Word) (command : Command) → are_taken rest ≡ true → Picks (AsksBy first (positional_words rest)) command → CommandOf (first ∷ rest) command
+pub picked : (first : Word) (rest : List Word) (command : Command) → are_taken rest ≡ true → Picks (AsksBy first (positional_words rest)) command → PositionalOf (first ∷ rest) command
 picked first rest Arrows taken h = asked first rest Arrows taken h
 picked first rest Serve taken h = asked first rest Serve taken h
+picked first rest ServeAhead taken h = asked first rest ServeAhead taken h
 picked first rest (Replay file) taken h = asked first rest (Replay file) taken h
 picked first rest (Check files) taken h = asked first rest (Check files) taken h
 picked first rest TooManyFiles taken h = asked first rest TooManyFiles taken h
@@ -239,14 +247,14 @@ picked first rest (Rename file position name) taken h = asked first rest (Rename
 picked first rest (Selfrun libraries) taken h = asked first rest (Selfrun libraries) taken h
 picked first rest Unknown taken h = λ command asks. h command (asked_by first rest command asks)
 
-pub not_taken : (first : Word) (rest : List Word) → are_taken rest ≡ false → CommandOf (first ∷ rest) Unknown
+pub not_taken : (first : Word) (rest : List Word) → are_taken rest ≡ false → PositionalOf (first ∷ rest) Unknown
 not_taken first rest refused command asks =
     false≢true (sym refused ∙ ap are_taken (tails first (name_of command) rest asks.rest asks.words_are) ∙ asks.taken)
 
 nothing : (word : Word) (words : List Word) → [] ≡ word ∷ words → ⊥
 nothing word words same = cc
 
-pub no_words : CommandOf [] Unknown
+pub no_words : PositionalOf [] Unknown
 no_words command asks = nothing (name_of command) asks.rest asks.words_are
 
 -- the first word and those behind it are the words

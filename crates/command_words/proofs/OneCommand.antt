@@ -3,13 +3,14 @@ use Rattle.std.proofs.Common.{◌≡◌, ◌<◌, ◌≤◌, ◌⊎◌, ℕ, Lis
 use Rattle.ls_base.specs.Limits.{max_documents}
 use Rattle.ls_base.specs.declared.places.Pos.{Pos}
 use Rattle.std.specs.Str.Parse.{digits_value}
-use Rattle.command_words.specs.Commands.{AreRenameWords, AreSelfrunWords, AreWordsOf, Asks, AsksBy, CommandOf, Picks, name_of}
+use Rattle.command_words.specs.Commands.{AreRenameWords, AreSelfrunWords, AreWordsOf, Asks, AsksBy, AsksFor, CommandOf, Picks, name_of}
 use Rattle.command_words.specs.Different.{different}
 use Rattle.command_words.specs.Numbers.{IsNumber}
 use Rattle.command_words.specs.Words.{Word, positional_words}
+use Rattle.command_words.proofs.AheadWords.{not_positional}
 use Rattle.command_words.proofs.Naming.{arrows_only, asked_by, check_only, rename_only, replay_only, selfrun_only, serve_only}
 use Rattle.command_words.specs.declared.command.Command.{Command}
-use Rattle.command_words.specs.declared.command.Command.TheVariants.{Arrows, Check, Rename, Replay, Selfrun, Serve, TooManyFiles, Unknown}
+use Rattle.command_words.specs.declared.command.Command.TheVariants.{Arrows, Check, Rename, Replay, Selfrun, Serve, ServeAhead, TooManyFiles, Unknown}
 
 only_word : (a b : Word) (words : List Word) → words ≡ a ∷ [] → words ≡ b ∷ [] → a ≡ b
 only_word a b words one other = cc
@@ -46,6 +47,7 @@ not_both files words are few many = let same = ap (λ (ws : List Word). length w
 same_by : (words : List Word) (one other : Command) → AreWordsOf words one → AsksBy (name_of one) words other → other ≡ one
 same_by words Arrows other h k = (arrows_only words other k).0
 same_by words Serve other h k = (serve_only words other k).0
+same_by words ServeAhead other h k = absurd h
 same_by words (Replay file) other h k =
     let found = replay_only words other k in found.1 ∙ ap Replay (only_word found.0 file words found.2 h)
 same_by words (Check files) other h k =
@@ -69,10 +71,17 @@ same_asked words one other h k =
     same_by (positional_words h.rest) one other h.asks
     (asked_by (name_of one) h.rest other (let P : List Word → Type 0 = λ ws. Asks ws other in subst P h.words_are k))
 
+same_for : (words : List Word) (one other : Command) → AsksFor words one → AsksFor words other → other ≡ one
+same_for words one other (inl h) (inl k) = same_asked words one other h k
+same_for words one other (inl h) (inr k) = absurd (not_positional words one h k.1)
+same_for words one other (inr h) (inl k) = absurd (not_positional words other k h.1)
+same_for words one other (inr h) (inr k) = k.0 ∙ sym h.0
+
 -- what is picked is asked for, or is `Unknown`
 is_picked : (IsAsked : Command → Type 0) (command : Command) → Picks IsAsked command → IsAsked command ⊎ ((command ≡ Unknown) × ((other : Command) → ¬ IsAsked other))
 is_picked IsAsked Arrows h = inl h
 is_picked IsAsked Serve h = inl h
+is_picked IsAsked ServeAhead h = inl h
 is_picked IsAsked (Replay file) h = inl h
 is_picked IsAsked (Check files) h = inl h
 is_picked IsAsked TooManyFiles h = inl h
@@ -82,12 +91,12 @@ is_picked IsAsked Unknown h = inr (refl, h)
 
 pub one_command : (words : List Word) (one other : Command) → CommandOf words one → CommandOf words other → one ≡ other
 one_command words one other h k =
-    elim (is_picked (Asks words) one h) [
-      | inl asks ↦ elim (is_picked (Asks words) other k) [
-        | inl others ↦ sym (same_asked words one other asks others)
+    elim (is_picked (AsksFor words) one h) [
+      | inl asks ↦ elim (is_picked (AsksFor words) other k) [
+        | inl others ↦ sym (same_for words one other asks others)
         | inr none ↦ absurd (none.1 one asks)
       ]
-      | inr none ↦ elim (is_picked (Asks words) other k) [
+      | inr none ↦ elim (is_picked (AsksFor words) other k) [
         | inl others ↦ absurd (none.1 other others)
         | inr neither ↦ none.0 ∙ sym neither.0
       ]

@@ -6,13 +6,14 @@ use Rattle.std.specs.Char.{digit_value}
 use Rattle.std.proofs.lemmas.Bool.Decides.{nat_tests}
 use Rattle.std.proofs.lemmas.Slice.Eq.{bytes_eq-Decides}
 use Rattle.ls_base.specs.Limits.{max_documents}
-use Rattle.command_words.specs.Commands.{AsksBy, CommandOf, Picks}
+use Rattle.command_words.specs.Commands.{AsksBy, CommandOf, IsServeAhead, Picks, PositionalOf}
 use Rattle.command_words.specs.Different.{different}
 use Rattle.command_words.specs.Numbers.{IsNumber}
 use Rattle.command_words.specs.Words.{Word, are_taken, positional_words}
+use Rattle.command_words.proofs.AheadWords.{ahead_or_not, is_ahead, not_ahead}
 use Rattle.command_words.proofs.Naming.{no_arrows, no_check, no_column, no_count, no_line, no_name, no_rename, no_replay, no_selfrun, no_serve, no_words, not_taken, out_of_range, picked, unlike}
 use Rattle.command_words.specs.declared.command.Command.{Command}
-use Rattle.command_words.specs.declared.command.Command.TheVariants.{Arrows, Check, Rename, Replay, Selfrun, Serve, TooManyFiles, Unknown}
+use Rattle.command_words.specs.declared.command.Command.TheVariants.{Arrows, Check, Rename, Replay, Selfrun, Serve, ServeAhead, TooManyFiles, Unknown}
 
 -- ---- numbers
 
@@ -149,10 +150,17 @@ by_name first words =
     name_case first words (bytes_eq first (codes "arrows")) (bytes_eq first (codes "serve")) (bytes_eq first (codes "replay")) (bytes_eq first (codes "check"))
     (bytes_eq first (codes "rename")) (bytes_eq first (codes "selfrun")) refl refl refl refl refl refl
 
-taken_case : (first : Word) (rest : List Word) (taken : Bool) → are_taken rest ≡ taken → (command : Command) × CommandOf (first ∷ rest) command
+taken_case : (first : Word) (rest : List Word) (taken : Bool) → are_taken rest ≡ taken → (command : Command) × PositionalOf (first ∷ rest) command
 taken_case first rest true taken = let found = by_name first (positional_words rest) in (found.0, picked first rest found.0 taken found.1)
 taken_case first rest false refused = (Unknown, not_taken first rest refused)
 
+some_positional : (words : List Word) → (command : Command) × PositionalOf words command
+some_positional [] = (Unknown, no_words)
+some_positional (first ∷ rest) = taken_case first rest (are_taken rest) refl
+
+ahead_case : (words : List Word) → IsServeAhead words ⊎ ¬ IsServeAhead words → (command : Command) × CommandOf words command
+ahead_case words (inl ahead) = (ServeAhead, is_ahead words ahead)
+ahead_case words (inr other) = let found = some_positional words in (found.0, not_ahead words found.0 other found.1)
+
 pub some_command : (words : List Word) → (command : Command) × CommandOf words command
-some_command [] = (Unknown, no_words)
-some_command (first ∷ rest) = taken_case first rest (are_taken rest) refl
+some_command words = ahead_case words (ahead_or_not words)

@@ -8,6 +8,8 @@ pub enum Command {
     Arrows,
     /// `serve`: a session over the standard input and output.
     Serve,
+    /// `serve --ahead`: such a session that looks ahead for cancellations.
+    ServeAhead,
     /// `replay FILE`: a session over the bytes of a file.
     Replay {
         file: Text,

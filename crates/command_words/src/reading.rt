@@ -3,7 +3,7 @@ ghost use Rattle.std.specs.Prelude.{◌≡◌, ◌<◌, ◌≤◌, ◌↔◌, []
 ghost use Rattle.ls_base.specs.declared.places.Pos.{Pos as Position};
 ghost use Rattle.command_words.specs.Numbers.{IsNumber};
 ghost use Rattle.command_words.specs.ClapWords.{seen};
-ghost use Rattle.command_words.specs.Commands.{AsksBy, CommandOf, Picks};
+ghost use Rattle.command_words.specs.Commands.{AsksBy, CommandOf, IsServeAhead, Picks, PositionalOf};
 ghost use Rattle.command_words.specs.Words.{texts};
 
 use crate::clap_words::{FourWords, four_words, is_alone, one_word, some_words};
@@ -20,6 +20,27 @@ const MAX_LIBRARIES: u32 = 60;
 /// The command that the words ask for.
 pub fn command_of(alloc: Global, words: &[String]) -> Mem<Command>
     ensures { IfOk result (CommandOf (texts words.now)) }
+{
+    if is_ahead(words) {
+        return Ok(Command::ServeAhead);
+    }
+    let command = positional_command(alloc, words)?;
+    Ok(command)
+}
+
+/// Whether the words are `serve --ahead`.
+fn is_ahead(words: &[String]) -> bool
+    ensures { IsTrue result ↔ IsServeAhead (texts words.now) }
+{
+    match words {
+        [first, second] => first.as_str() == "serve" && second.as_str() == "--ahead",
+        [] | [_] | [_, _, _, ..] => false,
+    }
+}
+
+/// The command of positional words that the words ask for.
+fn positional_command(alloc: Global, words: &[String]) -> Mem<Command>
+    ensures { IfOk result (PositionalOf (texts words.now)) }
 {
     match words {
         [] => Ok(Command::Unknown),
@@ -42,7 +63,7 @@ fn rest_of(words: &[String]) -> &[String]
 
 /// The command that a first word and the words behind it ask for.
 fn command_behind(alloc: Global, first: &str, rest: &[String]) -> Mem<Command>
-    ensures { IfOk result (CommandOf (first.now ∷ texts rest.now)) }
+    ensures { IfOk result (PositionalOf (first.now ∷ texts rest.now)) }
 {
     let words = positional_words(alloc, rest)?;
     match words {

@@ -4,3 +4,4 @@ pub mod HeldLaws  -- No more bodies are counted than a window holds
 pub mod OneCompletion  -- Pieces complete bodies in one way
 pub mod ExitBars  -- Up to an `exit`, what stands behind it doesn't matter
 pub mod rows  -- The definitions on worked rows
+pub mod Groups  -- Bodies that are looked at in groups

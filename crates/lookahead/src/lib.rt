@@ -2,6 +2,7 @@
 //! (LSP 3.17, "Cancellation Support"). It knows messages and no session: the caller puts bodies in and takes them out.
 #![tactic(auto)]
 
+mod bodies;
 mod cancellations;
 mod counts;
 mod held;
@@ -9,4 +10,5 @@ pub mod laws;
 mod role;
 mod window;
 
+pub use bodies::Bodies;
 pub use window::{Next, Window, WindowFault};

@@ -13,7 +13,7 @@ use std::collections::VecDeque;
 use std::marker::Model;
 
 /// How many bodies a window holds, at most.
-const CAPACITY: usize = 64;
+pub(crate) const CAPACITY: usize = 64;
 
 /// Why a window doesn't take a body, which it hands back.
 #[derive(Debug, Drop)]

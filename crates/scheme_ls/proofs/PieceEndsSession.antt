@@ -1,6 +1,6 @@
 -- How a session ends in a piece.
-use Rattle.std.proofs.Common.{◌≡◌, ℕ, ◌+◌, ◌-◌, ◌<◌, ◌≤◌, List, [], ◌∷◌, ◌++◌, length, min, take, refl, sym, ap, ◌∙◌, arith, append_assoc, append-nil, Some, None, Option, subst, inl, inr, ◌⊎◌, length-append}
-use Rattle.std.proofs.lemmas.List.{take_all, length-take}
+use Rattle.std.proofs.Common.{◌≡◌, ℕ, ◌+◌, ◌-◌, ◌<◌, ◌≤◌, List, [], ◌∷◌, ◌++◌, length, min, take, refl, sym, ap, ◌∙◌, arith, append_assoc, append-nil, Some, None, Option, Bool, subst, inl, inr, ◌⊎◌, length-append}
+use Rattle.std.proofs.lemmas.List.{length-take}
 use Rattle.std.proofs.KnownBytes.{Appends-trans}
 use Rattle.std.specs.Io.KnownBytes.{Appends}
 use Rattle.std.specs.FinMap.{empty}
@@ -9,56 +9,50 @@ use Rattle.ls_base.specs.Frames.{End, Fault, IsFrames, fault, fault_number, rest
 use Rattle.lsp_framing.specs.Feeds.{Feeds}
 use Rattle.lsp_framing.proofs.EveryReading.{every_reading}
 use Rattle.lsp_framing.proofs.OneReading.{bodies_grow}
+use Rattle.lsp_framing.proofs.Written.{written_again}
 use Rattle.lsp_messages.specs.declared.reply.Reply.{Reply}
-use Rattle.ls_outside.specs.Calls.{AllTake, CallsTake, LastTakes}
-use Rattle.ls_outside.specs.Sources.{GotTakes}
+use Rattle.ls_outside.specs.Calls.{CallsTake}
+use Rattle.ls_outside.specs.Sources.{ArePieces, GotTakes, bytes_of}
 use Rattle.ls_outside.specs.declared.source.Got.TheVariants as got
 use Rattle.ls_outside.proofs.CallLaws.{calls_then, last_none_all}
-use Rattle.scheme_model.specs.Session.{begin}
+use Rattle.lookahead.specs.Looked.{Looked, looked}
+use Rattle.scheme_model.specs.Session.{Run, begin}
+use Rattle.session_core.specs.Asked.{Question}
+use Rattle.session_core.specs.Counted.{AreCounted}
+use Rattle.session_core.specs.ToWire.{AreReplies}
+use Rattle.scheme_ls.specs.AheadOutcome.{AnswersBeforeLast, CountsAllBy, CountsBeginBy, ReadsPieces, ServesBy, TakesPieces}
+use Rattle.scheme_ls.specs.AheadOutput.{AnswerFirstBy, IsOutputBy, looked_from, looked_over}
 use Rattle.scheme_ls.specs.BodiesOutcome.{AnswersBodies}
 use Rattle.scheme_ls.specs.PieceOutcome.{AnswersInPiece, EndsInPiece, HasFault, Serving, TakesPiece}
 use Rattle.scheme_ls.specs.Prints.{SinkSeen, Prints, PrintsFront, PrintsPart}
-use Rattle.scheme_ls.specs.Reading.{ReadsOn, TakesBytes}
-use Rattle.scheme_ls.specs.CountedBytes.{CountsAll, CountsBegin}
 use Rattle.scheme_ls.specs.QuietBytes.{AreQuiet}
 use Rattle.scheme_ls.specs.ReplyFrames.{frame_of_reply, frames_of}
-use Rattle.scheme_ls.specs.ServeOutcome.{AnswersPiecesBefore, AreBeforeLast, Serves, WritesFront}
-use Rattle.scheme_ls.specs.SessionOutput.{IsOutputOf, Output, fault_log, written}
+use Rattle.scheme_ls.specs.ServeOutcome.{WritesFront}
+use Rattle.scheme_ls.specs.SessionOutput.{Output, fault_log, written}
 use Rattle.scheme_ls.specs.Statuses.{said_exit}
 use Rattle.scheme_ls.specs.Streams.{Streams}
 use Rattle.scheme_ls.specs.declared.answering.Exit.{Exit}
 use Rattle.scheme_ls.specs.declared.server.FaultAt.{FaultAt}
 use Rattle.scheme_ls.specs.declared.serve.SessionEnd.TheVariants.{Exited, FrameFault, NoMemory, WriteFailed}
-use Rattle.scheme_ls.proofs.AnswerLaws.{answers_then, are_first, ends_after, part_follows}
-use Rattle.scheme_ls.proofs.SessionSoFar.{Going, before_last, frames_so_far, going_frames, is_output_so_far, output_so_far, without_farewell}
-use Rattle.scheme_ls.proofs.ReadLaws.{read_last, reads_none, reads_then}
+use Rattle.scheme_ls.proofs.AnswerLaws.{answers_then, are_first, ends_after}
+use Rattle.scheme_ls.proofs.Pieces.{complete_more, joined_more, pieces_whole, reads_no_piece, reads_piece, whole_none}
+use Rattle.scheme_ls.proofs.SessionSoFar.{Going, frames_so_far, going_frames, is_output_so_far, joined_quiet, joined_run, output_so_far, takes_more, without_farewell}
 use Rattle.scheme_ls.proofs.Sessions.{frames_more}
-use Rattle.scheme_ls.proofs.Taken.{TakesBytes-more, takes_none}
-use Rattle.scheme_ls.proofs.Writes.{front_after, part_after, prints_nothing, prints_then}
+use Rattle.scheme_ls.proofs.Writes.{front_after, part_after, prints_nothing, prints_then, whole_part}
 
--- a read behind what was taken so far, before what it completes is answered
-pub record Read (old mid new : Streams) (server : Serving) (taken most n : ℕ) (buffer : List ℕ) (w : Going old mid server taken most) : Type 0 where
-  pub takes : TakesBytes old.source.left new.source.left (w.bytes ++ take n buffer)
-  pub pieces : AreBeforeLast old.source.left w.bytes (take n buffer)
-  pub few : taken + n ≤ 1099511627776
-  pub on : ReadsOn old.source new.source (w.bytes ++ take n buffer)
-  pub last : LastTakes old.source.reads new.source.reads w.bytes (take n buffer)
+-- a piece that is read behind those so far, before what it completes is answered
+pub record Read {ahead : Bool} (old mid new : Streams) (server : Serving) (taken most : ℕ) (piece : List ℕ) (w : Going ahead old mid server taken most) : Type 0 where
+  pub takes : TakesPieces old.source.left new.source.left (w.pieces ++ piece ∷ [])
+  pub few : taken + length piece ≤ 1099511627776
+  pub on : ReadsPieces old.source new.source (w.pieces ++ piece ∷ [])
 
-pub read_piece : (old mid new : Streams) (server : Serving) (taken n room : ℕ) (buffer : List ℕ) (w : Going old mid server taken 1099511627776) → taken < 1099511627776 → 1 ≤ n → n ≤ length buffer → length buffer ≡ room →
-    room ≡ min 65536 (1099511627776 - taken) → GotTakes mid.source.left new.source.left (got.Some n) buffer → ReadsOn mid.source new.source (take n buffer) → new.source.reads ≡ mid.source.reads ++ take n buffer ∷ [] → Read old mid new server taken 1099511627776 n buffer w
-read_piece old mid new server taken n room buffer w below some within size space takes on notes = record {
-  takes = TakesBytes-more old.source.left mid.source.left new.source.left w.bytes buffer n w.takes takes;
-  pieces = before_last old.source.left mid.source.left new.source.left w.bytes buffer n some within (w.pieces below) takes;
-  few = omega arith;
-  on = reads_then old.source mid.source new.source w.bytes (take n buffer) w.on on;
-  last = read_last old.source mid.source new.source w.bytes (take n buffer) w.on notes;
+pub read_piece : {ahead : Bool} (old mid new : Streams) (server : Serving) (taken n room : ℕ) (buffer : List ℕ) (w : Going ahead old mid server taken 1099511627776) → taken < 1099511627776 → ArePieces mid.source.left → 1 ≤ n → n ≤ length buffer → length buffer ≡ room →
+    room ≡ min 65536 (1099511627776 - taken) → GotTakes mid.source.left new.source.left (got.Some n) buffer → new.source.faults ≡ mid.source.faults → new.source.reads ≡ mid.source.reads ++ take n buffer ∷ [] → Read old mid new server taken 1099511627776 (take n buffer) w
+read_piece old mid new server taken n room buffer w below sized some within size space takes counts notes = record {
+  takes = takes_more old mid new server taken n room buffer w below sized size (omega arith) space takes;
+  few = let l = length-take n buffer in omega arith;
+  on = reads_piece old.source mid.source new.source w.pieces buffer n w.on counts notes some within;
 }
-
--- all of a print is a part of it
-whole_part : (a b : SinkSeen) (x : List ℕ) → Prints a b x → PrintsPart a b x
-whole_part a b x p =
-    let all = sym (take_all (length x) x (omega arith)) in
-    record { count = length x; part = omega arith; printed = subst (Appends a.taken b.taken) all p.printed; no_fault = p.no_fault; calls = subst (AllTake a.writes b.writes) all p.calls }
 
 -- how the bytes end, where that is told
 pub some_end : (e : Option End) (bytes : List ℕ) (bodies : List (List ℕ)) → IsSomeAnd e (IsFrames bytes bodies) → (end : End) × IsFrames bytes bodies end
@@ -66,27 +60,64 @@ some_end None bytes bodies h = absurd h
 some_end (Some end) bytes bodies h = (end, h)
 
 -- the frames of all bytes, however they end
-frames_then : (old mid new : Streams) (server next : Serving) (taken most n : ℕ) (buffer : List ℕ) (given : List (List ℕ)) (w : Going old mid server taken most) (r : Read old mid new server taken most n buffer w) →
-    Feeds server.frames (take n buffer) given next.frames →
-    (end : End) × IsFrames (w.bytes ++ take n buffer) (w.bodies ++ given) end
-frames_then old mid new server next taken most n buffer given w r feeds = some_end next.frames.end _ _ (feeds w.bytes w.bodies w.after).frames
+pub frames_then : {ahead : Bool} (old mid : Streams) (server next : Serving) (taken most : ℕ) (piece : List ℕ) (given : List (List ℕ)) (w : Going ahead old mid server taken most) → Feeds server.frames piece given next.frames →
+    (end : End) × IsFrames (w.bytes ++ piece) (w.bodies ++ given) end
+frames_then old mid server next taken most piece given w feeds = some_end next.frames.end _ _ (feeds w.bytes w.bodies w.after).frames
 
-few_bytes : (old mid new : Streams) (server : Serving) (taken most n : ℕ) (buffer : List ℕ) (w : Going old mid server taken most) (r : Read old mid new server taken most n buffer w) → length (w.bytes ++ take n buffer) ≤ 1099511627776
-few_bytes old mid new server taken most n buffer w r =
-    let l = length-take n buffer in
-    let m = length-append w.bytes (take n buffer) in
+-- ---- what the pieces come to, with the last one
+
+few_bytes : {ahead : Bool} (old mid new : Streams) (server : Serving) (taken most : ℕ) (piece : List ℕ) (w : Going ahead old mid server taken most) (r : Read old mid new server taken most piece w) → length (bytes_of (w.pieces ++ piece ∷ [])) ≤ 1099511627776
+few_bytes old mid new server taken most piece w r =
+    let size : length (bytes_of (w.pieces ++ piece ∷ [])) ≡ length (w.bytes ++ piece) = ap length (joined_more piece [] w.joined).bytes_are in
+    let m = length-append w.bytes piece in
     omega (arith, w.count, r.few)
 
+-- the bodies of the last piece with those before it
+run_then : {ahead : Bool} (old mid : Streams) (server : Serving) (taken most : ℕ) (piece : List ℕ) (given : List (List ℕ)) (w : Going ahead old mid server taken most) → looked_from (begin empty) (w.seen ++ looked ahead given) ≡ looked_over ahead (w.given ++ given ∷ [])
+run_then old mid server taken most piece given w = joined_run (joined_more piece given w.joined)
+
+pub output_then : {ahead : Bool} (old mid : Streams) (server : Serving) (taken most : ℕ) (piece : List ℕ) (given : List (List ℕ)) (w : Going ahead old mid server taken most) (output : Output) → IsFrames (w.bytes ++ piece) (w.bodies ++ given) output.end →
+    AreReplies (looked_from (begin empty) (w.seen ++ looked ahead given)).replies output.messages → (looked_from (begin empty) (w.seen ++ looked ahead given)).end ≡ output.exit → IsOutputBy ahead (w.pieces ++ piece ∷ []) output
+output_then old mid server taken most piece given w output frames answered ends =
+    let run = run_then old mid server taken most piece given w in
+    record {
+      given = w.given ++ given ∷ [];
+      complete = complete_more piece given (rest w.kept) output.end w.joined w.complete frames;
+      answered = subst (λ (r : Run Question). AreReplies r.replies output.messages) run answered;
+      exits = sym ends ∙ ap (λ (r : Run Question). r.end) run;
+    }
+
+abbrev pub first_in : {ahead : Bool} (old mid : Streams) (server : Serving) (taken most : ℕ) (piece : List ℕ) (given : List (List ℕ)) (w : Going ahead old mid server taken most) (end : End) (first later : List Looked) (messages : List Reply) →
+    IsFrames (w.bytes ++ piece) (w.bodies ++ given) end → looked ahead given ≡ first ++ later → AreReplies (looked_from (begin empty) (w.seen ++ first)).replies messages → AnswerFirstBy ahead (w.pieces ++ piece ∷ []) messages
+first_in old mid server taken most piece given w end first later messages frames split answered = record {
+  given = w.given ++ given ∷ [];
+  end = end;
+  complete = complete_more piece given (rest w.kept) end w.joined w.complete frames;
+  first = w.seen ++ first;
+  later = later;
+  split = (joined_more piece given w.joined).seen_are ∙ ap (λ (all : List Looked). w.seen ++ all) split ∙ sym (append_assoc w.seen first later);
+  answered = answered;
+}
+
+pub counts_all_then : {ahead : Bool} (old mid : Streams) (server : Serving) (taken most : ℕ) (piece : List ℕ) (given : List (List ℕ)) (w : Going ahead old mid server taken most) (end : End) (before now : ℕ) → IsFrames (w.bytes ++ piece) (w.bodies ++ given) end →
+    AreCounted (looked_from (begin empty) (w.seen ++ looked ahead given)).replies before now → CountsAllBy ahead (w.pieces ++ piece ∷ []) before now
+counts_all_then old mid server taken most piece given w end before now frames counted = record {
+  given = w.given ++ given ∷ [];
+  end = end;
+  complete = complete_more piece given (rest w.kept) end w.joined w.complete frames;
+  counted = subst (λ (r : Run Question). AreCounted r.replies before now) (run_then old mid server taken most piece given w) counted;
+}
+
+quiet_then : {ahead : Bool} {before now : ℕ} (old mid : Streams) (server : Serving) (taken most : ℕ) (piece : List ℕ) (w : Going ahead old mid server taken most) → (AreQuiet (w.bytes ++ piece) → now ≡ before) → AreQuiet (bytes_of (w.pieces ++ piece ∷ [])) → now ≡ before
+quiet_then old mid server taken most piece w uncounted = joined_quiet (joined_more piece [] w.joined) uncounted
+
 -- what was printed before the piece, and after it
-before_written : (old mid new : Streams) (server : Serving) (taken most n : ℕ) (buffer : List ℕ) (w : Going old mid server taken most) (r : Read old mid new server taken most n buffer w) (more : List ℕ) (sink : SinkSeen) →
-    Appends mid.sink.taken sink.taken more → CallsTake mid.sink.writes sink.writes more →
-    AnswersPiecesBefore old (record { source = new.source; sink = sink }) (w.bytes ++ take n buffer)
-before_written old mid new server taken most n buffer w r more sink printed writes = record {
-  before = w.bytes;
-  last = take n buffer;
+before_written : {ahead : Bool} (old mid : Streams) (server : Serving) (taken most : ℕ) (piece : List ℕ) (w : Going ahead old mid server taken most) (more : List ℕ) (sink : SinkSeen) → Appends mid.sink.taken sink.taken more → CallsTake mid.sink.writes sink.writes more →
+    AnswersBeforeLast ahead old.sink sink (w.pieces ++ piece ∷ [])
+before_written old mid server taken most piece w more sink printed writes = record {
+  before = w.pieces;
+  last = piece;
   split = refl;
-  reads = r.last;
-  pieces = r.pieces;
   output = output_so_far old mid server taken most w;
   is = is_output_so_far old mid server taken most w;
   no_exit = refl;
@@ -97,22 +128,22 @@ before_written old mid new server taken most n buffer w r more sink printed writ
 }
 
 -- `exit` stands in the piece
-pub piece_exits : {before now : ℕ} (old mid new : Streams) (server next : Serving) (taken most n : ℕ) (exit : Exit) (buffer : List ℕ) (w : Going old mid server taken most) → Read old mid new server taken most n buffer w →
-    EndsInPiece server next (take n buffer) (said_exit exit) mid.sink new.sink → CountsAll (w.bytes ++ take n buffer) before now → (AreQuiet (w.bytes ++ take n buffer) → now ≡ before) → Serves old new before now (Exited exit)
-piece_exits old mid new server next taken most n exit buffer w r e counted uncounted =
-    let all = frames_then old mid new server next taken most n buffer e.given w r e.feeds in
-    let ended = ends_after (begin empty) server.state w.bodies e.given (said_exit exit) old.sink mid.sink new.sink w.answers e.ends in
+pub piece_exits : {ahead : Bool} {before now : ℕ} (old mid new : Streams) (server next : Serving) (taken most : ℕ) (exit : Exit) (piece : List ℕ) (w : Going ahead old mid server taken most) → Read old mid new server taken most piece w →
+    EndsInPiece ahead server next piece (said_exit exit) mid.sink new.sink → CountsAllBy ahead (w.pieces ++ piece ∷ []) before now → (AreQuiet (w.bytes ++ piece) → now ≡ before) → ServesBy ahead old new before now (Exited exit)
+piece_exits {ahead = ahead} old mid new server next taken most exit piece w r e counted uncounted =
+    let all = frames_then old mid server next taken most piece e.given w e.feeds in
+    let ended = ends_after (begin empty) server.state w.seen (looked ahead e.given) (said_exit exit) old.sink mid.sink new.sink w.answers e.ends in
     record {
       ends = record {
-        bytes = w.bytes ++ take n buffer;
+        pieces = w.pieces ++ piece ∷ [];
         taken = r.takes;
-        source = (r.on, before_written old mid new server taken most n buffer w r _ new.sink e.ends.prints.printed e.ends.prints.calls.take);
+        source = (r.on, before_written old mid server taken most piece w _ new.sink e.ends.prints.printed e.ends.prints.calls.take);
         session = (
-          few_bytes old mid new server taken most n buffer w r,
+          few_bytes old mid new server taken most piece w r,
           record {
             writes = record {
               output = record { messages = ended.session.messages; exit = Some (said_exit exit); end = all.0 };
-              is = record { bodies = w.bodies ++ e.given; frames = all.1; answered = ended.session.answered; exits = sym ended.session.ends };
+              is = output_then old mid server taken most piece e.given w (record { messages = ended.session.messages; exit = Some (said_exit exit); end = all.0 }) all.1 ended.session.answered ended.session.ends;
               prints = without_farewell old.sink new.sink ended.session.messages ended.prints;
             };
             exits = refl;
@@ -120,32 +151,28 @@ piece_exits old mid new server next taken most n exit buffer w r e counted uncou
         );
       };
       counted = counted;
-      uncounted = uncounted;
+      uncounted = quiet_then old mid server taken most piece w uncounted;
     }
 
 -- ---- a fault stands in the piece
 
 -- the answers to all bodies before the fault
-abbrev all_answers : (old mid seen : Streams) (server next : Serving) (taken most n : ℕ) (buffer : List ℕ) (at : FaultAt) (w : Going old mid server taken most) (r : Read old mid seen server taken most n buffer w) (e : TakesPiece server next (take n buffer) (HasFault at) mid.sink seen.sink) →
-    AnswersBodies (begin empty) (w.bodies ++ e.given) next.state old.sink seen.sink
-all_answers old mid seen server next taken most n buffer at w r e =
-    answers_then (begin empty) server.state next.state w.bodies e.given old.sink mid.sink seen.sink w.answers e.answers
+abbrev all_answers : {ahead : Bool} (old mid seen : Streams) (server next : Serving) (taken most : ℕ) (piece : List ℕ) (at : FaultAt) (w : Going ahead old mid server taken most) (e : TakesPiece ahead server next piece (HasFault at) mid.sink seen.sink) →
+    AnswersBodies (begin empty) (w.seen ++ looked ahead e.given) next.state old.sink seen.sink
+all_answers {ahead = ahead} old mid seen server next taken most piece at w e =
+    answers_then (begin empty) server.state next.state w.seen (looked ahead e.given) old.sink mid.sink seen.sink w.answers e.answers
 
 -- the output of the bytes up to the fault
-abbrev faulty_output : (old mid seen : Streams) (server next : Serving) (taken most n : ℕ) (buffer : List ℕ) (at : FaultAt) (w : Going old mid server taken most) (r : Read old mid seen server taken most n buffer w) (e : TakesPiece server next (take n buffer) (HasFault at) mid.sink seen.sink) → Output
-faulty_output old mid seen server next taken most n buffer at w r e =
-    record { messages = (all_answers old mid seen server next taken most n buffer at w r e).session.messages; exit = None; end = fault e.end.0 at.offset }
+abbrev faulty_output : {ahead : Bool} (old mid seen : Streams) (server next : Serving) (taken most : ℕ) (piece : List ℕ) (at : FaultAt) (w : Going ahead old mid server taken most) (e : TakesPiece ahead server next piece (HasFault at) mid.sink seen.sink) → Output
+faulty_output old mid seen server next taken most piece at w e =
+    record { messages = (all_answers old mid seen server next taken most piece at w e).session.messages; exit = None; end = fault e.end.0 at.offset }
 
-is_faulty_output : (old mid seen : Streams) (server next : Serving) (taken most n : ℕ) (buffer : List ℕ) (at : FaultAt) (w : Going old mid server taken most) (r : Read old mid seen server taken most n buffer w) (e : TakesPiece server next (take n buffer) (HasFault at) mid.sink seen.sink) →
-    IsOutputOf (w.bytes ++ take n buffer) (faulty_output old mid seen server next taken most n buffer at w r e)
-is_faulty_output old mid seen server next taken most n buffer at w r e =
-    let answers = all_answers old mid seen server next taken most n buffer at w r e in
-    record {
-      bodies = w.bodies ++ e.given;
-      frames = frames_so_far (w.bytes ++ take n buffer) (w.bodies ++ e.given) next.frames (fault e.end.0 at.offset) (e.feeds w.bytes w.bodies w.after) e.end.1;
-      answered = answers.session.answered;
-      exits = sym answers.session.ends;
-    }
+is_faulty_output : {ahead : Bool} (old mid seen : Streams) (server next : Serving) (taken most : ℕ) (piece : List ℕ) (at : FaultAt) (w : Going ahead old mid server taken most) (e : TakesPiece ahead server next piece (HasFault at) mid.sink seen.sink) →
+    IsOutputBy ahead (w.pieces ++ piece ∷ []) (faulty_output old mid seen server next taken most piece at w e)
+is_faulty_output old mid seen server next taken most piece at w e =
+    let answers = all_answers old mid seen server next taken most piece at w e in
+    output_then old mid server taken most piece e.given w (faulty_output old mid seen server next taken most piece at w e)
+    (frames_so_far (w.bytes ++ piece) (w.bodies ++ e.given) next.frames (fault e.end.0 at.offset) (e.feeds w.bytes w.bodies w.after) e.end.1) answers.session.answered answers.session.ends
 
 -- the frames of messages and of the farewell
 farewell_frames : (messages : List Reply) (number offset : ℕ) (kind : Fault) → number ≡ fault_number kind → frames_of messages ++ frame_of_reply (fault_log number offset) ≡ frames_of (messages ++ fault_log (fault_number kind) offset ∷ [])
@@ -155,27 +182,26 @@ farewell_frames messages number offset kind is =
     ∙ sym (frames_more messages (fault_log (fault_number kind) offset ∷ []))
 
 -- the farewell is written
-pub farewell_written : {before now : ℕ} (old mid seen : Streams) (sink : SinkSeen) (server next : Serving) (taken most n : ℕ) (buffer : List ℕ) (at : FaultAt) (w : Going old mid server taken most) →
-    Read old mid seen server taken most n buffer w →
-    TakesPiece server next (take n buffer) (HasFault at) mid.sink seen.sink → Prints seen.sink sink (frame_of_reply (fault_log at.number at.offset)) → CountsAll (w.bytes ++ take n buffer) before now → (AreQuiet (w.bytes ++ take n buffer) → now ≡ before) →
-    Serves old (record { source = seen.source; sink = sink }) before now FrameFault
-farewell_written old mid seen sink server next taken most n buffer at w r e p counted uncounted =
-    let answers = all_answers old mid seen server next taken most n buffer at w r e in
+pub farewell_written : {ahead : Bool} {before now : ℕ} (old mid seen : Streams) (sink : SinkSeen) (server next : Serving) (taken most : ℕ) (piece : List ℕ) (at : FaultAt) (w : Going ahead old mid server taken most) → Read old mid seen server taken most piece w →
+    TakesPiece ahead server next piece (HasFault at) mid.sink seen.sink → Prints seen.sink sink (frame_of_reply (fault_log at.number at.offset)) → CountsAllBy ahead (w.pieces ++ piece ∷ []) before now → (AreQuiet (w.bytes ++ piece) → now ≡ before) →
+    ServesBy ahead old (record { source = seen.source; sink = sink }) before now FrameFault
+farewell_written old mid seen sink server next taken most piece at w r e p counted uncounted =
+    let answers = all_answers old mid seen server next taken most piece at w e in
     record {
       ends = record {
-        bytes = w.bytes ++ take n buffer;
+        pieces = w.pieces ++ piece ∷ [];
         taken = r.takes;
         source = (
           r.on,
-          before_written old mid seen server taken most n buffer w r _ sink (Appends-trans mid.sink.taken seen.sink.taken sink.taken _ _ e.answers.prints.printed p.printed)
+          before_written old mid server taken most piece w _ sink (Appends-trans mid.sink.taken seen.sink.taken sink.taken _ _ e.answers.prints.printed p.printed)
               (calls_then mid.sink.writes seen.sink.writes sink.writes _ _ e.answers.prints.calls.take p.calls.take),
         );
         session = (
-          few_bytes old mid seen server taken most n buffer w r,
+          few_bytes old mid seen server taken most piece w r,
           record {
             writes = record {
-              output = faulty_output old mid seen server next taken most n buffer at w r e;
-              is = is_faulty_output old mid seen server next taken most n buffer at w r e;
+              output = faulty_output old mid seen server next taken most piece at w e;
+              is = is_faulty_output old mid seen server next taken most piece at w e;
               prints = subst (Prints old.sink sink) (farewell_frames answers.session.messages at.number at.offset e.end.0 e.end.2)
                   (prints_then old.sink seen.sink sink (frames_of answers.session.messages) (frame_of_reply (fault_log at.number at.offset)) answers.prints p);
             };
@@ -185,178 +211,161 @@ farewell_written old mid seen sink server next taken most n buffer at w r e p co
         );
       };
       counted = counted;
-      uncounted = uncounted;
+      uncounted = quiet_then old mid server taken most piece w uncounted;
     }
 
 -- a write of the farewell fails
-pub farewell_cut : {before now : ℕ} (old mid seen : Streams) (sink : SinkSeen) (server next : Serving) (taken most n : ℕ) (buffer : List ℕ) (at : FaultAt) (w : Going old mid server taken most) →
-    Read old mid seen server taken most n buffer w →
-    TakesPiece server next (take n buffer) (HasFault at) mid.sink seen.sink → PrintsFront seen.sink sink (frame_of_reply (fault_log at.number at.offset)) → CountsAll (w.bytes ++ take n buffer) before now → (AreQuiet (w.bytes ++ take n buffer) → now ≡ before) →
-    Serves old (record { source = seen.source; sink = sink }) before now WriteFailed
-farewell_cut old mid seen sink server next taken most n buffer at w r e p counted uncounted =
-    let answers = all_answers old mid seen server next taken most n buffer at w r e in
-    let output = faulty_output old mid seen server next taken most n buffer at w r e in
-    let is = is_faulty_output old mid seen server next taken most n buffer at w r e in
+pub farewell_cut : {ahead : Bool} {before now : ℕ} (old mid seen : Streams) (sink : SinkSeen) (server next : Serving) (taken most : ℕ) (piece : List ℕ) (at : FaultAt) (w : Going ahead old mid server taken most) → Read old mid seen server taken most piece w →
+    TakesPiece ahead server next piece (HasFault at) mid.sink seen.sink → PrintsFront seen.sink sink (frame_of_reply (fault_log at.number at.offset)) → CountsAllBy ahead (w.pieces ++ piece ∷ []) before now → (AreQuiet (w.bytes ++ piece) → now ≡ before) →
+    ServesBy ahead old (record { source = seen.source; sink = sink }) before now WriteFailed
+farewell_cut old mid seen sink server next taken most piece at w r e p counted uncounted =
+    let answers = all_answers old mid seen server next taken most piece at w e in
+    let output = faulty_output old mid seen server next taken most piece at w e in
+    let is = is_faulty_output old mid seen server next taken most piece at w e in
     let prints : PrintsFront old.sink sink (frames_of (written output)) = subst (PrintsFront old.sink sink) (farewell_frames answers.session.messages at.number at.offset e.end.0 e.end.2)
     (front_after old.sink seen.sink sink (frames_of answers.session.messages) (frame_of_reply (fault_log at.number at.offset)) answers.prints p) in
     record {
       ends = record {
-        bytes = w.bytes ++ take n buffer;
+        pieces = w.pieces ++ piece ∷ [];
         taken = r.takes;
         source = (
           r.on,
-          before_written old mid seen server taken most n buffer w r _ sink (Appends-trans mid.sink.taken seen.sink.taken sink.taken _ _ e.answers.prints.printed p.printed)
+          before_written old mid server taken most piece w _ sink (Appends-trans mid.sink.taken seen.sink.taken sink.taken _ _ e.answers.prints.printed p.printed)
               (calls_then mid.sink.writes seen.sink.writes sink.writes _ _ e.answers.prints.calls.take (last_none_all seen.sink.writes sink.writes _ p.calls)),
         );
-        session = (few_bytes old mid seen server taken most n buffer w r, record { messages = written output; begin = inr (output, is, refl); prints = prints });
+        session = (few_bytes old mid seen server taken most piece w r, record { messages = written output; begin = inr (output, is, refl); prints = prints });
       };
       counted = record { messages = written output; begin = inr (output, is, refl, counted); prints = prints };
-      uncounted = uncounted;
+      uncounted = quiet_then old mid server taken most piece w uncounted;
     }
 
 -- memory runs out in the farewell
-pub farewell_lost : {before now : ℕ} (old mid seen : Streams) (sink : SinkSeen) (server next : Serving) (taken most n : ℕ) (buffer : List ℕ) (at : FaultAt) (w : Going old mid server taken most) →
-    Read old mid seen server taken most n buffer w →
-    TakesPiece server next (take n buffer) (HasFault at) mid.sink seen.sink → PrintsPart seen.sink sink (frame_of_reply (fault_log at.number at.offset)) → (AreQuiet (w.bytes ++ take n buffer) → now ≡ before) →
-    Serves old (record { source = seen.source; sink = sink }) before now NoMemory
-farewell_lost old mid seen sink server next taken most n buffer at w r e p uncounted =
-    let answers = all_answers old mid seen server next taken most n buffer at w r e in
-    let output = faulty_output old mid seen server next taken most n buffer at w r e in
+pub farewell_lost : {ahead : Bool} {before now : ℕ} (old mid seen : Streams) (sink : SinkSeen) (server next : Serving) (taken most : ℕ) (piece : List ℕ) (at : FaultAt) (w : Going ahead old mid server taken most) → Read old mid seen server taken most piece w →
+    TakesPiece ahead server next piece (HasFault at) mid.sink seen.sink → PrintsPart seen.sink sink (frame_of_reply (fault_log at.number at.offset)) → (AreQuiet (w.bytes ++ piece) → now ≡ before) →
+    ServesBy ahead old (record { source = seen.source; sink = sink }) before now NoMemory
+farewell_lost old mid seen sink server next taken most piece at w r e p uncounted =
+    let answers = all_answers old mid seen server next taken most piece at w e in
+    let output = faulty_output old mid seen server next taken most piece at w e in
     record {
       ends = record {
-        bytes = w.bytes ++ take n buffer;
+        pieces = w.pieces ++ piece ∷ [];
         taken = r.takes;
         source = r.on;
         session = (
-          few_bytes old mid seen server taken most n buffer w r,
+          few_bytes old mid seen server taken most piece w r,
           record {
             messages = written output;
-            begin = inr (output, is_faulty_output old mid seen server next taken most n buffer at w r e, refl);
+            begin = inr (output, is_faulty_output old mid seen server next taken most piece at w e, refl);
             prints = subst (PrintsPart old.sink sink) (farewell_frames answers.session.messages at.number at.offset e.end.0 e.end.2)
                 (part_after old.sink seen.sink sink (frames_of answers.session.messages) (frame_of_reply (fault_log at.number at.offset)) answers.prints p);
           },
         );
       };
       counted = tt;
-      uncounted = uncounted;
+      uncounted = quiet_then old mid server taken most piece w uncounted;
     }
 
 -- ---- a part of the piece is answered
 
 -- memory runs out while a body of the piece is answered
-piece_memory : {before now : ℕ} (old mid new : Streams) (server next : Serving) (taken most n : ℕ) (buffer : List ℕ) (w : Going old mid server taken most) → Read old mid new server taken most n buffer w →
-    AnswersInPiece server next (take n buffer) (PrintsPart mid.sink new.sink) → (AreQuiet (w.bytes ++ take n buffer) → now ≡ before) → Serves old new before now NoMemory
-piece_memory old mid new server next taken most n buffer w r e uncounted =
-    let all = frames_then old mid new server next taken most n buffer e.given w r e.feeds in
-    let some = part_follows (begin empty) server.state w.bodies e.given old.sink mid.sink new.sink w.answers e.answers in
-    record {
-      ends = record {
-        bytes = w.bytes ++ take n buffer;
-        taken = r.takes;
-        source = r.on;
-        session = (
-          few_bytes old mid new server taken most n buffer w r,
-          record {
-            messages = some.messages;
-            begin = inl (record {
-              bodies = some.first;
-              later = some.later;
-              end = all.0;
-              frames = subst (λ (bodies : List (List ℕ)). IsFrames (w.bytes ++ take n buffer) bodies all.0) some.split all.1;
-              answered = some.answered;
-            });
-            prints = some.prints;
-          },
-        );
-      };
-      counted = tt;
-      uncounted = uncounted;
-    }
-
--- memory runs out before a body of the piece is answered
-no_memory : {before now : ℕ} (old mid new : Streams) (server : Serving) (taken most n : ℕ) (buffer : List ℕ) (w : Going old mid server taken most) → Read old mid new server taken most n buffer w → new.sink ≡ mid.sink →
-    (AreQuiet (w.bytes ++ take n buffer) → now ≡ before) → Serves old new before now NoMemory
-no_memory old mid new server taken most n buffer w r same uncounted =
-    let all = every_reading (w.bytes ++ take n buffer) in
-    let more = bodies_grow w.bytes (take n buffer) w.bodies all.0 (rest w.kept) all.1 (going_frames old mid server taken most w) all.2 in
-    record {
-      ends = record {
-        bytes = w.bytes ++ take n buffer;
-        taken = r.takes;
-        source = r.on;
-        session = (
-          few_bytes old mid new server taken most n buffer w r,
-          record {
-            messages = w.answers.session.messages;
-            begin = inl (record {
-              bodies = w.bodies;
-              later = more.0;
-              end = all.1;
-              frames = subst (λ (bodies : List (List ℕ)). IsFrames (w.bytes ++ take n buffer) bodies all.1) more.1 all.2;
-              answered = w.answers.session.answered;
-            });
-            prints = subst (λ (sink : SinkSeen). PrintsPart old.sink sink (frames_of w.answers.session.messages)) (sym same) (whole_part old.sink mid.sink (frames_of w.answers.session.messages) w.answers.prints);
-          },
-        );
-      };
-      counted = tt;
-      uncounted = uncounted;
-    }
-
-pub piece_lost : {before now : ℕ} (old mid new : Streams) (server next : Serving) (taken most n : ℕ) (buffer : List ℕ) (w : Going old mid server taken most) → Read old mid new server taken most n buffer w →
-    AnswersInPiece server next (take n buffer) (PrintsPart mid.sink new.sink) ⊎ (new.sink ≡ mid.sink) → (AreQuiet (w.bytes ++ take n buffer) → now ≡ before) → Serves old new before now NoMemory
-piece_lost old mid new server next taken most n buffer w r (inl some) uncounted = piece_memory old mid new server next taken most n buffer w r some uncounted
-piece_lost old mid new server next taken most n buffer w r (inr same) uncounted = no_memory old mid new server taken most n buffer w r same uncounted
-
--- a write fails while a body of the piece is answered
-pub piece_cut : {before now : ℕ} (old mid new : Streams) (server next : Serving) (taken most n : ℕ) (buffer : List ℕ) (w : Going old mid server taken most) → Read old mid new server taken most n buffer w →
-    AnswersInPiece server next (take n buffer) (PrintsFront mid.sink new.sink) → WritesFront (CountsBegin (w.bytes ++ take n buffer) before now) old.sink new.sink → (AreQuiet (w.bytes ++ take n buffer) → now ≡ before) → Serves old new before now WriteFailed
-piece_cut old mid new server next taken most n buffer w r e counted uncounted =
-    let all = frames_then old mid new server next taken most n buffer e.given w r e.feeds in
+piece_memory : {ahead : Bool} {before now : ℕ} (old mid new : Streams) (server next : Serving) (taken most : ℕ) (piece : List ℕ) (w : Going ahead old mid server taken most) → Read old mid new server taken most piece w →
+    AnswersInPiece ahead server next piece (PrintsPart mid.sink new.sink) → (AreQuiet (w.bytes ++ piece) → now ≡ before) → ServesBy ahead old new before now NoMemory
+piece_memory {ahead = ahead} old mid new server next taken most piece w r e uncounted =
+    let all = frames_then old mid server next taken most piece e.given w e.feeds in
     let first = w.answers.session.messages in
     let some = e.answers in
     record {
       ends = record {
-        bytes = w.bytes ++ take n buffer;
+        pieces = w.pieces ++ piece ∷ [];
         taken = r.takes;
-        source = (r.on, before_written old mid new server taken most n buffer w r _ new.sink some.prints.printed (last_none_all mid.sink.writes new.sink.writes _ some.prints.calls));
+        source = r.on;
         session = (
-          few_bytes old mid new server taken most n buffer w r,
+          few_bytes old mid new server taken most piece w r,
           record {
             messages = first ++ some.messages;
-            begin = inl (record {
-              bodies = w.bodies ++ some.first;
-              later = some.later;
-              end = all.0;
-              frames = subst (λ (bodies : List (List ℕ)). IsFrames (w.bytes ++ take n buffer) bodies all.0) (ap (λ (given : List (List ℕ)). w.bodies ++ given) some.split ∙ sym (append_assoc w.bodies some.first some.later)) all.1;
-              answered = are_first (begin empty) server.state w.bodies some.first old.sink mid.sink some.messages w.answers some.answered;
-            });
+            begin = inl (first_in old mid server taken most piece e.given w all.0 some.first some.later (first ++ some.messages) all.1 some.split
+                (are_first (begin empty) server.state w.seen some.first old.sink mid.sink some.messages w.answers some.answered));
+            prints = subst (PrintsPart old.sink new.sink) (sym (frames_more first some.messages)) (part_after old.sink mid.sink new.sink (frames_of first) (frames_of some.messages) w.answers.prints some.prints);
+          },
+        );
+      };
+      counted = tt;
+      uncounted = quiet_then old mid server taken most piece w uncounted;
+    }
+
+-- memory runs out before a body of the piece is answered
+no_memory : {ahead : Bool} {before now : ℕ} (old mid new : Streams) (server : Serving) (taken most : ℕ) (piece : List ℕ) (w : Going ahead old mid server taken most) → Read old mid new server taken most piece w → new.sink ≡ mid.sink →
+    (AreQuiet (w.bytes ++ piece) → now ≡ before) → ServesBy ahead old new before now NoMemory
+no_memory {ahead = ahead} old mid new server taken most piece w r same uncounted =
+    let all = every_reading (w.bytes ++ piece) in
+    let more = bodies_grow w.bytes piece w.bodies all.0 (rest w.kept) all.1 (going_frames old mid server taken most w) all.2 in
+    let messages = w.answers.session.messages in
+    record {
+      ends = record {
+        pieces = w.pieces ++ piece ∷ [];
+        taken = r.takes;
+        source = r.on;
+        session = (
+          few_bytes old mid new server taken most piece w r,
+          record {
+            messages = messages;
+            begin = inl (first_in old mid server taken most piece more.0 w all.1 [] (looked ahead more.0) messages (subst (λ (bodies : List (List ℕ)). IsFrames (w.bytes ++ piece) bodies all.1) more.1 all.2) refl
+                (subst (λ (bodies : List Looked). AreReplies (looked_from (begin empty) bodies).replies messages) (sym (append-nil w.seen)) w.answers.session.answered));
+            prints = subst (λ (sink : SinkSeen). PrintsPart old.sink sink (frames_of messages)) (sym same) (whole_part old.sink mid.sink (frames_of messages) w.answers.prints);
+          },
+        );
+      };
+      counted = tt;
+      uncounted = quiet_then old mid server taken most piece w uncounted;
+    }
+
+pub piece_lost : {ahead : Bool} {before now : ℕ} (old mid new : Streams) (server next : Serving) (taken most : ℕ) (piece : List ℕ) (w : Going ahead old mid server taken most) → Read old mid new server taken most piece w →
+    AnswersInPiece ahead server next piece (PrintsPart mid.sink new.sink) ⊎ (new.sink ≡ mid.sink) → (AreQuiet (w.bytes ++ piece) → now ≡ before) → ServesBy ahead old new before now NoMemory
+piece_lost old mid new server next taken most piece w r (inl some) uncounted = piece_memory old mid new server next taken most piece w r some uncounted
+piece_lost old mid new server next taken most piece w r (inr same) uncounted = no_memory old mid new server taken most piece w r same uncounted
+
+-- a write fails while a body of the piece is answered
+pub piece_cut : {ahead : Bool} {before now : ℕ} (old mid new : Streams) (server next : Serving) (taken most : ℕ) (piece : List ℕ) (w : Going ahead old mid server taken most) → Read old mid new server taken most piece w →
+    AnswersInPiece ahead server next piece (PrintsFront mid.sink new.sink) → WritesFront (CountsBeginBy ahead (w.pieces ++ piece ∷ []) before now) old.sink new.sink → (AreQuiet (w.bytes ++ piece) → now ≡ before) → ServesBy ahead old new before now WriteFailed
+piece_cut old mid new server next taken most piece w r e counted uncounted =
+    let all = frames_then old mid server next taken most piece e.given w e.feeds in
+    let first = w.answers.session.messages in
+    let some = e.answers in
+    record {
+      ends = record {
+        pieces = w.pieces ++ piece ∷ [];
+        taken = r.takes;
+        source = (r.on, before_written old mid server taken most piece w _ new.sink some.prints.printed (last_none_all mid.sink.writes new.sink.writes _ some.prints.calls));
+        session = (
+          few_bytes old mid new server taken most piece w r,
+          record {
+            messages = first ++ some.messages;
+            begin = inl (first_in old mid server taken most piece e.given w all.0 some.first some.later (first ++ some.messages) all.1 some.split
+                (are_first (begin empty) server.state w.seen some.first old.sink mid.sink some.messages w.answers some.answered));
             prints = subst (PrintsFront old.sink new.sink) (sym (frames_more first some.messages)) (front_after old.sink mid.sink new.sink (frames_of first) (frames_of some.messages) w.answers.prints some.prints);
           },
         );
       };
       counted = counted;
-      uncounted = uncounted;
+      uncounted = quiet_then old mid server taken most piece w uncounted;
     }
 
 -- memory runs out before anything is read
-pub nothing_served : (a : Streams) (now : ℕ) → Serves a a now now NoMemory
-nothing_served a now =
-    let all = every_reading [] in
-    record {
-      ends = record {
-        bytes = [];
-        taken = takes_none a.source.left;
-        source = reads_none a.source;
-        session = (
-          omega arith,
-          record {
-            messages = [];
-            begin = inl (record { bodies = []; later = all.0; end = all.1; frames = all.2; answered = refl });
-            prints = whole_part a.sink a.sink [] (prints_nothing a.sink);
-          },
-        );
-      };
-      counted = tt;
-      uncounted = λ q. refl;
-    }
+pub nothing_served : (ahead : Bool) (a : Streams) (now : ℕ) → ServesBy ahead a a now now NoMemory
+nothing_served ahead a now = record {
+  ends = record {
+    pieces = [];
+    taken = pieces_whole a.source.left a.source.left [] (whole_none a.source.left);
+    source = reads_no_piece a.source;
+    session = (
+      omega arith,
+      record {
+        messages = [];
+        begin = inl (record { given = []; end = rest []; complete = written_again [] tt; first = []; later = []; split = refl; answered = refl });
+        prints = whole_part a.sink a.sink [] (prints_nothing a.sink);
+      },
+    );
+  };
+  counted = tt;
+  uncounted = λ q. refl;
+}

@@ -5,7 +5,7 @@ use Rattle.ls_outside.specs.Sources.{bytes_of, left_over, GotTakes}
 use Rattle.ls_outside.specs.declared.source.Got.TheVariants as got
 use Rattle.scheme_ls.specs.Reading.{TakesBytes}
 
-bytes_of-left_over : (rest : List ℕ) (pieces : List (List ℕ)) → bytes_of (left_over rest pieces) ≡ rest ++ bytes_of pieces
+pub bytes_of-left_over : (rest : List ℕ) (pieces : List (List ℕ)) → bytes_of (left_over rest pieces) ≡ rest ++ bytes_of pieces
 bytes_of-left_over [] pieces = refl
 bytes_of-left_over (byte ∷ bytes) pieces = refl
 

@@ -2,7 +2,7 @@
 use Rattle.std.proofs.Common.{◌≡◌, ℕ, suc, ◌+◌, ◌≤◌, List, [], ◌∷◌, ◌++◌, length, take, refl, sym, ap, ◌∙◌, append_assoc, append-nil, arith, length-append, subst}
 use Rattle.std.proofs.KnownBytes.{Appends-nil, Appends-trans}
 use Rattle.std.specs.Io.KnownBytes.{Appends}
-use Rattle.std.proofs.lemmas.List.{take-append-le}
+use Rattle.std.proofs.lemmas.List.{take-append-le, take_all}
 use Rattle.ls_outside.specs.Calls.{AllTake, LastTakesNone}
 use Rattle.ls_outside.specs.Counts.{Fails}
 use Rattle.ls_outside.proofs.CallLaws.{last_then, take_none, take_then}
@@ -30,6 +30,12 @@ second_front x y z count within = take_second x (y ++ z) count ∙ ap (λ (rest 
 -- nothing is printed
 pub prints_nothing : (a : SinkSeen) → Prints a a []
 prints_nothing a = record { printed = Appends-nil a.taken; no_fault = refl; calls = take_none a.writes }
+
+-- all of a print is a part of it
+pub whole_part : (a b : SinkSeen) (x : List ℕ) → Prints a b x → PrintsPart a b x
+whole_part a b x p =
+    let all = sym (take_all (length x) x (omega arith)) in
+    record { count = length x; part = omega arith; printed = subst (Appends a.taken b.taken) all p.printed; no_fault = p.no_fault; calls = subst (AllTake a.writes b.writes) all p.calls }
 
 -- memory runs out before anything is printed
 pub nothing_printed : (a : SinkSeen) (output : List ℕ) → PrintsPart a a output

@@ -1,16 +1,16 @@
 //! Answers the bodies of a session.
 ghost use Rattle.std.specs.Prelude.{◌≡◌, [], ◌∷◌};
 ghost use Rattle.std.specs.List.{AllByRecursion};
-ghost use Rattle.lsp_framing.specs.Taken.{contents};
-ghost use Rattle.session_core.specs.Stepped.{IsQuiet};
-ghost use Rattle.scheme_ls.specs.BodiesOutcome.{BodiesCountAs, BodiesEndAs, body_end_of};
+ghost use Rattle.scheme_ls.specs.BodiesOutcome.{BodiesCountAs, BodiesEndAs, IsQuietBody, body_end_of};
 ghost use Rattle.scheme_ls.specs.Prints.{sink_seen};
 ghost use Rattle.scheme_ls.specs.Statuses.{exit_status};
 
 use crate::replies::{WriteStop, write_replies};
 use crate::status::Status;
-use ls_base::Steps;
+use lookahead::{Bodies, Next};
+use ls_base::{Memory, Steps};
 use ls_outside::Sink;
+use lsp_messages::Id;
 use session_core::Session;
 use std::alloc::Global;
 use std::sync::ledger::Ledger;
@@ -60,23 +60,24 @@ fn body_end(exit: Option<u8>) -> BodiesEnd
     }
 }
 
-/// Takes a body and writes what answers it.
+/// Takes a body, which may be cancelled by its id, and writes what answers it.
 fn answer_body<O: Sink, L: Ledger>(
     alloc: Global,
     session: &mut Session,
     body: &[u8],
+    cancelled: Option<Id>,
     output: &mut O,
     steps: &mut Steps<L>,
 ) -> BodiesEnd
-    ensures answers { BodiesEndAs session.old (body.now ∷ []) session.new
+    ensures answers { BodiesEndAs session.old ((body.now, cancelled) ∷ []) session.new
         (sink_seen (O.taken output.old) (O.faults output.old) (O.writes output.old))
         (sink_seen (O.taken output.new) (O.faults output.new) (O.writes output.new)) result }
-    ensures counted { BodiesCountAs session.old (body.now ∷ [])
+    ensures counted { BodiesCountAs session.old ((body.now, cancelled) ∷ [])
         (sink_seen (O.taken output.old) (O.faults output.old) (O.writes output.old))
         (sink_seen (O.taken output.new) (O.faults output.new) (O.writes output.new)) steps.old steps.new result }
-    ensures steps { IsQuiet body.now → steps.new ≡ steps.old }
+    ensures steps { IsQuietBody (body.now, cancelled) → steps.new ≡ steps.old }
 {
-    let Ok(out) = session.on_body(body, steps) else {
+    let Ok(out) = session.on_ahead(body, cancelled, steps) else {
         return BodiesEnd::NoMemory;
     };
     match write_replies(alloc, out.replies.as_slice(), output) {
@@ -90,25 +91,30 @@ fn answer_body<O: Sink, L: Ledger>(
 pub fn answer_bodies<O: Sink, L: Ledger>(
     alloc: Global,
     session: &mut Session,
-    bodies: &[Vec<u8>],
+    mut bodies: Bodies,
     output: &mut O,
     steps: &mut Steps<L>,
 ) -> BodiesEnd
-    ensures answers { BodiesEndAs session.old (contents bodies.now) session.new
+    ensures answers { BodiesEndAs session.old bodies session.new
         (sink_seen (O.taken output.old) (O.faults output.old) (O.writes output.old))
         (sink_seen (O.taken output.new) (O.faults output.new) (O.writes output.new)) result }
-    ensures counted { BodiesCountAs session.old (contents bodies.now)
+    ensures counted { BodiesCountAs session.old bodies
         (sink_seen (O.taken output.old) (O.faults output.old) (O.writes output.old))
         (sink_seen (O.taken output.new) (O.faults output.new) (O.writes output.new)) steps.old steps.new result }
-    ensures steps { AllByRecursion IsQuiet (contents bodies.now) → steps.new ≡ steps.old }
+    ensures steps { AllByRecursion IsQuietBody bodies → steps.new ≡ steps.old }
 {
-    for body in bodies {
-        match answer_body(alloc, session, body, output, steps) {
-            BodiesEnd::Answered => {}
-            BodiesEnd::Exited(exit) => return BodiesEnd::Exited(exit),
-            BodiesEnd::WriteFailed => return BodiesEnd::WriteFailed,
-            BodiesEnd::NoMemory => return BodiesEnd::NoMemory,
+    loop {
+        match bodies.next() {
+            Ok(Some(Next { body, cancelled })) => {
+                match answer_body(alloc, session, &body, cancelled, output, steps) {
+                    BodiesEnd::Answered => {}
+                    BodiesEnd::Exited(exit) => return BodiesEnd::Exited(exit),
+                    BodiesEnd::WriteFailed => return BodiesEnd::WriteFailed,
+                    BodiesEnd::NoMemory => return BodiesEnd::NoMemory,
+                }
+            }
+            Ok(None) => return BodiesEnd::Answered,
+            Err(Memory) => return BodiesEnd::NoMemory,
         }
     }
-    BodiesEnd::Answered
 }

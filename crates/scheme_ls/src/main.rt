@@ -8,6 +8,7 @@ ghost use Rattle.scheme_ls.specs.RunOutcome.{RunEnds, seen};
 ghost use Rattle.command_words.specs.Words.{texts};
 ghost use Rattle.file_fetching.specs.FilesSeen.{files_seen};
 
+pub mod ahead_laws;
 mod alone;
 mod answering;
 mod arrows;

@@ -4,6 +4,7 @@ ghost use Rattle.std.specs.Prelude.{◌≡◌, Some, []};
 ghost use Rattle.ls_base.specs.Frames.{rest};
 ghost use Rattle.lsp_framing.specs.Deframed.{After};
 ghost use Rattle.scheme_model.specs.Session.{begin};
+ghost use Rattle.scheme_ls.specs.AheadOutcome.{ServesAhead, ServesBy};
 ghost use Rattle.scheme_ls.specs.Prints.{sink_seen};
 ghost use Rattle.scheme_ls.specs.Reading.{source_seen};
 ghost use Rattle.scheme_ls.specs.ServeOutcome.{Serves};
@@ -77,6 +78,39 @@ pub fn serve<I: Source, O: Sink, L: Ledger>(
         (streams (source_seen (I.left input.new) (I.faults input.new) (I.reads input.new))
         (sink_seen (O.taken output.new) (O.faults output.new) (O.writes output.new))) steps.old steps.new result }
 {
+    serve_by(alloc, false, input, output, steps)
+}
+
+/// The same, but the bodies that a piece completes are looked at ahead, so that one can cancel a request before it.
+pub fn serve_ahead<I: Source, O: Sink, L: Ledger>(
+    alloc: Global,
+    input: &mut I,
+    output: &mut O,
+    steps: &mut Steps<L>,
+) -> SessionEnd
+    ensures { ServesAhead
+        (streams (source_seen (I.left input.old) (I.faults input.old) (I.reads input.old))
+        (sink_seen (O.taken output.old) (O.faults output.old) (O.writes output.old)))
+        (streams (source_seen (I.left input.new) (I.faults input.new) (I.reads input.new))
+        (sink_seen (O.taken output.new) (O.faults output.new) (O.writes output.new))) steps.old steps.new result }
+{
+    serve_by(alloc, true, input, output, steps)
+}
+
+/// A session that looks ahead or doesn't.
+fn serve_by<I: Source, O: Sink, L: Ledger>(
+    alloc: Global,
+    ahead: bool,
+    input: &mut I,
+    output: &mut O,
+    steps: &mut Steps<L>,
+) -> SessionEnd
+    ensures { ServesBy ahead
+        (streams (source_seen (I.left input.old) (I.faults input.old) (I.reads input.old))
+        (sink_seen (O.taken output.old) (O.faults output.old) (O.writes output.old)))
+        (streams (source_seen (I.left input.new) (I.faults input.new) (I.reads input.new))
+        (sink_seen (O.taken output.new) (O.faults output.new) (O.writes output.new))) steps.old steps.new result }
+{
     let Ok(session) = Session::new(alloc) else {
         return SessionEnd::NoMemory;
     };
@@ -85,12 +119,13 @@ pub fn serve<I: Source, O: Sink, L: Ledger>(
         session,
         alloc,
     };
-    answer_input(&mut server, input, output, steps)
+    answer_input(&mut server, ahead, input, output, steps)
 }
 
 /// Takes the input piece by piece with a server that has taken nothing yet.
 fn answer_input<I: Source, O: Sink, L: Ledger>(
     server: &mut Server,
+    ahead: bool,
     input: &mut I,
     output: &mut O,
     steps: &mut Steps<L>,
@@ -98,7 +133,7 @@ fn answer_input<I: Source, O: Sink, L: Ledger>(
     requires start { After [] [] server.old.deframer }
     requires end { server.old.deframer.end ≡ Some (rest []) }
     requires state { server.old.session ≡ begin empty }
-    ensures { Serves
+    ensures { ServesBy ahead
         (streams (source_seen (I.left input.old) (I.faults input.old) (I.reads input.old))
         (sink_seen (O.taken output.old) (O.faults output.old) (O.writes output.old)))
         (streams (source_seen (I.left input.new) (I.faults input.new) (I.reads input.new))
@@ -111,7 +146,7 @@ fn answer_input<I: Source, O: Sink, L: Ledger>(
         match input.read(&mut buf[..room]) {
             Got::Some(count) => {
                 taken += count as u64;
-                match server.take(&buf[..count], output, steps) {
+                match server.take(&buf[..count], ahead, output, steps) {
                     PieceEnd::Answered => {}
                     PieceEnd::Faulty(fault) => match say_farewell(server.alloc, fault, output) {
                         Ok(()) => return SessionEnd::FrameFault,

@@ -8,6 +8,7 @@ ghost use Rattle.scheme_ls.specs.SessionOutput.{fault_log};
 use crate::answering::{BodiesEnd, Exit, answer_bodies};
 use crate::replies::{WriteStop, write_reply};
 use crate::wording::fault_text;
+use lookahead::Bodies;
 use ls_base::{Items, Mem, Memory, Steps, Text};
 use ls_outside::Sink;
 use lsp_framing::{Deframer, FrameFault};
@@ -78,28 +79,29 @@ pub struct Server {
 }
 
 impl Server {
-    /// Takes bytes of the input and writes what answers the bodies that they complete.
+    /// Takes bytes of the input and writes what answers the bodies that they complete, which it looks at ahead or not.
     pub fn take<O: Sink, L: Ledger>(
         &mut self,
         piece: &[u8],
+        ahead: bool,
         output: &mut O,
         steps: &mut Steps<L>,
     ) -> PieceEnd
         requires { self.old.deframer.taken + length piece.now < 2 ^ 64 }
-        ensures takes { PieceEndsAs (serving self.old.deframer self.old.session) (serving self.new.deframer self.new.session)
+        ensures takes { PieceEndsAs ahead (serving self.old.deframer self.old.session) (serving self.new.deframer self.new.session)
             piece.now (sink_seen (O.taken output.old) (O.faults output.old) (O.writes output.old))
             (sink_seen (O.taken output.new) (O.faults output.new) (O.writes output.new)) result }
-        ensures counted { PieceCountsAs (serving self.old.deframer self.old.session) (serving self.new.deframer self.new.session)
+        ensures counted { PieceCountsAs ahead (serving self.old.deframer self.old.session) (serving self.new.deframer self.new.session)
             piece.now (sink_seen (O.taken output.old) (O.faults output.old) (O.writes output.old))
             (sink_seen (O.taken output.new) (O.faults output.new) (O.writes output.new)) steps.old steps.new result }
         ensures steps { IsQuietPiece self.old.deframer piece.now → steps.new ≡ steps.old }
     {
-        let Ok(cut) = cut_piece(&mut self.deframer, piece) else {
+        let Ok(Cut { bodies, fault }) = cut_piece(&mut self.deframer, piece) else {
             return PieceEnd::NoMemory;
         };
-        let bodies = cut.bodies.as_slice();
+        let bodies = Bodies::new(self.alloc, bodies.into_vec(), ahead);
         match answer_bodies(self.alloc, &mut self.session, bodies, output, steps) {
-            BodiesEnd::Answered => match cut.fault {
+            BodiesEnd::Answered => match fault {
                 None => PieceEnd::Answered,
                 Some(fault) => PieceEnd::Faulty(fault),
             },

@@ -7,6 +7,7 @@ use std::alloc::{AllocError, Global};
 
 /// What is printed where the words aren't a command.
 pub const USAGE: &str = "usage: scheme_ls serve
+       scheme_ls serve --ahead
        scheme_ls replay FILE
        scheme_ls arrows
        scheme_ls check FILE...

@@ -1,5 +1,5 @@
 -- The state of a session as contracts see it.
-use Rattle.std.specs.Prelude.{◌≡◌, ℕ, zero, suc, refl}
+use Rattle.std.specs.Prelude.{◌≡◌, ℕ, zero, suc, Bool, true, false, refl}
 use Rattle.std.specs.Coded.{Coded, code_by, coded×, coded_ℕ, coded_ℤ, coded_list}
 use Rattle.std.specs.FinMap.{code, empty}
 use Rattle.scheme_model.specs.Session.{State}
@@ -15,6 +15,11 @@ abbrev pub said_mode : Mode → session.Mode
 said_mode modes.Fresh = session.Fresh
 said_mode modes.Running = session.Running
 said_mode modes.Shut = session.Shut
+
+abbrev pub is_running : session.Mode → Bool
+is_running session.Fresh = false
+is_running session.Running = true
+is_running session.Shut = false
 
 -- the status with which `exit` ends the process (LSP 3.17, exit)
 abbrev pub exit_code : session.Ending → ℕ

@@ -1,7 +1,8 @@
-//! The replies that say nothing of programs (JSON-RPC 2.0 section 5.1; LSP 3.17, "Lifecycle Messages").
+//! The replies that say nothing of programs (JSON-RPC 2.0 section 5.1; LSP 3.17, "Lifecycle Messages" and "Cancellation Support").
 ghost use Rattle.std.specs.Prelude.{◌≡◌, ◌∷◌, ◌++◌, [], Some, None, IfOk};
 ghost use Rattle.std.specs.Option.{option_map};
 ghost use Rattle.scheme_model.specs.Session as session;
+ghost use Rattle.lookahead.specs.Ahead as ahead;
 ghost use Rattle.session_core.specs.FromWire.{said_encoding, said_id};
 ghost use Rattle.session_core.specs.Asked.{Question, IsAnswerTo};
 ghost use Rattle.session_core.specs.Stepped.{Says};
@@ -23,6 +24,8 @@ const INVALID_PARAMS: i32 = -32_602;
 const SERVER_NOT_INITIALIZED: i32 = -32_002;
 
 const REQUEST_FAILED: i32 = -32_803;
+
+const REQUEST_CANCELLED: i32 = -32_800;
 
 /// An error reply.
 fn error(alloc: Global, id: Option<Id>, code: i32, text: &str) -> Mem<Out>
@@ -71,6 +74,13 @@ pub fn not_initialized(alloc: Global, id: Id) -> Mem<Out>
         SERVER_NOT_INITIALIZED,
         wording::SERVER_NOT_INITIALIZED,
     )?)
+}
+
+/// The reply to a request that a notification behind it cancels.
+pub fn request_cancelled(alloc: Global, id: Id) -> Mem<Out>
+    ensures { IfOk result (λ out. Says out (ahead.request_cancelled (said_id id) ∷ [])) }
+{
+    Ok(error(alloc, Some(id), REQUEST_CANCELLED, wording::REQUEST_CANCELLED)?)
 }
 
 /// What the server can do.

@@ -1,6 +1,8 @@
 //! A session: what the server keeps, and what it does with each message (LSP 3.17, "Lifecycle Messages").
 ghost use Rattle.std.specs.Prelude.{◌≡◌, ◌≢◌, false, IfOk, OnOk, OnErr};
 ghost use Rattle.std.specs.FinMap.{empty};
+ghost use Rattle.std.specs.Option.{option_map};
+ghost use Rattle.lookahead.specs.Ahead.{cancelled_step, step_ahead};
 ghost use Rattle.scheme_model.specs.Session.{begin, evented, step};
 ghost use Rattle.scheme_model.specs.Session as spec;
 ghost use Rattle.workspace_state.specs.Events.{event_of};
@@ -9,6 +11,7 @@ ghost use Rattle.session_core.specs.Asked.{questions};
 ghost use Rattle.lsp_messages.specs.Messages.{message_of};
 ghost use Rattle.session_core.specs.Counted.{AreCounted};
 ghost use Rattle.session_core.specs.FromWire.{offsets, said_by, said_id, said_call, said_note, said_message, said_reject};
+ghost use Rattle.session_core.specs.States.{is_running};
 ghost use Rattle.session_core.specs.Stepped.{IsOutcome, IsStep, IsQuiet, expands, is_event, is_rename};
 
 use crate::Out;
@@ -18,7 +21,7 @@ use crate::out::{ended, silent};
 use crate::renames::on_rename;
 use crate::replies::{
     answered, capabilities, invalid_params, invalid_request, logged, method_not_found,
-    not_initialized, parse_error,
+    not_initialized, parse_error, request_cancelled,
 };
 use crate::wording::BAD_PARAMS;
 use ls_base::{Answer, Mem, Memory, Query, Steps, Text};
@@ -60,6 +63,55 @@ impl Session {
             workspace: Workspace::new(alloc)?,
             alloc,
         })
+    }
+
+    /// Whether the mode is running. It takes no memory.
+    pub fn running(&self) -> bool
+        ensures { result ≡ is_running self.now.mode }
+    {
+        matches!(self.mode, Mode::Running)
+    }
+
+    /// Takes the body of a message that is cancelled by its id, or isn't cancelled. While running a cancelled request is answered with the error
+    /// RequestCancelled and does nothing else. Where memory runs out nothing has changed.
+    pub fn on_ahead<L: Ledger>(
+        &mut self,
+        body: &[u8],
+        cancelled: Option<Id>,
+        steps: &mut Steps<L>,
+    ) -> Mem<Out>
+        ensures step { IfOk result (λ out. IsOutcome
+            (step_ahead offsets questions self.old (said_by (message_of body.now)) (option_map said_id cancelled)) out self.new) }
+        ensures kept { OnErr result (self.new ≡ self.old) }
+        ensures steps { IsQuiet body.now → steps.new ≡ steps.old }
+        ensures counted { OnOk result (AreCounted
+            (step_ahead offsets questions self.old (said_by (message_of body.now)) (option_map said_id cancelled)).replies steps.old steps.new) }
+    {
+        match cancelled {
+            Some(id) => Ok(self.on_cancelled(body, id, steps)?),
+            None => Ok(self.on_body(body, steps)?),
+        }
+    }
+
+    /// A request that is cancelled.
+    fn on_cancelled<L: Ledger>(
+        &mut self,
+        body: &[u8],
+        id: Id,
+        steps: &mut Steps<L>,
+    ) -> Mem<Out>
+        ensures step { IfOk result (λ out. IsOutcome
+            (cancelled_step self.old.mode self.old (said_id id) (step offsets questions self.old (said_by (message_of body.now)))) out self.new) }
+        ensures kept { OnErr result (self.new ≡ self.old) }
+        ensures steps { IsQuiet body.now → steps.new ≡ steps.old }
+        ensures counted { OnOk result (AreCounted
+            (cancelled_step self.old.mode self.old (said_id id) (step offsets questions self.old (said_by (message_of body.now)))).replies steps.old steps.new) }
+    {
+        if self.running() {
+            Ok(request_cancelled(self.alloc, id)?)
+        } else {
+            Ok(self.on_body(body, steps)?)
+        }
     }
 
     /// Takes the body of a message. Its shape is judged first, then the mode, then the method, then the parameters.

@@ -10,6 +10,8 @@ pub const INVALID_PARAMS: &str = "invalid params";
 
 pub const SERVER_NOT_INITIALIZED: &str = "server not initialized";
 
+pub const REQUEST_CANCELLED: &str = "request cancelled";
+
 /// Before the uri of a document that isn't open.
 pub const NOT_OPEN: &str = "not open: ";
 

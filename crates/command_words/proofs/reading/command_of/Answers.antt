@@ -1,10 +1,11 @@
-use Rattle.std.proofs.Common.{List, subst}
-use Rattle.command_words.specs.Commands.{CommandOf}
-use Rattle.command_words.specs.Words.{Word}
-use Rattle.command_words.proofs.Naming.{all_words}
+use Rattle.std.proofs.Common.{◌∙◌, sym}
+use Rattle.std.proofs.lemmas.Bool.{false≢true}
+use Rattle.command_words.specs.Words.{texts}
+use Rattle.command_words.proofs.AheadWords.{is_ahead, not_ahead}
 use Rattle.command_words.proofs.reading.command_of.Goals as goal
 
-pub returns-in_ok-command-in-len1-up : goal.returns-in_ok-command-in-len1-up
-returns-in_ok-command-in-len1-up c =
-    let P : List Word → Type 0 = λ ws. CommandOf ws c.in_ok-command-in-len1-up.command in
-    subst P (all_words c.args.words.now c.rest_of.result.now c.first-item.result c.as_str.result.now c.in-len1-up.len_at_least c.first-item.is c.as_str.ensures.value c.rest_of.ensures) c.in_ok-command-in-len1-up.ensures
+pub returns-then-is_ahead : goal.returns-then-is_ahead
+returns-then-is_ahead c = is_ahead (texts c.args.words.now) (c.is_ahead.ensures.0 c.if-is_ahead.true)
+
+pub returns-in_ok-command : goal.returns-in_ok-command
+returns-in_ok-command c = not_ahead (texts c.args.words.now) c.in_ok-command.command (λ ahead. false≢true (sym c.if-is_ahead.false ∙ c.is_ahead.ensures.1 ahead)) c.in_ok-command.ensures

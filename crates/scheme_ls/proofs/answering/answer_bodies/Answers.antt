@@ -1,142 +1,128 @@
-use Rattle.std.proofs.Common.{List, ℕ, [], ◌∷◌, ◌+◌, ◌≡◌, drop, refl, subst}
-use Rattle.std.proofs.lemmas.List.{drop_all}
-use Rattle.std.specs.declared.vec.Vec.{Vec}
-use Rattle.std.specs.declared.alloc.Global.{Global}
-use Rattle.lsp_framing.specs.Taken.{contents}
-use Rattle.scheme_ls.specs.BodiesOutcome.{AnswersBodies, AnswersSome, CountsSome, EndsSession}
-use Rattle.scheme_ls.specs.Prints.{PrintsFront, PrintsPart, sink_seen}
-use Rattle.scheme_ls.specs.Statuses.{said_exit}
-use Rattle.scheme_ls.proofs.Items.{at_item}
+use Rattle.std.proofs.Common.{◌≡◌, ◌≤◌, List, ℕ, suc, [], ◌∷◌, length, Option, Some, None, refl, sym, ap, ◌∙◌, subst, arith}
+use Rattle.lookahead.specs.Looked.{Gives, Looked}
+use Rattle.lookahead.specs.declared.window.Next.{Next}
 use Rattle.scheme_model.specs.Session.{State}
-use Rattle.session_core.specs.Counted.{AreCounted}
-use Rattle.session_core.specs.Stepped.{IsQuiet}
-use Rattle.scheme_ls.specs.SessionOutput.{session_from}
-use Rattle.scheme_ls.proofs.AnswerLaws.{QuietSoFar, quiet_more, so_far_all, so_far_ends, so_far_front, so_far_part}
+use Rattle.scheme_ls.specs.Prints.{SinkSeen, sink_seen}
+use Rattle.scheme_ls.specs.Statuses.{said_exit}
+use Rattle.scheme_ls.proofs.AnswerLaws.{QuietSoFar, quiet_more, so_far_all, so_far_ends, so_far_front, so_far_part, so_far_stops}
 use Rattle.scheme_ls.proofs.CountLaws.{CountedSoFar, counted_all, counted_ends, counted_more, counted_none, counted_some}
 use Rattle.scheme_ls.proofs.answering.answer_bodies.Goals as goal
 
--- the rest begins with a body
-quiet_at : (bodies : List (List ℕ)) {rest more : List (Vec ℕ Global)} {before now : ℕ} → rest ≡ more → QuietSoFar bodies (contents rest) before now → QuietSoFar bodies (contents more) before now
-quiet_at bodies {before = before} {now = now} same quiet = subst (λ (r : List (Vec ℕ Global)). QuietSoFar bodies (contents r) before now) same quiet
+-- the first of those that are left is given out
+given_some : (left : List Looked) (next : Next) (rest : List Looked) (bytes : List ℕ) → bytes ≡ next.body.items → Gives left (Some next) rest → left ≡ (bytes, next.cancelled) ∷ rest
+given_some [] next rest bytes is gives = absurd gives
+given_some (first ∷ later) next rest bytes is gives = λ j. (sym gives.0 ∙ λ k. (sym is k, next.cancelled)) j ∷ sym gives.1 j
 
-counted_body : {body bytes : List ℕ} (state : State) (before now : ℕ) → body ≡ bytes → AreCounted (session_from state (body ∷ [])).replies before now → AreCounted (session_from state (bytes ∷ [])).replies before now
-counted_body state before now same c = subst (λ (b : List ℕ). AreCounted (session_from state (b ∷ [])).replies before now) same c
+given : (left : List Looked) (found : Option Next) (next : Next) (rest : List Looked) (bytes : List ℕ) → found ≡ Some next → bytes ≡ next.body.items → Gives left found rest → left ≡ (bytes, next.cancelled) ∷ rest
+given left found next rest bytes some is gives = given_some left next rest bytes is (subst (λ (f : Option Next). Gives left f rest) some gives)
 
-quiet_body : {body bytes : List ℕ} {mid now : ℕ} → body ≡ bytes → (IsQuiet body → now ≡ mid) → IsQuiet bytes → now ≡ mid
-quiet_body {mid = mid} {now = now} same steps = subst (λ (b : List ℕ). IsQuiet b → now ≡ mid) same steps
+-- none is left
+given_none : (left rest : List Looked) → Gives left None rest → left ≡ []
+given_none [] rest gives = refl
+given_none (first ∷ later) rest gives = absurd gives
+
+none_given : (left : List Looked) (found : Option Next) (rest : List Looked) → found ≡ None → Gives left found rest → left ≡ []
+none_given left found rest none gives = given_none left rest (subst (λ (f : Option Next). Gives left f rest) none gives)
+
+counted_at : {state now : State} {all left rest : List Looked} {old new : SinkSeen} {before steps : ℕ} → left ≡ rest → CountedSoFar state all left now old new before steps → CountedSoFar state all rest now old new before steps
+counted_at {state = state} {now = now} {all = all} {old = old} {new = new} {before = before} {steps = steps} same w = subst (λ (r : List Looked). CountedSoFar state all r now old new before steps) same w
+
+quiet_at : (all left rest : List Looked) {before now : ℕ} → left ≡ rest → QuietSoFar all left before now → QuietSoFar all rest before now
+quiet_at all left rest {before = before} {now = now} same quiet = subst (λ (r : List Looked). QuietSoFar all r before now) same quiet
 
 pub loop-body-init : goal.loop-body-init
 loop-body-init g c = record { answered = counted_none _ _ _ _; quiet = λ q. (refl, q) }
 
 pub loop-body-preserved : goal.loop-body-preserved
 loop-body-preserved g c =
-    let all = c.args.bodies.now in
-    let i = c.loop-body.body-index in
     let old = sink_seen (g.O.Sink.taken c.args.output.now) (g.O.Sink.faults c.args.output.now) (g.O.Sink.writes c.args.output.now) in
     let mid = sink_seen (g.O.Sink.taken c.loop-body.output) (g.O.Sink.faults c.loop-body.output) (g.O.Sink.writes c.loop-body.output) in
     let new = sink_seen (g.O.Sink.taken c.answer_body.new.output) (g.O.Sink.faults c.answer_body.new.output) (g.O.Sink.writes c.answer_body.new.output) in
-    let now = subst (λ (rest : List (Vec ℕ Global)). CountedSoFar c.args.session.now (contents all) (contents rest) c.loop-body.session old mid c.args.steps.now c.loop-body.steps)
-    (at_item all i c.body-item.result c.loop-body-test.true c.body-item.is) c.loop-body.invariant.answered in
-    let one = subst (λ (body : List ℕ). AnswersBodies c.loop-body.session (body ∷ []) c.answer_body.new.session mid new) c.deref.ensures.value c.in-Answered.ensures.answers in
+    let left = given c.loop-body.bodies _ c.in-Ok-Some.field-0-0 c.next.new.self c.deref.result.now c.in-Ok-Some.field-0-is c.deref.ensures.value c.in-Ok-Some.ensures in
     record {
-      answered = counted_more _ _ _ (contents all) (contents (drop (i + 1) all)) c.body-item.result.items old mid new _ _ _ now one (counted_body _ _ _ c.deref.ensures.value c.in-Answered.ensures.counted);
-      quiet = quiet_more _ _ c.body-item.result.items _ _ _ (quiet_at (contents all) (at_item all i c.body-item.result c.loop-body-test.true c.body-item.is) c.loop-body.invariant.quiet)
-          (quiet_body c.deref.ensures.value c.in-Answered.ensures.steps);
+      answered = counted_more _ _ _ _ _ (c.deref.result.now, c.in-Ok-Some.field-0-0.cancelled) old mid new _ _ _ (counted_at left c.loop-body.invariant.answered) c.in-Answered.ensures.answers c.in-Answered.ensures.counted;
+      quiet = quiet_more _ _ (c.deref.result.now, c.in-Ok-Some.field-0-0.cancelled) _ _ _ (quiet_at c.args.bodies _ _ left c.loop-body.invariant.quiet) c.in-Answered.ensures.steps;
     }
+
+fewer : (left rest : List Looked) (body : Looked) → left ≡ body ∷ rest → suc (length rest) ≤ length left
+fewer left rest body same = let l = ap length same in omega arith
+
+pub loop-body-smaller : goal.loop-body-smaller
+loop-body-smaller g c =
+    fewer _ _ _ (given c.loop-body.bodies _ c.in-Ok-Some.field-0-0 c.next.new.self c.deref.result.now c.in-Ok-Some.field-0-is c.deref.ensures.value c.in-Ok-Some.ensures)
 
 pub returns-in-Exited-clause-answers : goal.returns-in-Exited-clause-answers
 returns-in-Exited-clause-answers g c =
-    let all = c.args.bodies.now in
-    let i = c.loop-body.body-index in
     let old = sink_seen (g.O.Sink.taken c.args.output.now) (g.O.Sink.faults c.args.output.now) (g.O.Sink.writes c.args.output.now) in
     let mid = sink_seen (g.O.Sink.taken c.loop-body.output) (g.O.Sink.faults c.loop-body.output) (g.O.Sink.writes c.loop-body.output) in
     let new = sink_seen (g.O.Sink.taken c.answer_body.new.output) (g.O.Sink.faults c.answer_body.new.output) (g.O.Sink.writes c.answer_body.new.output) in
-    let now = subst (λ (rest : List (Vec ℕ Global)). CountedSoFar c.args.session.now (contents all) (contents rest) c.loop-body.session old mid c.args.steps.now c.loop-body.steps)
-    (at_item all i c.body-item.result c.loop-body-test.true c.body-item.is) c.loop-body.invariant.answered in
-    let one = subst (λ (body : List ℕ). EndsSession c.loop-body.session (body ∷ []) (said_exit c.in-Exited.exit) mid new) c.deref.ensures.value c.in-Exited.ensures.answers in
-    so_far_ends _ _ (contents all) (contents (drop (i + 1) all)) c.body-item.result.items (said_exit c.in-Exited.exit) old mid new now.so_far one
+    let left = given c.loop-body.bodies _ c.in-Ok-Some.field-0-0 c.next.new.self c.deref.result.now c.in-Ok-Some.field-0-is c.deref.ensures.value c.in-Ok-Some.ensures in
+    so_far_ends _ _ _ _ (c.deref.result.now, c.in-Ok-Some.field-0-0.cancelled) (said_exit c.in-Exited.exit) old mid new (counted_at left c.loop-body.invariant.answered).so_far c.in-Exited.ensures.answers
 
 pub returns-in-WriteFailed-clause-answers : goal.returns-in-WriteFailed-clause-answers
 returns-in-WriteFailed-clause-answers g c =
-    let all = c.args.bodies.now in
-    let i = c.loop-body.body-index in
     let old = sink_seen (g.O.Sink.taken c.args.output.now) (g.O.Sink.faults c.args.output.now) (g.O.Sink.writes c.args.output.now) in
     let mid = sink_seen (g.O.Sink.taken c.loop-body.output) (g.O.Sink.faults c.loop-body.output) (g.O.Sink.writes c.loop-body.output) in
     let new = sink_seen (g.O.Sink.taken c.answer_body.new.output) (g.O.Sink.faults c.answer_body.new.output) (g.O.Sink.writes c.answer_body.new.output) in
-    let now = subst (λ (rest : List (Vec ℕ Global)). CountedSoFar c.args.session.now (contents all) (contents rest) c.loop-body.session old mid c.args.steps.now c.loop-body.steps)
-    (at_item all i c.body-item.result c.loop-body-test.true c.body-item.is) c.loop-body.invariant.answered in
-    let one = subst (λ (body : List ℕ). AnswersSome c.loop-body.session (body ∷ []) (PrintsFront mid new)) c.deref.ensures.value c.in-WriteFailed.ensures.answers in
-    so_far_front _ _ (contents all) (contents (drop (i + 1) all)) c.body-item.result.items old mid new now.so_far one
+    let left = given c.loop-body.bodies _ c.in-Ok-Some.field-0-0 c.next.new.self c.deref.result.now c.in-Ok-Some.field-0-is c.deref.ensures.value c.in-Ok-Some.ensures in
+    so_far_front _ _ _ _ (c.deref.result.now, c.in-Ok-Some.field-0-0.cancelled) old mid new (counted_at left c.loop-body.invariant.answered).so_far c.in-WriteFailed.ensures.answers
 
 pub returns-in-NoMemory-clause-answers : goal.returns-in-NoMemory-clause-answers
 returns-in-NoMemory-clause-answers g c =
-    let all = c.args.bodies.now in
-    let i = c.loop-body.body-index in
     let old = sink_seen (g.O.Sink.taken c.args.output.now) (g.O.Sink.faults c.args.output.now) (g.O.Sink.writes c.args.output.now) in
     let mid = sink_seen (g.O.Sink.taken c.loop-body.output) (g.O.Sink.faults c.loop-body.output) (g.O.Sink.writes c.loop-body.output) in
     let new = sink_seen (g.O.Sink.taken c.answer_body.new.output) (g.O.Sink.faults c.answer_body.new.output) (g.O.Sink.writes c.answer_body.new.output) in
-    let now = subst (λ (rest : List (Vec ℕ Global)). CountedSoFar c.args.session.now (contents all) (contents rest) c.loop-body.session old mid c.args.steps.now c.loop-body.steps)
-    (at_item all i c.body-item.result c.loop-body-test.true c.body-item.is) c.loop-body.invariant.answered in
-    let one = subst (λ (body : List ℕ). AnswersSome c.loop-body.session (body ∷ []) (PrintsPart mid new)) c.deref.ensures.value c.in-NoMemory.ensures.answers in
-    so_far_part _ _ (contents all) (contents (drop (i + 1) all)) c.body-item.result.items old mid new now.so_far one
+    let left = given c.loop-body.bodies _ c.in-Ok-Some.field-0-0 c.next.new.self c.deref.result.now c.in-Ok-Some.field-0-is c.deref.ensures.value c.in-Ok-Some.ensures in
+    so_far_part _ _ _ _ (c.deref.result.now, c.in-Ok-Some.field-0-0.cancelled) old mid new (counted_at left c.loop-body.invariant.answered).so_far c.in-NoMemory.ensures.answers
 
-pub returns-clause-answers : goal.returns-clause-answers
-returns-clause-answers g c =
+pub returns-in-Ok-None-clause-answers : goal.returns-in-Ok-None-clause-answers
+returns-in-Ok-None-clause-answers g c =
     let old = sink_seen (g.O.Sink.taken c.args.output.now) (g.O.Sink.faults c.args.output.now) (g.O.Sink.writes c.args.output.now) in
     let new = sink_seen (g.O.Sink.taken c.loop-body.output) (g.O.Sink.faults c.loop-body.output) (g.O.Sink.writes c.loop-body.output) in
-    let all = c.args.bodies.now in
-    so_far_all c.args.session.now c.loop-body.session (contents all) old new
-    (subst (λ (rest : List (Vec ℕ Global)). CountedSoFar c.args.session.now (contents all) (contents rest) c.loop-body.session old new c.args.steps.now c.loop-body.steps) (drop_all c.loop-body.body-index all c.loop-body-test.false) c.loop-body.invariant.answered).so_far
+    so_far_all c.args.session.now c.loop-body.session c.args.bodies old new (counted_at (none_given c.loop-body.bodies _ c.next.new.self c.in-Ok-None.field-0-is c.in-Ok-None.ensures) c.loop-body.invariant.answered).so_far
+
+pub returns-in-Err-clause-answers : goal.returns-in-Err-clause-answers
+returns-in-Err-clause-answers g c =
+    let old = sink_seen (g.O.Sink.taken c.args.output.now) (g.O.Sink.faults c.args.output.now) (g.O.Sink.writes c.args.output.now) in
+    let new = sink_seen (g.O.Sink.taken c.loop-body.output) (g.O.Sink.faults c.loop-body.output) (g.O.Sink.writes c.loop-body.output) in
+    so_far_stops _ _ _ _ old new c.loop-body.invariant.answered.so_far
 
 pub returns-in-Exited-clause-steps : goal.returns-in-Exited-clause-steps
 returns-in-Exited-clause-steps g c = λ q.
-    (quiet_more _ _ c.body-item.result.items _ _ _
-    (quiet_at (contents c.args.bodies.now) (at_item c.args.bodies.now c.loop-body.body-index c.body-item.result c.loop-body-test.true c.body-item.is) c.loop-body.invariant.quiet)
-    (quiet_body c.deref.ensures.value c.in-Exited.ensures.steps) q).0
+    (quiet_more _ _ (c.deref.result.now, c.in-Ok-Some.field-0-0.cancelled) _ _ _ (quiet_at c.args.bodies _ _ (given c.loop-body.bodies _ c.in-Ok-Some.field-0-0 c.next.new.self c.deref.result.now c.in-Ok-Some.field-0-is c.deref.ensures.value c.in-Ok-Some.ensures) c.loop-body.invariant.quiet) c.in-Exited.ensures.steps q).0
 
 pub returns-in-WriteFailed-clause-steps : goal.returns-in-WriteFailed-clause-steps
 returns-in-WriteFailed-clause-steps g c = λ q.
-    (quiet_more _ _ c.body-item.result.items _ _ _
-    (quiet_at (contents c.args.bodies.now) (at_item c.args.bodies.now c.loop-body.body-index c.body-item.result c.loop-body-test.true c.body-item.is) c.loop-body.invariant.quiet)
-    (quiet_body c.deref.ensures.value c.in-WriteFailed.ensures.steps) q).0
+    (quiet_more _ _ (c.deref.result.now, c.in-Ok-Some.field-0-0.cancelled) _ _ _ (quiet_at c.args.bodies _ _ (given c.loop-body.bodies _ c.in-Ok-Some.field-0-0 c.next.new.self c.deref.result.now c.in-Ok-Some.field-0-is c.deref.ensures.value c.in-Ok-Some.ensures) c.loop-body.invariant.quiet) c.in-WriteFailed.ensures.steps q).0
 
 pub returns-in-NoMemory-clause-steps : goal.returns-in-NoMemory-clause-steps
 returns-in-NoMemory-clause-steps g c = λ q.
-    (quiet_more _ _ c.body-item.result.items _ _ _
-    (quiet_at (contents c.args.bodies.now) (at_item c.args.bodies.now c.loop-body.body-index c.body-item.result c.loop-body-test.true c.body-item.is) c.loop-body.invariant.quiet)
-    (quiet_body c.deref.ensures.value c.in-NoMemory.ensures.steps) q).0
+    (quiet_more _ _ (c.deref.result.now, c.in-Ok-Some.field-0-0.cancelled) _ _ _ (quiet_at c.args.bodies _ _ (given c.loop-body.bodies _ c.in-Ok-Some.field-0-0 c.next.new.self c.deref.result.now c.in-Ok-Some.field-0-is c.deref.ensures.value c.in-Ok-Some.ensures) c.loop-body.invariant.quiet) c.in-NoMemory.ensures.steps q).0
 
-pub returns-clause-steps : goal.returns-clause-steps
-returns-clause-steps g c = λ q. (c.loop-body.invariant.quiet q).0
+pub returns-in-Ok-None-clause-steps : goal.returns-in-Ok-None-clause-steps
+returns-in-Ok-None-clause-steps g c = λ q. (c.loop-body.invariant.quiet q).0
+
+pub returns-in-Err-clause-steps : goal.returns-in-Err-clause-steps
+returns-in-Err-clause-steps g c = λ q. (c.loop-body.invariant.quiet q).0
 
 pub returns-in-Exited-clause-counted : goal.returns-in-Exited-clause-counted
 returns-in-Exited-clause-counted g c =
-    let all = c.args.bodies.now in
-    let i = c.loop-body.body-index in
     let old = sink_seen (g.O.Sink.taken c.args.output.now) (g.O.Sink.faults c.args.output.now) (g.O.Sink.writes c.args.output.now) in
     let mid = sink_seen (g.O.Sink.taken c.loop-body.output) (g.O.Sink.faults c.loop-body.output) (g.O.Sink.writes c.loop-body.output) in
     let new = sink_seen (g.O.Sink.taken c.answer_body.new.output) (g.O.Sink.faults c.answer_body.new.output) (g.O.Sink.writes c.answer_body.new.output) in
-    let now = subst (λ (rest : List (Vec ℕ Global)). CountedSoFar c.args.session.now (contents all) (contents rest) c.loop-body.session old mid c.args.steps.now c.loop-body.steps)
-    (at_item all i c.body-item.result c.loop-body-test.true c.body-item.is) c.loop-body.invariant.answered in
-    let one = subst (λ (body : List ℕ). EndsSession c.loop-body.session (body ∷ []) (said_exit c.in-Exited.exit) mid new) c.deref.ensures.value c.in-Exited.ensures.answers in
-    counted_ends _ _ (contents all) (contents (drop (i + 1) all)) c.body-item.result.items c.in-Exited.exit old mid new _ _ _ now one (counted_body _ _ _ c.deref.ensures.value c.in-Exited.ensures.counted)
+    let left = given c.loop-body.bodies _ c.in-Ok-Some.field-0-0 c.next.new.self c.deref.result.now c.in-Ok-Some.field-0-is c.deref.ensures.value c.in-Ok-Some.ensures in
+    counted_ends _ _ _ _ (c.deref.result.now, c.in-Ok-Some.field-0-0.cancelled) c.in-Exited.exit old mid new _ _ _ (counted_at left c.loop-body.invariant.answered) c.in-Exited.ensures.answers c.in-Exited.ensures.counted
 
 pub returns-in-WriteFailed-clause-counted : goal.returns-in-WriteFailed-clause-counted
 returns-in-WriteFailed-clause-counted g c =
-    let all = c.args.bodies.now in
-    let i = c.loop-body.body-index in
     let old = sink_seen (g.O.Sink.taken c.args.output.now) (g.O.Sink.faults c.args.output.now) (g.O.Sink.writes c.args.output.now) in
     let mid = sink_seen (g.O.Sink.taken c.loop-body.output) (g.O.Sink.faults c.loop-body.output) (g.O.Sink.writes c.loop-body.output) in
     let new = sink_seen (g.O.Sink.taken c.answer_body.new.output) (g.O.Sink.faults c.answer_body.new.output) (g.O.Sink.writes c.answer_body.new.output) in
-    let now = subst (λ (rest : List (Vec ℕ Global)). CountedSoFar c.args.session.now (contents all) (contents rest) c.loop-body.session old mid c.args.steps.now c.loop-body.steps)
-    (at_item all i c.body-item.result c.loop-body-test.true c.body-item.is) c.loop-body.invariant.answered in
-    let one = subst (λ (body : List ℕ). CountsSome c.loop-body.session (body ∷ []) (PrintsFront mid new) c.loop-body.steps c.answer_body.new.steps) c.deref.ensures.value c.in-WriteFailed.ensures.counted in
-    counted_some _ _ (contents all) (contents (drop (i + 1) all)) c.body-item.result.items old mid new _ _ _ now one
+    let left = given c.loop-body.bodies _ c.in-Ok-Some.field-0-0 c.next.new.self c.deref.result.now c.in-Ok-Some.field-0-is c.deref.ensures.value c.in-Ok-Some.ensures in
+    counted_some _ _ _ _ (c.deref.result.now, c.in-Ok-Some.field-0-0.cancelled) old mid new _ _ _ (counted_at left c.loop-body.invariant.answered) c.in-WriteFailed.ensures.counted
 
-pub returns-clause-counted : goal.returns-clause-counted
-returns-clause-counted g c =
-    let all = c.args.bodies.now in
+pub returns-in-Ok-None-clause-counted : goal.returns-in-Ok-None-clause-counted
+returns-in-Ok-None-clause-counted g c =
     let old = sink_seen (g.O.Sink.taken c.args.output.now) (g.O.Sink.faults c.args.output.now) (g.O.Sink.writes c.args.output.now) in
     let new = sink_seen (g.O.Sink.taken c.loop-body.output) (g.O.Sink.faults c.loop-body.output) (g.O.Sink.writes c.loop-body.output) in
-    counted_all c.args.session.now c.loop-body.session (contents all) old new _ _
-    (subst (λ (rest : List (Vec ℕ Global)). CountedSoFar c.args.session.now (contents all) (contents rest) c.loop-body.session old new c.args.steps.now c.loop-body.steps) (drop_all c.loop-body.body-index all c.loop-body-test.false) c.loop-body.invariant.answered)
+    counted_all c.args.session.now c.loop-body.session c.args.bodies old new _ _ (counted_at (none_given c.loop-body.bodies _ c.next.new.self c.in-Ok-None.field-0-is c.in-Ok-None.ensures) c.loop-body.invariant.answered)

@@ -1,5 +1,5 @@
-use Rattle.scheme_ls.proofs.PieceEndsSession.{nothing_served}
+use Rattle.scheme_ls.proofs.Uncancelled.{serves_as}
 use Rattle.scheme_ls.proofs.serve.serve.Goals as goal
 
-pub returns-in_default : goal.returns-in_default
-returns-in_default g c = nothing_served _ _
+pub returns : goal.returns
+returns g c = serves_as _ _ _ _ _ c.serve_by.ensures
