@@ -4,13 +4,14 @@ use Rattle.ls_base.specs.declared.places.Pos.{Pos}
 use Rattle.ls_outside.specs.Counts.{Fails}
 use Rattle.command_words.specs.Commands.{CommandOf}
 use Rattle.command_words.specs.declared.command.Command.{Command}
-use Rattle.command_words.specs.declared.command.Command.TheVariants.{Arrows, Check, Rename, Replay, Selfrun, Serve, TooManyFiles, Unknown}
+use Rattle.command_words.specs.declared.command.Command.TheVariants.{Arrows, Check, Rename, Replay, Selfrun, Serve, ServeAhead, TooManyFiles, Unknown}
 use Rattle.file_fetching.specs.FilesSeen.{FilesSeen}
 use Rattle.file_fetching.specs.Fetching.{FetchStopsAs, FetchingEndsAs}
 use Rattle.file_fetching.specs.declared.fetching.FetchStop.{FetchStop}
 use Rattle.file_fetching.specs.declared.fetching.FetchStop.TheVariants as fetch
 use Rattle.file_commands.specs.declared.renaming.Renamed.{Renamed}
 use Rattle.file_commands.specs.declared.renaming.Renamed.TheVariants as renamed
+use Rattle.scheme_ls.specs.AheadOutcome.{PiecesEndAs, ServeEndsBy}
 use Rattle.scheme_ls.specs.ArrowsOutcome.{ArrowsEndsAs}
 use Rattle.scheme_ls.specs.Prints.{SinkSeen}
 use Rattle.scheme_ls.specs.Reading.{SourceSeen}
@@ -85,6 +86,16 @@ serve_read old new bytes serve.NoMemory ends is = absurd (omega (arith, is))
 serve_read old new bytes serve.FrameFault ends is = absurd (omega (arith, is))
 serve_read old new bytes serve.Endless ends is = absurd (omega (arith, is))
 
+ahead_read : (old new : Streams) (pieces : List (List ℕ)) (end : SessionEnd) → PiecesEndAs true old new pieces end → 3 ≡ code_of (session_status end) → Fails old.source.faults new.source.faults
+ahead_read old new pieces (serve.Exited exits.Clean) ends is = absurd (omega (arith, is))
+ahead_read old new pieces (serve.Exited exits.Early) ends is = absurd (omega (arith, is))
+ahead_read old new pieces serve.InputEnded ends is = absurd (omega (arith, is))
+ahead_read old new pieces serve.ReadFailed ends is = ends.failed
+ahead_read old new pieces serve.WriteFailed ends is = absurd (omega (arith, is))
+ahead_read old new pieces serve.NoMemory ends is = absurd (omega (arith, is))
+ahead_read old new pieces serve.FrameFault ends is = absurd (omega (arith, is))
+ahead_read old new pieces serve.Endless ends is = absurd (omega (arith, is))
+
 -- a count that stands at 0 didn't rise
 none_rose : (n : ℕ) → n ≡ 0 → Fails 0 n → ⊥
 none_rose n none fails = rose fails.rose
@@ -120,6 +131,7 @@ module _ (old new : Seen) where
   command_read : (command : Command) (status : Status) → CommandEndsAs command old new status → 3 ≡ code_of status → AReadFailed
   command_read Arrows status ends is = inl (arrows_read old.streams new.streams old.steps new.steps ends.end ends.ends (is ∙ ap code_of ends.status_is))
   command_read Serve status ends is = inl (serve_read old.streams new.streams ends.serves.ends.bytes ends.end ends.serves.ends.source (is ∙ ap code_of ends.status_is))
+  command_read ServeAhead status ends is = inl (ahead_read old.streams new.streams ends.serves.ends.pieces ends.end ends.serves.ends.source (is ∙ ap code_of ends.status_is))
   command_read (Replay file) status ends is = inr (replay_read file _ _ status ends.ends is)
   command_read (Check files) status ends is = inr (check_read files _ _ status ends.ends is)
   command_read TooManyFiles status ends is = absurd (omega (arith, is ∙ ap code_of ends.0))
@@ -181,6 +193,16 @@ serve_fail old new serve.NoMemory ends is = absurd (omega (arith, is))
 serve_fail old new serve.FrameFault ends is = absurd (omega (arith, is))
 serve_fail old new serve.Endless ends is = absurd (omega (arith, is))
 
+ahead_fail : (old new : Streams) (end : SessionEnd) → ServeEndsBy true old new end → 5 ≡ code_of (session_status end) → Fails old.sink.faults new.sink.faults
+ahead_fail old new (serve.Exited exits.Clean) ends is = absurd (omega (arith, is))
+ahead_fail old new (serve.Exited exits.Early) ends is = absurd (omega (arith, is))
+ahead_fail old new serve.InputEnded ends is = absurd (omega (arith, is))
+ahead_fail old new serve.ReadFailed ends is = absurd (omega (arith, is))
+ahead_fail old new serve.WriteFailed ends is = ends.session.1.prints.failed
+ahead_fail old new serve.NoMemory ends is = absurd (omega (arith, is))
+ahead_fail old new serve.FrameFault ends is = absurd (omega (arith, is))
+ahead_fail old new serve.Endless ends is = absurd (omega (arith, is))
+
 check_fail : (names : List (List ℕ)) (old new : WorkSeen) (status : Status) → CheckEndsAs names old new status → 5 ≡ code_of status → Fails old.sink.faults new.sink.faults
 check_fail names old new status (inl done) is = work_fail _ _ _ old new status (check_written _) done.ends is
 check_fail names old new status (inr stopped) is = absurd (fetch_written stopped.stop (is ∙ ap code_of stopped.stops.status_is))
@@ -204,6 +226,7 @@ module _ (old new : Seen) where
   command_fail : (command : Command) (status : Status) → CommandEndsAs command old new status → 5 ≡ code_of status → AWriteFailed
   command_fail Arrows status ends is = arrows_fail old.streams new.streams old.steps new.steps ends.end ends.ends (is ∙ ap code_of ends.status_is)
   command_fail Serve status ends is = serve_fail old.streams new.streams ends.end ends.serves.ends (is ∙ ap code_of ends.status_is)
+  command_fail ServeAhead status ends is = ahead_fail old.streams new.streams ends.end ends.serves.ends (is ∙ ap code_of ends.status_is)
   command_fail (Replay file) status ends is = replay_fail file _ _ status ends.ends is
   command_fail (Check files) status ends is = check_fail files _ _ status ends.ends is
   command_fail TooManyFiles status ends is = absurd (omega (arith, is ∙ ap code_of ends.0))

@@ -2,8 +2,9 @@
 use Rattle.std.specs.Prelude.{◌≡◌, ◌⊎◌, ℕ, List}
 use Rattle.command_words.specs.Commands.{CommandOf}
 use Rattle.command_words.specs.declared.command.Command.{Command}
-use Rattle.command_words.specs.declared.command.Command.TheVariants.{Arrows, Check, Rename, Replay, Selfrun, Serve, TooManyFiles, Unknown}
+use Rattle.command_words.specs.declared.command.Command.TheVariants.{Arrows, Check, Rename, Replay, Selfrun, Serve, ServeAhead, TooManyFiles, Unknown}
 use Rattle.file_fetching.specs.FilesSeen.{FilesSeen}
+use Rattle.scheme_ls.specs.AheadOutcome.{ServesAhead}
 use Rattle.scheme_ls.specs.ArrowsOutcome.{ArrowsEndsAs, OpensNone}
 use Rattle.scheme_ls.specs.Prints.{SinkSeen}
 use Rattle.scheme_ls.specs.Reading.{SourceSeen}
@@ -50,6 +51,13 @@ pub record ServeDone (old new : Seen) (status : Status) : Type 0 where
   pub files : AsksNoFile old new
   pub status_is : status ≡ session_status end
 
+-- `serve --ahead` ended with a status
+pub record ServeAheadDone (old new : Seen) (status : Status) : Type 0 where
+  pub end : SessionEnd
+  pub serves : ServesAhead old.streams new.streams old.steps new.steps end
+  pub files : AsksNoFile old new
+  pub status_is : status ≡ session_status end
+
 -- the usage was printed, or a write of it failed
 abbrev pub PrintsUsage : SinkSeen → SinkSeen → Status → Type 0
 PrintsUsage old new status = PrintsLines usage_text BadWords old new status
@@ -68,6 +76,7 @@ pub record Works (EndsAs : WorkSeen → WorkSeen → Status → Type 0) (old new
 abbrev pub CommandEndsAs : Command → Seen → Seen → Status → Type 0
 CommandEndsAs Arrows old new status = ArrowsDone old new status
 CommandEndsAs Serve old new status = ServeDone old new status
+CommandEndsAs ServeAhead old new status = ServeAheadDone old new status
 CommandEndsAs (Replay file) old new status = Works (ReplayEndsAs file) old new status
 CommandEndsAs (Check files) old new status = Works (CheckEndsAs files) old new status
 CommandEndsAs TooManyFiles old new status = (status ≡ TooLong) × (new ≡ old)

@@ -10,7 +10,7 @@ ghost use Rattle.scheme_ls.specs.RunOutcome.{CommandEndsAs, RunEnds, seen};
 
 use crate::arrows::arrows;
 use crate::replay::replay;
-use crate::serve::serve;
+use crate::serve::{serve, serve_ahead};
 use crate::status::Status;
 use crate::wording::USAGE;
 use crate::work::{check, print_lines, rename, selfrun};
@@ -66,6 +66,7 @@ fn obey<I: Source, O: Sink, F: Files, L: Ledger>(
     match command {
         Command::Arrows => arrows(alloc, input, output, steps).status(),
         Command::Serve => serve(alloc, input, output, steps).status(),
+        Command::ServeAhead => serve_ahead(alloc, input, output, steps).status(),
         Command::Replay { file } => replay(alloc, &file, output, files, steps),
         Command::Check { files: names } => check(alloc, names.as_slice(), output, files, steps),
         Command::TooManyFiles => Status::TooLong,
