@@ -58,7 +58,8 @@ pub fn rename<O: Sink, F: Files, L: Ledger>(
     };
     match rename_in(alloc, name, content.as_slice(), position, new_name, steps) {
         Ok(Renamed::Edits(lines)) => print_lines(lines.as_str(), Status::Done, output),
-        Ok(Renamed::Refused(lines) | Renamed::NotUtf8(lines)) => print_lines(lines.as_str(), Status::Refused, output),
+        Ok(Renamed::Refused(lines)) => print_lines(lines.as_str(), Status::Refused, output),
+        Ok(Renamed::NotUtf8(lines)) => print_lines(lines.as_str(), Status::Refused, output),
         Err(Memory) => Status::NoMemory,
     }
 }
