@@ -19,7 +19,7 @@ use Rattle.scheme_ls.specs.RunOutcome.{CommandEndsAs, NothingDone, RunEnds, Seen
 use Rattle.scheme_ls.specs.ServeOutcome.{ServeEndsAs, SessionEndsAs, SourceEndsAs}
 use Rattle.scheme_ls.specs.Statuses.{arrows_status, code_of, fetch_status, session_status}
 use Rattle.scheme_ls.specs.Streams.{Streams}
-use Rattle.scheme_ls.specs.WorkOutcome.{CheckEndsAs, PrintsLines, RunsOut, RenameEndsAs, ReplayEndsAs, Replays, WorkEndsAs, WorkSeen, check_status, rename_status}
+use Rattle.scheme_ls.specs.WorkOutcome.{CheckEndsAs, PrintsLines, RunsOut, RenameEndsAs, ReplayEndsAs, Replays, WorkEndsAs, WorkSeen, check_status, rename_status, work_seen}
 use Rattle.scheme_ls.specs.declared.answering.Exit.TheVariants as exits
 use Rattle.scheme_ls.specs.declared.arrows.ArrowsEnd.{ArrowsEnd}
 use Rattle.scheme_ls.specs.declared.arrows.ArrowsEnd.TheVariants as arrows
@@ -136,7 +136,7 @@ module _ (old new : Seen) where
   command_read (Check files) status ends is = inr (check_read files _ _ status ends.ends is)
   command_read TooManyFiles status ends is = absurd (omega (arith, is ∙ ap code_of ends.0))
   command_read (Rename file position name) status ends is = inr (rename_read file position name _ _ status ends.ends is)
-  command_read (Selfrun libraries) status ends is = absurd (work_read _ _ _ _ _ status done_other ends.ends.ends is)
+  command_read (Selfrun libraries) status ends is = absurd (work_read _ _ _ (work_seen old.files old.streams.sink old.steps) (work_seen new.files new.streams.sink new.steps) status done_other ends.ends.ends is)
   command_read Unknown status ends is = absurd (lines_read _ BadWords status _ _ (λ other. omega (arith, other)) ends.0.prints is)
 
   either_read : (command : Command) (status : Status) → CommandEndsAs command old new status ⊎ NothingDone old new status → 3 ≡ code_of status → AReadFailed
@@ -231,7 +231,7 @@ module _ (old new : Seen) where
   command_fail (Check files) status ends is = check_fail files _ _ status ends.ends is
   command_fail TooManyFiles status ends is = absurd (omega (arith, is ∙ ap code_of ends.0))
   command_fail (Rename file position name) status ends is = rename_fail file position name _ _ status ends.ends is
-  command_fail (Selfrun libraries) status ends is = work_fail _ _ _ _ _ status (λ other. omega (arith, other)) ends.ends.ends is
+  command_fail (Selfrun libraries) status ends is = work_fail _ _ _ (work_seen old.files old.streams.sink old.steps) (work_seen new.files new.streams.sink new.steps) status (λ other. omega (arith, other)) ends.ends.ends is
   command_fail Unknown status ends is = lines_fail _ BadWords status _ _ (λ other. omega (arith, other)) ends.0.prints is
 
   either_fail : (command : Command) (status : Status) → CommandEndsAs command old new status ⊎ NothingDone old new status → 5 ≡ code_of status → AWriteFailed
