@@ -17,11 +17,11 @@ abbrev pub one_document : (name text : List ℕ) → List (List ℕ × Document)
 one_document name text = (name, (pos 0, text)) ∷ []
 
 -- the edits, or what the refusal says
-abbrev pub rename_in_text : Reader → (name text : List ℕ) → Pos → (new : List ℕ) → Result (List DocEdits) (List ℕ)
+unfoldable pub rename_in_text : Reader → (name text : List ℕ) → Pos → (new : List ℕ) → Result (List DocEdits) (List ℕ)
 rename_in_text r name text position new = rename_told r Utf16 (one_document name text) name position new
 
 -- what is printed of edits, and of a refusal
-abbrev pub printed : Result (List DocEdits) (List ℕ) → Renamed
+unfoldable pub printed : Result (List DocEdits) (List ℕ) → Renamed
 printed (Ok edits) = Edits (edit_lines edits)
 printed (Err refusal) = Refused (refusal_line refusal)
 
