@@ -1,5 +1,5 @@
 -- Files one after another.
-use Rattle.std.proofs.Common.{◌≡◌, ◌⊎◌, inl, inr, ℕ, pos, not, cond, Bool, true, false, List, [], ◌∷◌, map, Option, Some, None, String, string_bytes, string_cmp, Ordering, Less, Equal, Greater, nat_cmp, Vec, Global, refl, sym, ap, ◌∙◌, cases_Bool}
+use Rattle.std.proofs.Common.{◌≡◌, ◌⊎◌, inl, inr, ℕ, pos, not, cond, Bool, true, false, List, [], ◌∷◌, map, Option, Some, None, String, string_bytes, string_cmp, Ordering, Less, Equal, Greater, nat_cmp, Vec, Global, refl, sym, ap, ◌∙◌}
 use Rattle.std.specs.BTreeMap.{insert_entry}
 use Rattle.std.specs.Cmp.Lexicographic.{slice_cmp}
 use Rattle.std.specs.FinMap.{insert}
@@ -7,6 +7,7 @@ use Rattle.std.specs.FinMap.Entries.{put, by_order}
 use Rattle.std.specs.List.{fold, zip}
 use Rattle.std.specs.Ordering.{match_ordering}
 use Rattle.std.specs.Str.{IsUtf8, is_utf8}
+use Rattle.std.proofs.lemmas.Bool.{cases_Bool}
 use Rattle.std.proofs.lemmas.Str.{IsUtf8-from_is_utf8, is_utf8-from_IsUtf8}
 use Rattle.ls_base.specs.declared.answers.Diagnostic.{Diagnostic}
 use Rattle.document_store.specs.Texts.{Document, Refusal, Texts, TooLong, TooMany, added, has_room, is_long}
@@ -19,12 +20,12 @@ pub not_text : (p : List ℕ) → (IsUtf8 p → ⊥) → is_utf8 p ≡ false
 not_text p n = elim (cases_Bool (is_utf8 p)) [ inl t ↦ absurd (n (IsUtf8-from_is_utf8 p t)) | inr f ↦ f ]
 
 pub left_out : (texts : Texts) (name content : List ℕ) → (IsUtf8 content → ⊥) → texts ≡ open_file texts (name, content)
-left_out texts name content no = ap (λ b. cond b (insert texts name (pos 0, content)) texts) (sym (not_text content no))
+left_out texts name content bad = ap (λ b. cond b (insert texts name (pos 0, content)) texts) (sym (not_text content bad))
 
-inserted : (room long : Bool) (old new it : Texts) → cond (not room) (old, Some TooMany) (cond long (old, Some TooLong) (it, None)) ≡ (new, None) → new ≡ it
+inserted : (room long : Bool) (old new it : Texts) → ◌≡◌ {A = Texts × Option Refusal} (cond (not room) (old, Some TooMany) (cond long (old, Some TooLong) (it, None))) (new, None) → new ≡ it
 inserted true false old new it e = sym (ap (λ (p : Texts × Option Refusal). p.0) e)
-inserted true true old new it e = cc
-inserted false long old new it e = cc
+inserted true true old new it e = let f : ◌≡◌ {A = Option Refusal} (Some TooLong) None = ap (λ (p : Texts × Option Refusal). p.1) e in absurd cc
+inserted false long old new it e = let f : ◌≡◌ {A = Option Refusal} (Some TooMany) None = ap (λ (p : Texts × Option Refusal). p.1) e in absurd cc
 
 pub put_in : (old new : Texts) (name content : List ℕ) → IsUtf8 content → added old name (pos 0) content ≡ (new, None) → new ≡ open_file old (name, content)
 put_in old new name content text e =
@@ -33,30 +34,26 @@ put_in old new name content text e =
 
 -- ---- lists
 
-by_match : {A : Type 0} (r : Ordering) (a b c : A) → match_ordering r a b c ≡ by_order r a b c
-by_match Less a b c = refl
-by_match Equal a b c = refl
-by_match Greater a b c = refl
-
 module _ {Y : Type 0} where
   abbrev pub shown : String Y × List Diagnostic → Listed
   shown e = (string_bytes e.0, e.1)
 
-  pub put_shown : (es : List (String Y × List Diagnostic)) (k : String Y) (v : List Diagnostic) → map shown (insert_entry string_cmp es k v) ≡ put (slice_cmp nat_cmp) (string_bytes k) v (map shown es)
+  shown_by : (r : Ordering) (e : String Y × List Diagnostic) (es : List (String Y × List Diagnostic)) (k : String Y) (v : List Diagnostic) → map shown (insert_entry string_cmp es k v) ≡ put (slice_cmp nat_cmp) (string_bytes k) v (map shown es) →
+      map shown (match_ordering r ((k, v) ∷ e ∷ es) ((e.0, v) ∷ es) (e ∷ insert_entry string_cmp es k v))
+      ≡ by_order r ((string_bytes k, v) ∷ shown e ∷ map shown es) ((string_bytes e.0, v) ∷ map shown es) (shown e ∷ put (slice_cmp nat_cmp) (string_bytes k) v (map shown es))
+  shown_by Less e es k v rest = refl
+  shown_by Equal e es k v rest = refl
+  shown_by Greater e es k v rest = ap (λ (xs : List Listed). shown e ∷ xs) rest
+
+  put_shown : (es : List (String Y × List Diagnostic)) (k : String Y) (v : List Diagnostic) → map shown (insert_entry string_cmp es k v) ≡ put (slice_cmp nat_cmp) (string_bytes k) v (map shown es)
   put_shown [] k v = refl
-  put_shown (e ∷ es) k v = shown_by (slice_cmp nat_cmp (string_bytes k) (string_bytes e.0))
-    where
-      shown_by : (r : Ordering) → map shown (match_ordering r ((k, v) ∷ e ∷ es) ((e.0, v) ∷ es) (e ∷ insert_entry string_cmp es k v))
-          ≡ by_order r ((string_bytes k, v) ∷ shown e ∷ map shown es) ((string_bytes e.0, v) ∷ map shown es) (shown e ∷ put (slice_cmp nat_cmp) (string_bytes k) v (map shown es))
-      shown_by Less = refl
-      shown_by Equal = refl
-      shown_by Greater = ap (λ xs. shown e ∷ xs) (put_shown es k v)
+  put_shown (e ∷ es) k v = shown_by (slice_cmp nat_cmp (string_bytes k) (string_bytes e.0)) e es k v (put_shown es k v)
 
 pub kept_out : (lists : List Listed) (name content : List ℕ) → IsUtf8 content → lists ≡ with_file lists (name, content)
 kept_out lists name content text = ap (λ b. cond b lists (put (slice_cmp nat_cmp) name (not_utf8 ∷ []) lists)) (sym (is_utf8-from_IsUtf8 content text))
 
 pub put_out : (lists : List Listed) (name content : List ℕ) → (IsUtf8 content → ⊥) → put (slice_cmp nat_cmp) name (not_utf8 ∷ []) lists ≡ with_file lists (name, content)
-put_out lists name content no = ap (λ b. cond b lists (put (slice_cmp nat_cmp) name (not_utf8 ∷ []) lists)) (sym (not_text content no))
+put_out lists name content bad = ap (λ b. cond b lists (put (slice_cmp nat_cmp) name (not_utf8 ∷ []) lists)) (sym (not_text content bad))
 
 -- ---- one file more
 

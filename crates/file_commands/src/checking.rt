@@ -66,7 +66,6 @@ fn open_files(alloc: Global, names: &[Text], contents: &[Vec<u8>]) -> Mem<Store>
 }
 
 /// Opens the document of a file, if it is UTF-8. Any refusal is answered as want of memory.
-#[tactic(auto, using(crate::proofs::FileLaws::put_in, crate::proofs::FileLaws::left_out))]
 fn open_file(store: &mut Store, name: &Text, content: &[u8]) -> Mem<()>
     ensures { OnOk result (store.new ≡ open_file store.old (name.now, content.now)) }
 {

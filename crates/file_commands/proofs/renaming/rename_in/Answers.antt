@@ -3,8 +3,8 @@ use Rattle.std.proofs.Common.{length, ap, arith}
 use Rattle.file_commands.proofs.ContentLaws.{of_no_text, of_text}
 use Rattle.file_commands.proofs.renaming.rename_in.Goals as goal
 
-pub rename_in_text-requires-in-Ok : goal.rename_in_text-requires-in-Ok
-rename_in_text-requires-in-Ok g c = omega (arith, ap length c.in-Ok.ensures.cases.0, c.requires)
+pub rename_in_text-requires : goal.rename_in_text-requires
+rename_in_text-requires g c = omega (arith, ap length c.in-Ok.ensures.cases.0, c.requires)
 
 pub returns-in_ok-rename_in_text-in-Ok : goal.returns-in_ok-rename_in_text-in-Ok
 returns-in_ok-rename_in_text-in-Ok g c = λ r is.
