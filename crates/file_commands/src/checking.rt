@@ -93,12 +93,7 @@ fn listed<L: Ledger>(alloc: Global, store: Store, steps: &mut Steps<L>) -> Mem<L
         ..
     } = reading;
     let texts = Open::of(store, documents, heads, errors);
-    Ok(lists(
-        alloc,
-        &texts,
-        findings.as_slice(),
-        Encoding::Utf16,
-    )?)
+    Ok(lists(alloc, &texts, findings.as_slice(), Encoding::Utf16)?)
 }
 
 /// Adds to the lists of documents those of the files that aren't UTF-8.

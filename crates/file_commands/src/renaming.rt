@@ -57,11 +57,7 @@ fn not_utf8_line(alloc: Global, name: &Text) -> Mem<Text>
     ensures { IfOk result (λ line. line ≡ diagnostics.diagnostic_line name.now diagnostics.not_utf8) }
 {
     let diagnostic = not_utf8(alloc)?;
-    Ok(Text::from_string(diagnostic_lines(
-        alloc,
-        name.as_str(),
-        &[diagnostic],
-    )?))
+    Ok(Text::from_string(diagnostic_lines(alloc, name.as_str(), &[diagnostic])?))
 }
 
 /// Renames what stands at a position of a text.
@@ -78,27 +74,16 @@ fn rename_in_text<L: Ledger>(
 {
     let mut workspace = opened(alloc, name, text, steps)?;
     match rename(alloc, &mut workspace, name, position, new_name, steps) {
-        Ok(edits) => Ok(Renamed::Edits(Text::from_string(edit_lines(
-            alloc,
-            edits.as_slice(),
-        )?))),
+        Ok(edits) => Ok(Renamed::Edits(Text::from_string(edit_lines(alloc, edits.as_slice())?))),
         Err(fault) => {
             let refusal = refusal(alloc, &workspace, &fault)?;
-            Ok(Renamed::Refused(Text::from_string(refusal_line(
-                alloc,
-                refusal.as_str(),
-            )?)))
+            Ok(Renamed::Refused(Text::from_string(refusal_line(alloc, refusal.as_str())?)))
         }
     }
 }
 
 /// The workspace with one document.
-fn opened<L: Ledger>(
-    alloc: Global,
-    name: &Text,
-    text: &str,
-    steps: &mut Steps<L>,
-) -> Mem<Workspace>
+fn opened<L: Ledger>(alloc: Global, name: &Text, text: &str, steps: &mut Steps<L>) -> Mem<Workspace>
     requires { length text.now ≤ max_text }
     ensures texts { IfOk result (λ workspace. entries workspace.texts ≡ one_document name.now text.now) }
     ensures encoding { IfOk result (λ workspace. workspace.encoding ≡ Utf16) }

@@ -14,7 +14,7 @@ loop-name-preserved c =
     let e : String Global × List Diagnostic = (c.in-Some.name.now, c.in-Some.list.now) in
     record {
       lines = lines_more l.name-iterator c.next.new.self e (string_bytes l.text) (string_bytes c.push_str.new.self) c.as_str-in-loop-name.result.now all.lines c.in-Some.ensures.steps c.in_ok-push_str.ensures.bytes
-      (c.as_str-in-loop-name.ensures.value ∙ c.in_ok-diagnostic_lines.ensures ∙ (λ i. diagnostic_lines (c.as_str.ensures.value i) (c.as_slice.ensures i))) l.invariant.lines;
+          (c.as_str-in-loop-name.ensures.value ∙ c.in_ok-diagnostic_lines.ensures ∙ (λ i. diagnostic_lines (c.as_str.ensures.value i) (c.as_slice.ensures i))) l.invariant.lines;
       error = error_more l.name-iterator c.next.new.self e l.error c.has_error.result all.has_error c.in-Some.ensures.steps (c.has_error.ensures ∙ ap has_error c.as_slice-in-loop-name.ensures) l.invariant.error;
     }
 
