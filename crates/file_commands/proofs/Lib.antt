@@ -4,3 +4,4 @@ pub mod ContentLaws  -- What is printed of a rename in a content, which is a tex
 pub mod OneText  -- The texts where one is opened
 pub mod Refused  -- What a fault says is what the rename is refused with
 pub mod Told  -- What is printed of a rename in one text
+pub mod Rows  -- Files, and what is printed of them
