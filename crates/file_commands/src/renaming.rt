@@ -1,7 +1,7 @@
 //! A rename in the one document that a file is (LSP 3.17, textDocument/rename).
-ghost use Rattle.std.specs.Prelude.{◌≡◌, ◌≢◌, ◌≤◌, ◌<◌, List, length, Err, IfOk, OnOk};
+ghost use Rattle.std.specs.Prelude.{◌≡◌, ◌≢◌, ◌≤◌, ◌<◌, ℕ, List, length, Err, IfOk, OnOk};
 ghost use Rattle.std.specs.declared.result.Result.{Result};
-ghost use Rattle.std.specs.FinMap.{entries};
+ghost use Rattle.std.specs.FinMap.{empty, entries};
 ghost use Rattle.ls_base.specs.Limits.{max_text};
 ghost use Rattle.ls_base.specs.declared.encoding.Encoding.TheVariants.{Utf16};
 ghost use Rattle.command_lines.specs.Diagnostics as diagnostics;
@@ -72,23 +72,25 @@ fn rename_in_text<L: Ledger>(
     requires { length text.now ≤ max_text }
     ensures { (r : Reader) → IsReader r → IfOk result (λ renamed. renamed ≡ printed (rename_in_text r name.now text.now position new_name.now)) }
 {
-    let mut workspace = opened(alloc, name, text, steps)?;
-    match rename(alloc, &mut workspace, name, position, new_name, steps) {
-        Ok(edits) => Ok(Renamed::Edits(Text::from_string(edit_lines(alloc, edits.as_slice())?))),
-        Err(fault) => {
-            let refusal = refusal(alloc, &workspace, &fault)?;
-            Ok(Renamed::Refused(Text::from_string(refusal_line(alloc, refusal.as_str())?)))
-        }
-    }
+    let mut workspace = Workspace::new(alloc)?;
+    open(alloc, &mut workspace, name, text, steps)?;
+    Ok(rename_opened(alloc, &mut workspace, name, position, new_name, steps)?)
 }
 
-/// The workspace with one document.
-fn opened<L: Ledger>(alloc: Global, name: &Text, text: &str, steps: &mut Steps<L>) -> Mem<Workspace>
-    requires { length text.now ≤ max_text }
-    ensures texts { IfOk result (λ workspace. entries workspace.texts ≡ one_document name.now text.now) }
-    ensures encoding { IfOk result (λ workspace. workspace.encoding ≡ Utf16) }
+/// Opens a text where no document is open.
+fn open<L: Ledger>(
+    alloc: Global,
+    workspace: &mut Workspace,
+    name: &Text,
+    text: &str,
+    steps: &mut Steps<L>,
+) -> Mem<()>
+    requires none { workspace.old.texts ≡ empty }
+    requires encoding { workspace.old.encoding ≡ Utf16 }
+    requires short { length text.now ≤ max_text }
+    ensures texts { OnOk result (entries workspace.new.texts ≡ one_document name.now text.now) }
+    ensures encoding { OnOk result (workspace.new.encoding ≡ Utf16) }
 {
-    let mut workspace = Workspace::new(alloc)?;
     let event = DocEvent::Added {
         uri: name.clone()?,
         version: VERSION,
@@ -96,7 +98,29 @@ fn opened<L: Ledger>(alloc: Global, name: &Text, text: &str, steps: &mut Steps<L
     };
     workspace.update(&event, steps)?;
     workspace.collect()?;
-    Ok(workspace)
+    Ok(())
+}
+
+/// Renames what stands at a position of the one text that is open.
+fn rename_opened<L: Ledger>(
+    alloc: Global,
+    workspace: &mut Workspace,
+    name: &Text,
+    position: Pos,
+    new_name: &Text,
+    steps: &mut Steps<L>,
+) -> Mem<Renamed>
+    requires { workspace.old.encoding ≡ Utf16 }
+    ensures { (r : Reader) (text : List ℕ) → IsReader r → entries workspace.old.texts ≡ one_document name.now text
+        → IfOk result (λ renamed. renamed ≡ printed (rename_in_text r name.now text position new_name.now)) }
+{
+    match rename(alloc, workspace, name, position, new_name, steps) {
+        Ok(edits) => Ok(Renamed::Edits(Text::from_string(edit_lines(alloc, edits.as_slice())?))),
+        Err(fault) => {
+            let refusal = refusal(alloc, workspace, &fault)?;
+            Ok(Renamed::Refused(Text::from_string(refusal_line(alloc, refusal.as_str())?)))
+        }
+    }
 }
 
 /// What a refused rename says. Want of memory is passed on.

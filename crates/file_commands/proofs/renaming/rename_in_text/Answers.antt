@@ -1,18 +1,5 @@
--- The edits or the refusal are those of the one text.
-use Rattle.std.proofs.Common.{ap, ◌∙◌}
-use Rattle.command_lines.specs.Edits.{edit_lines, refusal_line}
-use Rattle.file_commands.proofs.Told.{edits_printed, refusal_printed}
+-- The text is the one that is open.
 use Rattle.file_commands.proofs.renaming.rename_in_text.Goals as goal
 
-pub returns-in_ok-edit_lines-in-Ok : goal.returns-in_ok-edit_lines-in-Ok
-returns-in_ok-edit_lines-in-Ok g c = λ r is.
-    let w = c.in_ok-workspace.workspace in
-    edits_printed w.encoding w.texts c.args.name.now c.args.text.now c.in_ok-workspace.ensures.encoding c.in_ok-workspace.ensures.texts c.args.position c.args.new_name.now r c.in-Ok.edits c.from_string.result
-    (c.from_string.ensures ∙ c.in_ok-edit_lines-in-Ok.ensures ∙ ap edit_lines c.as_slice.ensures) (c.in-Ok.ensures.answer r is)
-
-pub returns-in_ok-refusal_line-in-Err : goal.returns-in_ok-refusal_line-in-Err
-returns-in_ok-refusal_line-in-Err g c = λ r is.
-    let w = c.in_ok-workspace.workspace in
-    refusal_printed w.encoding w.texts c.args.name.now c.args.text.now c.in_ok-workspace.ensures.encoding c.in_ok-workspace.ensures.texts c.args.position c.args.new_name.now r
-    c.rename.new.ws.encoding c.rename.new.ws.texts c.in-Err.ensures.encoding c.in-Err.ensures.texts c.in-Err.fault c.in_ok-refusal-in-Err.refusal c.from_string-in-Err.result
-    (c.from_string-in-Err.ensures ∙ c.in_ok-refusal_line-in-Err.ensures ∙ ap refusal_line c.as_str-in-Err.ensures) (c.in-Err.ensures.answer r is) (λ a. c.in_ok-refusal-in-Err.ensures.text r a is)
+pub returns : goal.returns
+returns g c = λ r is. c.in_ok-rename_opened.ensures r c.args.text.now is c.in_ok-open.ensures.texts

@@ -3,13 +3,13 @@ use Rattle.std.proofs.Common.{ap, ◌∙◌}
 use Rattle.std.specs.FinMap.{entries}
 use Rattle.workspace_state.specs.State.{State}
 use Rattle.file_commands.proofs.OneText.{one_opened}
-use Rattle.file_commands.proofs.renaming.opened.Goals as goal
+use Rattle.file_commands.proofs.renaming.open.Goals as goal
 
 pub returns-clause-texts : goal.returns-clause-texts
 returns-clause-texts g c =
     ap (λ (s : State). entries s.texts) c.in_ok-collect.ensures
-    ∙ one_opened c.in_ok-workspace.workspace.texts c.update.new.self.texts c.in_ok-clone.field-0 c.in_ok-of.field-0 c.args.name.now c.args.text.now c.in_ok-workspace.ensures.texts c.in_ok-clone.ensures c.in_ok-of.ensures c.requires c.in_ok-update.ensures.texts
+    ∙ one_opened c.args.workspace.now.texts c.update.new.self.texts c.in_ok-clone.field-0 c.in_ok-of.field-0 c.args.name.now c.args.text.now c.requires.none c.in_ok-clone.ensures c.in_ok-of.ensures c.requires.short c.in_ok-update.ensures.texts
 
 pub returns-clause-encoding : goal.returns-clause-encoding
 returns-clause-encoding g c =
-    ap (λ (s : State). s.encoding) c.in_ok-collect.ensures ∙ c.update.ensures.encoding ∙ c.in_ok-workspace.ensures.encoding
+    ap (λ (s : State). s.encoding) c.in_ok-collect.ensures ∙ c.update.ensures.encoding ∙ c.requires.encoding

@@ -1,0 +1,18 @@
+-- The edits or the refusal are those of the one text.
+use Rattle.std.proofs.Common.{ap, ◌∙◌}
+use Rattle.command_lines.specs.Edits.{edit_lines, refusal_line}
+use Rattle.file_commands.proofs.Told.{edits_printed, refusal_printed}
+use Rattle.file_commands.proofs.renaming.rename_opened.Goals as goal
+
+pub returns-in_ok-edit_lines-in-Ok : goal.returns-in_ok-edit_lines-in-Ok
+returns-in_ok-edit_lines-in-Ok g c = λ r text is one.
+    let w = c.args.workspace.now in
+    edits_printed w.encoding w.texts c.args.name.now text c.requires one c.args.position c.args.new_name.now r c.in-Ok.edits c.from_string.result
+    (c.from_string.ensures ∙ c.in_ok-edit_lines-in-Ok.ensures ∙ ap edit_lines c.as_slice.ensures) (c.in-Ok.ensures.answer r is)
+
+pub returns-in_ok-refusal_line-in-Err : goal.returns-in_ok-refusal_line-in-Err
+returns-in_ok-refusal_line-in-Err g c = λ r text is one.
+    let w = c.args.workspace.now in
+    refusal_printed w.encoding w.texts c.args.name.now text c.requires one c.args.position c.args.new_name.now r
+    c.rename.new.ws.encoding c.rename.new.ws.texts c.in-Err.ensures.encoding c.in-Err.ensures.texts c.in-Err.fault c.in_ok-refusal-in-Err.refusal c.from_string-in-Err.result
+    (c.from_string-in-Err.ensures ∙ c.in_ok-refusal_line-in-Err.ensures ∙ ap refusal_line c.as_str-in-Err.ensures) (c.in-Err.ensures.answer r is) (λ a. c.in_ok-refusal-in-Err.ensures.text r a is)
