@@ -15,4 +15,4 @@ returns-in_ok-refusal_line-in-Err g c = λ r text is one.
     let w = c.args.workspace.now in
     refusal_printed w.encoding w.texts c.args.name.now text c.requires one c.args.position c.args.new_name.now r
     c.rename.new.ws.encoding c.rename.new.ws.texts c.in-Err.ensures.encoding c.in-Err.ensures.texts c.in-Err.fault c.in_ok-refusal-in-Err.refusal c.from_string-in-Err.result
-    (c.from_string-in-Err.ensures ∙ c.in_ok-refusal_line-in-Err.ensures ∙ ap refusal_line c.as_str-in-Err.ensures) (c.in-Err.ensures.answer r is) (λ a. c.in_ok-refusal-in-Err.ensures.text r a is)
+    (c.from_string-in-Err.ensures ∙ c.in_ok-refusal_line-in-Err.ensures ∙ ap refusal_line c.as_str.ensures) (c.in-Err.ensures.answer r is) (λ a. c.in_ok-refusal-in-Err.ensures.text r a is)
