@@ -13,7 +13,7 @@ no_entries : entries (empty {X = Document} {R = slice_cmp nat_cmp}) ≡ []
 no_entries = nil_from_length (entries (empty {X = Document} {R = slice_cmp nat_cmp})) (sym (len-entries (empty {X = Document} {R = slice_cmp nat_cmp})) ∙ len-empty (slice_cmp nat_cmp) Document)
 
 -- there is room for the first
-room : (uri : List ℕ) → has_room empty uri ≡ true
+pub room : (uri : List ℕ) → has_room empty uri ≡ true
 room uri = ap (λ (o : Option Document). is_some o || nat_lt (len (empty {K = List ℕ} {X = Document} {R = slice_cmp nat_cmp})) max_documents) (get-empty (slice_cmp nat_cmp) uri) ∙ ap (λ (n : ℕ). nat_lt n max_documents) (len-empty (slice_cmp nat_cmp) Document)
 
 pub one_added : (uri : List ℕ) (version : ℤ) (text : List ℕ) → length text ≤ max_text → entries (added empty uri version text).0 ≡ (uri, (version, text)) ∷ []
