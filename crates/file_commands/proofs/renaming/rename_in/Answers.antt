@@ -20,7 +20,7 @@ returns-in_ok-not_utf8_line-in-Err-clause-renamed g c = λ r is.
 pub returns-in_ok-rename_in_text-in-Ok-clause-steps : goal.returns-in_ok-rename_in_text-in-Ok-clause-steps
 returns-in_ok-rename_in_text-in-Ok-clause-steps g c = λ r is.
     let a = c.args in
-    of_text_counted r a.name.now a.content.now a.position a.new_name.now c.in-Ok.text.now a.steps.now c.rename_in_text-in-Ok.new.steps c.in-Ok.ensures.cases.1 c.in-Ok.ensures.cases.0 (c.in_ok-rename_in_text-in-Ok.ensures.steps r is)
+    of_text_counted r a.name.now a.content.now a.position a.new_name.now c.in-Ok.text.now a.steps.now c.rename_in_text.new.steps c.in-Ok.ensures.cases.1 c.in-Ok.ensures.cases.0 (c.in_ok-rename_in_text-in-Ok.ensures.steps r is)
 
 pub returns-in_ok-not_utf8_line-in-Err-clause-steps : goal.returns-in_ok-not_utf8_line-in-Err-clause-steps
 returns-in_ok-not_utf8_line-in-Err-clause-steps g c = λ r is.
