@@ -1,6 +1,6 @@
 -- What is printed of a rename in a content, which is a text or isn't UTF-8.
 use Rattle.std.proofs.Common.{◌≡◌, ℕ, List, cond, sym, ap, ◌∙◌}
-use Rattle.std.specs.Str.{IsUtf8, is_utf8}
+use Rattle.std.specs.Str.{IsUtf8}
 use Rattle.std.proofs.lemmas.Str.{is_utf8-from_IsUtf8}
 use Rattle.ls_base.specs.declared.places.Pos.{Pos}
 use Rattle.rename_conditions.specs.Readers.{Reader}

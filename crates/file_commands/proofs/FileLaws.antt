@@ -10,7 +10,7 @@ use Rattle.std.specs.Str.{IsUtf8, is_utf8}
 use Rattle.std.proofs.lemmas.Bool.{cases_Bool}
 use Rattle.std.proofs.lemmas.Str.{IsUtf8-from_is_utf8, is_utf8-from_IsUtf8}
 use Rattle.ls_base.specs.declared.answers.Diagnostic.{Diagnostic}
-use Rattle.document_store.specs.Texts.{Document, Refusal, Texts, TooLong, TooMany, added, has_room, is_long}
+use Rattle.document_store.specs.Texts.{Refusal, Texts, TooLong, TooMany, added, has_room, is_long}
 use Rattle.command_lines.specs.Diagnostics.{not_utf8}
 use Rattle.file_commands.specs.Checking.{Listed, bytes_in, open_file, with_file}
 

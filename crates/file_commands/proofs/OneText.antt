@@ -1,7 +1,7 @@
 -- The texts where one is opened.
-use Rattle.std.proofs.Common.{◌≡◌, ◌≤◌, ◌||◌, ℕ, ℤ, pos, List, [], ◌∷◌, length, nat_lt, true, Option, is_some, nat_cmp, refl, sym, ap, ◌∙◌}
+use Rattle.std.proofs.Common.{◌≡◌, ◌≤◌, ◌||◌, ℕ, ℤ, pos, List, [], ◌∷◌, length, nat_lt, true, Option, is_some, nat_cmp, sym, ap, ◌∙◌}
 use Rattle.std.specs.Cmp.Lexicographic.{slice_cmp, nat_list_cmp_total}
-use Rattle.std.specs.FinMap.{empty, entries, insert, entries-insert, get-empty, len, len-empty, len-entries}
+use Rattle.std.specs.FinMap.{empty, entries, entries-insert, get-empty, len, len-empty, len-entries}
 use Rattle.std.specs.FinMap.Entries.{put}
 use Rattle.std.proofs.lemmas.List.{nil_from_length}
 use Rattle.ls_base.specs.Limits.{max_documents, max_text}

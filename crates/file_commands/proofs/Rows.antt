@@ -1,5 +1,5 @@
 -- Files, and what is printed of them: texts with their data, and lines told from outside.
-use Rattle.std.proofs.Common.{◌≡◌, ◌++◌, ℕ, pos, List, [], ◌∷◌, map, Bool, true, false, cond, Option, Some, None, Ok, codes, refl}
+use Rattle.std.proofs.Common.{◌≡◌, ℕ, pos, List, [], ◌∷◌, map, Bool, true, false, cond, Option, Some, None, Ok, codes, refl}
 use Rattle.std.specs.Char.{encode_utf8}
 use Rattle.std.specs.Fmt.{digits}
 use Rattle.std.specs.Str.{bytes_eq, chars, is_utf8}
