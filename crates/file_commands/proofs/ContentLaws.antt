@@ -1,6 +1,6 @@
 -- What is printed of a rename in a content, which is a text or isn't UTF-8.
 use Rattle.std.proofs.Common.{◌≡◌, ℕ, List, cond, sym, ap, ◌∙◌}
-use Rattle.std.specs.Str.{IsUtf8, is_utf8}
+use Rattle.std.specs.Str.{IsUtf8}
 use Rattle.std.proofs.lemmas.Str.{is_utf8-from_IsUtf8}
 use Rattle.ls_base.specs.declared.places.Pos.{Pos}
 use Rattle.rename_conditions.specs.Readers.{Reader}
@@ -17,6 +17,6 @@ module _ (r : Reader) (name content : List ℕ) (position : Pos) (new : List ℕ
       ∙ ap (λ b. cond b (printed (rename_in_text r name content position new)) (NotUtf8 (diagnostic_line name not_utf8))) (sym (is_utf8-from_IsUtf8 content utf8))
 
   pub of_no_text : (line : List ℕ) → (IsUtf8 content → ⊥) → line ≡ diagnostic_line name not_utf8 → NotUtf8 line ≡ renamed_in r name content position new
-  of_no_text line no is =
+  of_no_text line bad is =
       ap (λ (l : List ℕ). NotUtf8 l) is
-      ∙ ap (λ b. cond b (printed (rename_in_text r name content position new)) (NotUtf8 (diagnostic_line name not_utf8))) (sym (not_text content no))
+      ∙ ap (λ b. cond b (printed (rename_in_text r name content position new)) (NotUtf8 (diagnostic_line name not_utf8))) (sym (not_text content bad))

@@ -1,7 +1,7 @@
 -- The texts where one is opened.
-use Rattle.std.proofs.Common.{◌≡◌, ◌≤◌, ◌||◌, ℕ, ℤ, pos, List, [], ◌∷◌, length, nat_lt, true, Option, is_some, nat_cmp, refl, sym, ap, ◌∙◌}
+use Rattle.std.proofs.Common.{◌≡◌, ◌≤◌, ◌||◌, ℕ, ℤ, pos, List, [], ◌∷◌, length, nat_lt, true, Option, is_some, nat_cmp, sym, ap, ◌∙◌}
 use Rattle.std.specs.Cmp.Lexicographic.{slice_cmp, nat_list_cmp_total}
-use Rattle.std.specs.FinMap.{empty, entries, insert, entries-insert, get-empty, len, len-empty, len-entries}
+use Rattle.std.specs.FinMap.{empty, entries, entries-insert, get-empty, len, len-empty, len-entries}
 use Rattle.std.specs.FinMap.Entries.{put}
 use Rattle.std.proofs.lemmas.List.{nil_from_length}
 use Rattle.ls_base.specs.Limits.{max_documents, max_text}
@@ -13,8 +13,8 @@ no_entries : entries (empty {X = Document} {R = slice_cmp nat_cmp}) ≡ []
 no_entries = nil_from_length (entries (empty {X = Document} {R = slice_cmp nat_cmp})) (sym (len-entries (empty {X = Document} {R = slice_cmp nat_cmp})) ∙ len-empty (slice_cmp nat_cmp) Document)
 
 -- there is room for the first
-room : (uri : List ℕ) → has_room empty uri ≡ true
-room uri = ap (λ (o : Option Document). is_some o || nat_lt (len empty) max_documents) (get-empty (slice_cmp nat_cmp) uri) ∙ ap (λ (n : ℕ). nat_lt n max_documents) (len-empty (slice_cmp nat_cmp) Document)
+pub room : (uri : List ℕ) → has_room empty uri ≡ true
+room uri = ap (λ (o : Option Document). is_some o || nat_lt (len (empty {K = List ℕ} {X = Document} {R = slice_cmp nat_cmp})) max_documents) (get-empty (slice_cmp nat_cmp) uri) ∙ ap (λ (n : ℕ). nat_lt n max_documents) (len-empty (slice_cmp nat_cmp) Document)
 
 pub one_added : (uri : List ℕ) (version : ℤ) (text : List ℕ) → length text ≤ max_text → entries (added empty uri version text).0 ≡ (uri, (version, text)) ∷ []
 one_added uri version text short =

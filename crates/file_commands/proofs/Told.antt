@@ -23,6 +23,7 @@ told_edits e ds w (Err refusal) edits h = absurd h
 -- the one text is opened
 module _ (e : Encoding) (texts : Texts) (name text : List ℕ) (same : e ≡ Utf16) (one : entries texts ≡ one_document name text) (position : Pos) (new : List ℕ) (r : Reader) where
   in_text : rename_told r e (entries texts) name position new ≡ rename_in_text r name text position new
+  unfolding rename_in_text
   in_text = λ i. rename_told r (same i) (one i) name position new
 
   pub with_edits : (edits : List told.DocEdits) → AnswersAs e (entries texts) (rename_at r e (entries texts) name position new) (Ok edits) → rename_in_text r name text position new ≡ Ok edits
@@ -39,10 +40,12 @@ module _ (e : Encoding) (texts : Texts) (name text : List ℕ) (same : e ≡ Utf
 
   pub edits_printed : (edits : List told.DocEdits) (lines : List ℕ) → lines ≡ edit_lines edits → AnswersAs e (entries texts) (rename_at r e (entries texts) name position new) (Ok edits) →
       Edits lines ≡ printed (rename_in_text r name text position new)
+  unfolding printed
   edits_printed edits lines are h = ap (λ (l : List ℕ). Edits l) are ∙ sym (ap printed (with_edits edits h))
 
   pub refusal_printed : (f : Encoding) (after : Texts) → f ≡ e → after ≡ texts → (fault : RenameFault) (refusal line : List ℕ) → line ≡ refusal_line refusal →
       AnswersAs e (entries texts) (rename_at r e (entries texts) name position new) (Err fault) →
       ((a : Result (List DocEdits) Refusal) → AnswersAs f (entries after) a (Err fault) → told_as f (entries after) (opened_as r (entries after)) a ≡ Err refusal) →
       Refused line ≡ printed (rename_in_text r name text position new)
+  unfolding printed
   refusal_printed f after d t fault refusal line is h says = ap (λ (l : List ℕ). Refused l) is ∙ sym (ap printed (with_refusal f after d t fault refusal h says))

@@ -56,18 +56,16 @@ pub fn check_files<L: Ledger>(
 
 /// The documents of the files that are UTF-8.
 fn open_files(alloc: Global, names: &[Text], contents: &[Vec<u8>]) -> Mem<Store>
-    requires { length contents.now ≡ length names.now }
     ensures { IfOk result (λ store. store ≡ opened names.now (bytes_in contents.now)) }
 {
     let mut store = Store::new(alloc);
-    for place in 0..names.len() {
-        open_file(&mut store, &names[place], contents[place].as_slice())?;
+    for (name, content) in names.iter().zip(contents.iter()) {
+        open_file(&mut store, name, content.as_slice())?;
     }
     Ok(store)
 }
 
 /// Opens the document of a file, if it is UTF-8. Any refusal is answered as want of memory.
-#[tactic(auto, using(crate::proofs::FileLaws::put_in, crate::proofs::FileLaws::left_out))]
 fn open_file(store: &mut Store, name: &Text, content: &[u8]) -> Mem<()>
     ensures { OnOk result (store.new ≡ open_file store.old (name.now, content.now)) }
 {
@@ -95,21 +93,15 @@ fn listed<L: Ledger>(alloc: Global, store: Store, steps: &mut Steps<L>) -> Mem<L
         ..
     } = reading;
     let texts = Open::of(store, documents, heads, errors);
-    Ok(lists(
-        alloc,
-        &texts,
-        findings.as_slice(),
-        Encoding::Utf16,
-    )?)
+    Ok(lists(alloc, &texts, findings.as_slice(), Encoding::Utf16)?)
 }
 
 /// Adds to the lists of documents those of the files that aren't UTF-8.
 fn add_unopened(alloc: Global, lists: &mut Lists, names: &[Text], contents: &[Vec<u8>]) -> Mem<()>
-    requires { length contents.now ≡ length names.now }
     ensures { OnOk result (entries_shown lists.new ≡ fold with_file (entries_shown lists.old) (zip names.now (bytes_in contents.now))) }
 {
-    for place in 0..names.len() {
-        add_file(alloc, lists, &names[place], contents[place].as_slice())?;
+    for (name, content) in names.iter().zip(contents.iter()) {
+        add_file(alloc, lists, name, content.as_slice())?;
     }
     Ok(())
 }
@@ -144,7 +136,7 @@ fn printed(alloc: Global, lists: &Lists) -> Mem<Checked>
     let mut error = false;
     for (name, list) in lists.iter() {
         text.push_str(diagnostic_lines(alloc, name.as_str(), list.as_slice())?.as_str())?;
-        error = error || has_error(list.as_slice());
+        error |= has_error(list.as_slice());
     }
     Ok(Checked {
         lines: Text::from_string(text),

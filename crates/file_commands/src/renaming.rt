@@ -1,7 +1,7 @@
 //! A rename in the one document that a file is (LSP 3.17, textDocument/rename).
-ghost use Rattle.std.specs.Prelude.{◌≡◌, ◌≢◌, ◌≤◌, ◌<◌, List, length, Err, IfOk, OnOk};
+ghost use Rattle.std.specs.Prelude.{◌≡◌, ◌≢◌, ◌≤◌, ◌<◌, ◌+◌, ℕ, List, [], ◌∷◌, length, Err, IfOk, OnOk};
 ghost use Rattle.std.specs.declared.result.Result.{Result};
-ghost use Rattle.std.specs.FinMap.{entries};
+ghost use Rattle.std.specs.FinMap.{empty, entries};
 ghost use Rattle.ls_base.specs.Limits.{max_text};
 ghost use Rattle.ls_base.specs.declared.encoding.Encoding.TheVariants.{Utf16};
 ghost use Rattle.command_lines.specs.Diagnostics as diagnostics;
@@ -10,8 +10,8 @@ ghost use Rattle.rename_conditions.specs.Opened.{DocEdits as Edits};
 ghost use Rattle.rename_conditions.specs.Readers.{Reader, IsReader};
 ghost use Rattle.rename_conditions.specs.Renames.{Refusal};
 ghost use Rattle.rename_planner.specs.RenameOutcomes.{AnswersAs};
-ghost use Rattle.rename_planner.specs.ToldRenames.{opened_as, told_as};
-ghost use Rattle.file_commands.specs.Renaming.{one_document, printed, rename_in_text, renamed_in};
+ghost use Rattle.rename_planner.specs.ToldRenames.{opened_as, rename_uses, text_uses, told_as};
+ghost use Rattle.file_commands.specs.Renaming.{one_document, printed, rename_in_text, renamed_in, renaming_uses};
 
 use command_lines::{diagnostic_lines, edit_lines, not_utf8, refusal_line};
 use ls_base::{Mem, Pos, Steps, Text};
@@ -44,7 +44,8 @@ pub fn rename_in<L: Ledger>(
     steps: &mut Steps<L>,
 ) -> Mem<Renamed>
     requires { length content.now ≤ max_text }
-    ensures { (r : Reader) → IsReader r → IfOk result (λ renamed. renamed ≡ renamed_in r name.now content.now position new_name.now) }
+    ensures renamed { (r : Reader) → IsReader r → IfOk result (λ renamed. renamed ≡ renamed_in r name.now content.now position new_name.now) }
+    ensures steps { (r : Reader) → IsReader r → OnOk result (steps.new ≡ steps.old + renaming_uses r name.now content.now position new_name.now) }
 {
     match str::from_utf8(content) {
         Ok(text) => Ok(rename_in_text(alloc, name, text, position, new_name, steps)?),
@@ -57,11 +58,7 @@ fn not_utf8_line(alloc: Global, name: &Text) -> Mem<Text>
     ensures { IfOk result (λ line. line ≡ diagnostics.diagnostic_line name.now diagnostics.not_utf8) }
 {
     let diagnostic = not_utf8(alloc)?;
-    Ok(Text::from_string(diagnostic_lines(
-        alloc,
-        name.as_str(),
-        &[diagnostic],
-    )?))
+    Ok(Text::from_string(diagnostic_lines(alloc, name.as_str(), &[diagnostic])?))
 }
 
 /// Renames what stands at a position of a text.
@@ -74,36 +71,50 @@ fn rename_in_text<L: Ledger>(
     steps: &mut Steps<L>,
 ) -> Mem<Renamed>
     requires { length text.now ≤ max_text }
-    ensures { (r : Reader) → IsReader r → IfOk result (λ renamed. renamed ≡ printed (rename_in_text r name.now text.now position new_name.now)) }
+    ensures renamed { (r : Reader) → IsReader r → IfOk result (λ renamed. renamed ≡ printed (rename_in_text r name.now text.now position new_name.now)) }
+    ensures steps { (r : Reader) → IsReader r
+        → OnOk result (steps.new ≡ steps.old + (text_uses r (text.now ∷ []) + rename_uses r Utf16 (one_document name.now text.now) name.now position new_name.now)) }
 {
-    let mut workspace = opened(alloc, name, text, steps)?;
-    match rename(alloc, &mut workspace, name, position, new_name, steps) {
-        Ok(edits) => Ok(Renamed::Edits(Text::from_string(edit_lines(
-            alloc,
-            edits.as_slice(),
-        )?))),
-        Err(fault) => {
-            let refusal = refusal(alloc, &workspace, &fault)?;
-            Ok(Renamed::Refused(Text::from_string(refusal_line(
-                alloc,
-                refusal.as_str(),
-            )?)))
-        }
-    }
+    let mut workspace = Workspace::new(alloc)?;
+    rename_alone(alloc, &mut workspace, name, text, position, new_name, steps)
 }
 
-/// The workspace with one document.
-fn opened<L: Ledger>(
+/// Renames what stands at a position of a text, which is opened where no document is open.
+fn rename_alone<L: Ledger>(
     alloc: Global,
+    workspace: &mut Workspace,
+    name: &Text,
+    text: &str,
+    position: Pos,
+    new_name: &Text,
+    steps: &mut Steps<L>,
+) -> Mem<Renamed>
+    requires none { workspace.old.texts ≡ empty }
+    requires encoding { workspace.old.encoding ≡ Utf16 }
+    requires short { length text.now ≤ max_text }
+    ensures renamed { (r : Reader) → IsReader r → IfOk result (λ renamed. renamed ≡ printed (rename_in_text r name.now text.now position new_name.now)) }
+    ensures steps { (r : Reader) → IsReader r
+        → OnOk result (steps.new ≡ steps.old + (text_uses r (text.now ∷ []) + rename_uses r Utf16 (one_document name.now text.now) name.now position new_name.now)) }
+{
+    open(alloc, workspace, name, text, steps)?;
+    Ok(rename_opened(alloc, workspace, name, position, new_name, steps)?)
+}
+
+/// Opens a text where no document is open.
+fn open<L: Ledger>(
+    alloc: Global,
+    workspace: &mut Workspace,
     name: &Text,
     text: &str,
     steps: &mut Steps<L>,
-) -> Mem<Workspace>
-    requires { length text.now ≤ max_text }
-    ensures texts { IfOk result (λ workspace. entries workspace.texts ≡ one_document name.now text.now) }
-    ensures encoding { IfOk result (λ workspace. workspace.encoding ≡ Utf16) }
+) -> Mem<()>
+    requires none { workspace.old.texts ≡ empty }
+    requires encoding { workspace.old.encoding ≡ Utf16 }
+    requires short { length text.now ≤ max_text }
+    ensures texts { OnOk result (entries workspace.new.texts ≡ one_document name.now text.now) }
+    ensures encoding { OnOk result (workspace.new.encoding ≡ Utf16) }
+    ensures steps { (r : Reader) → IsReader r → OnOk result (steps.new ≡ steps.old + text_uses r (text.now ∷ [])) }
 {
-    let mut workspace = Workspace::new(alloc)?;
     let event = DocEvent::Added {
         uri: name.clone()?,
         version: VERSION,
@@ -111,7 +122,31 @@ fn opened<L: Ledger>(
     };
     workspace.update(&event, steps)?;
     workspace.collect()?;
-    Ok(workspace)
+    Ok(())
+}
+
+/// Renames what stands at a position of the one text that is open.
+fn rename_opened<L: Ledger>(
+    alloc: Global,
+    workspace: &mut Workspace,
+    name: &Text,
+    position: Pos,
+    new_name: &Text,
+    steps: &mut Steps<L>,
+) -> Mem<Renamed>
+    requires { workspace.old.encoding ≡ Utf16 }
+    ensures renamed { (r : Reader) (text : List ℕ) → IsReader r → entries workspace.old.texts ≡ one_document name.now text
+        → IfOk result (λ renamed. renamed ≡ printed (rename_in_text r name.now text position new_name.now)) }
+    ensures steps { (r : Reader) (text : List ℕ) → IsReader r → entries workspace.old.texts ≡ one_document name.now text
+        → OnOk result (steps.new ≡ steps.old + rename_uses r Utf16 (one_document name.now text) name.now position new_name.now) }
+{
+    match rename(alloc, workspace, name, position, new_name, steps) {
+        Ok(edits) => Ok(Renamed::Edits(Text::from_string(edit_lines(alloc, edits.as_slice())?))),
+        Err(fault) => {
+            let refusal = refusal(alloc, workspace, &fault)?;
+            Ok(Renamed::Refused(Text::from_string(refusal_line(alloc, refusal.as_str())?)))
+        }
+    }
 }
 
 /// What a refused rename says. Want of memory is passed on.

@@ -1,9 +1,11 @@
-use Rattle.std.proofs.Common.{◌≡◌, take}
-use Rattle.std.specs.FinMap.{empty}
+use Rattle.std.proofs.Common.{◌≡◌}
+use Rattle.std.specs.Iterator.Adapters.{zip_first, zip_second}
 use Rattle.std.specs.List.{fold, zip}
-use Rattle.file_commands.specs.Checking.{bytes_in, open_file}
+use Rattle.std.specs.Slice.Iter.{iter_rest}
+use Rattle.file_commands.specs.Checking.{bytes_in, open_file, opened}
 use Rattle.file_commands.proofs.checking.open_files.Given as goal
 
--- the files gone through are opened
-abbrev pub invariant-loop-place : goal.invariant-loop-place
-invariant-loop-place l = l.store ≡ fold open_file empty (take l.place (zip l.names (bytes_in l.contents)))
+-- with the files that are left the texts are those of all
+abbrev pub invariant-loop-name : goal.invariant-loop-name
+invariant-loop-name l =
+    fold open_file l.store (zip (iter_rest (zip_first l.name-iterator)) (bytes_in (iter_rest (zip_second l.name-iterator)))) ≡ opened l.names (bytes_in l.contents)
