@@ -13,18 +13,29 @@ abbrev pub function_before : ℕ → List ℕ
 function_before zero = codes "abs"
 function_before (suc n) = codes "f" ++ decimal n
 
--- its macro's template, and the function that it defines, each bind a `t`
-abbrev pub library_text : ℕ → List ℕ
-library_text n =
-    codes "(define-library (gen l" ++ decimal n ++ codes ") (export f" ++ decimal n ++ codes " twice" ++ decimal n
-    ++ codes ") (import (scheme base)" ++ import_before n
-    ++ codes ") (begin (define-syntax twice" ++ decimal n ++ codes " (syntax-rules () ((_ e) (let ((t e)) (+ t t))))) (define (f" ++ decimal n
-    ++ codes " t) (twice" ++ decimal n ++ codes " (" ++ function_before n ++ codes " t)))))"
+-- what it is called, exports and imports; its macro; and its function. The macro's template and the function each bind a `t`
+abbrev pub library_head : ℕ → List ℕ
+library_head n = codes "(define-library (gen l" ++ decimal n ++ codes ") (export f" ++ decimal n ++ codes " twice" ++ decimal n ++ codes ") (import (scheme base)" ++ import_before n ++ codes ")"
+
+abbrev pub library_macro : ℕ → List ℕ
+library_macro n = codes "(define-syntax twice" ++ decimal n ++ codes " (syntax-rules () ((_ e) (let ((t e)) (+ t t)))))"
+
+abbrev pub library_function : ℕ → List ℕ
+library_function n = codes "(define (f" ++ decimal n ++ codes " t) (twice" ++ decimal n ++ codes " (" ++ function_before n ++ codes " t)))"
+
+abbrev pub joined : (head keyword function : List ℕ) → List ℕ
+joined head keyword function = head ++ codes " (begin " ++ keyword ++ codes " " ++ function ++ codes "))"
+
+unfoldable pub library_text : ℕ → List ℕ
+library_text n = joined (library_head n) (library_macro n) (library_function n)
 
 -- the program that uses library n
-abbrev pub main_text : ℕ → List ℕ
+unfoldable pub main_text : ℕ → List ℕ
 main_text n =
     codes "(import (scheme base) (gen l" ++ decimal n ++ codes ")) (define t 1) (define r (twice" ++ decimal n ++ codes " (f" ++ decimal n ++ codes " t)))"
+
+abbrev pub main_uri : List ℕ
+main_uri = codes "gen:/main"
 
 abbrev pub library_uri : ℕ → List ℕ
 library_uri n = codes "gen:/l" ++ decimal n
@@ -37,4 +48,4 @@ libraries (suc n) = insert (libraries n) (library_uri n) (pos 0, library_text n)
 -- so many libraries, and the program that uses the last of them
 abbrev pub selfrun_texts : ℕ → Texts
 selfrun_texts zero = empty
-selfrun_texts (suc n) = insert (libraries (suc n)) (codes "gen:/main") (pos 0, main_text n)
+selfrun_texts (suc n) = insert (libraries (suc n)) main_uri (pos 0, main_text n)
