@@ -53,7 +53,7 @@ own (x ∷ rows) h (suc n) r at = past (is_eq (slice_cmp nat_cmp r.0 x.0)) refl
 
 -- ---- sums over documents, as they are read, and over their lists
 
-over_documents : (g : List ℕ → ℕ) (ds : List (List ℕ × Document)) (cs : List read.Document) → AreDocuments ds cs → (a : ℕ) →
+pub over_documents : (g : List ℕ → ℕ) (ds : List (List ℕ × Document)) (cs : List read.Document) → AreDocuments ds cs → (a : ℕ) →
     fold (λ n (c : read.Document). n + g c.uri) a cs ≡ fold (λ n (d : List ℕ × Document). n + g d.0) a ds
 over_documents g [] [] h a = refl
 over_documents g [] (c ∷ cs) h a = absurd h

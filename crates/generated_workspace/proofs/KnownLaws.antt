@@ -1,5 +1,5 @@
 -- What is known once all that is published was kept.
-use Rattle.std.proofs.Common.{◌≡◌, ◌≢◌, ◌⊎◌, inl, inr, ℕ, zero, suc, List, [], ◌∷◌, map, slice_get, Bool, true, false, cond, Some, BTreeMap, String, string_bytes, bytes_eq, nat_cmp, refl, sym, ap, ◌∙◌}
+use Rattle.std.proofs.Common.{◌≡◌, ◌≢◌, ◌⊎◌, inl, inr, ℕ, zero, suc, List, [], ◌∷◌, map, slice_get, Bool, true, false, cond, Option, Some, BTreeMap, String, string_bytes, bytes_eq, nat_cmp, refl, sym, ap, ◌∙◌}
 use Rattle.std.specs.BTreeMap.{is_at}
 use Rattle.std.specs.Cmp.Lexicographic.{slice_cmp}
 use Rattle.std.specs.FinMap.{empty, entries, find, get-entries, len, len-empty, len-entries}
@@ -74,3 +74,7 @@ known_after e before after changed ps known was news = λ lists are uri.
 -- what is known so is known
 pub known_alike : (e : Encoding) (texts : Texts) (known other : Known) → IsKnownOf e texts known → ((uri : List ℕ) → other uri ≡ known uri) → IsKnownOf e texts other
 known_alike e texts known other is same = λ lists are uri. same uri ∙ is lists are uri
+
+pub none_past : (b : Bool) (list : List Diagnostic) (o : Option (List Diagnostic)) → or_none (cond b (Some list) o) ≡ cond b list (or_none o)
+none_past true list o = refl
+none_past false list o = refl

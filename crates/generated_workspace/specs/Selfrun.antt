@@ -65,7 +65,7 @@ selfrun_lines r rs n = count_lines (counts_of r (entries (selfrun_texts n)) rs)
 
 -- ---- the macro uses that are counted
 
-abbrev pub uses_of : Reader → Texts → ℕ
+unfoldable pub uses_of : Reader → Texts → ℕ
 uses_of r texts = text_uses r (texts_of (entries texts))
 
 -- each library that is opened, all that are open are expanded

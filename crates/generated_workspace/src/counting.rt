@@ -38,7 +38,7 @@ const DEFINED_AT: Pos = Pos {
 const NEW_NAME: &str = "g";
 
 /// Counts what a workspace answers, of which all that was published is known.
-pub fn counts<L: Ledger>(
+pub fn count_all<L: Ledger>(
     alloc: Global,
     workspace: &mut Workspace,
     known: &Lists,
@@ -51,8 +51,9 @@ pub fn counts<L: Ledger>(
     ensures steps { (r : Reader) → IsReader r → OnOk result (steps.new ≡ steps.old + rename_uses r Utf16 (entries workspace.old.texts) (generated.library_uri 0) defined_at new_name) }
 {
     let uri = library_uri(alloc, 0)?;
-    let documents = workspace.open().documents().len();
-    let diagnostics = count_diagnostics(alloc, workspace.open().documents(), known)?;
+    let opened = workspace.open().documents();
+    let documents = opened.len();
+    let diagnostics = count_diagnostics(alloc, opened, known)?;
     let arrows = count_arrows(alloc, workspace)?;
     let references = count_references(workspace, uri.as_str())?;
     let edits = count_edits(alloc, workspace, &uri, steps)?;

@@ -6,7 +6,7 @@ ghost use Rattle.rename_conditions.specs.Readers.{Reader, IsReader};
 ghost use Rattle.generated_workspace.specs.Generated.{selfrun_texts};
 ghost use Rattle.generated_workspace.specs.Selfrun.{selfrun_lines, selfrun_uses};
 
-use crate::counting::counts;
+use crate::counting::count_all;
 use crate::opening::open_all;
 use command_lines::count_lines;
 use ls_base::{Mem, Steps, Text};
@@ -28,6 +28,6 @@ pub fn selfrun<L: Ledger>(alloc: Global, libraries: u32, steps: &mut Steps<L>) -
     let mut known = BTreeMap::new(alloc);
     open_all(alloc, &mut workspace, &mut known, libraries, steps)?;
     workspace.collect()?;
-    let counts = counts(alloc, &mut workspace, &known, steps)?;
+    let counts = count_all(alloc, &mut workspace, &known, steps)?;
     Ok(Text::from_string(count_lines(alloc, counts)?))
 }
