@@ -6,24 +6,7 @@ use Rattle.std.specs.Fmt.{decimal}
 use Rattle.std.proofs.lemmas.Fmt.{length-decimal-le}
 use Rattle.ls_base.specs.Limits.{max_text}
 use Rattle.document_store.specs.Texts.{Document, Texts}
-use Rattle.generated_workspace.specs.Generated.{function_before, import_before, libraries, library_function, library_head, library_macro, library_text, library_uri, main_text, main_uri, selfrun_texts}
-
--- ---- the library before
-
-pub first_imports : (n : ℕ) → n ≡ 0 → import_before n ≡ []
-first_imports n first = ap import_before first
-
-pub later_imports : (n : ℕ) → 0 < n → import_before n ≡ codes " (gen l" ++ decimal (n - 1) ++ codes ")"
-later_imports zero later = absurd (omega arith)
-later_imports (suc n) later =
-    let before : n ≡ suc n - 1 = omega arith in ap (λ (k : ℕ). codes " (gen l" ++ decimal k ++ codes ")") before
-
-pub first_calls : (n : ℕ) → n ≡ 0 → function_before n ≡ codes "abs"
-first_calls n first = ap function_before first
-
-pub later_calls : (n : ℕ) → 0 < n → function_before n ≡ codes "f" ++ decimal (n - 1)
-later_calls zero later = absurd (omega arith)
-later_calls (suc n) later = let before : n ≡ suc n - 1 = omega arith in ap (λ (k : ℕ). codes "f" ++ decimal k) before
+use Rattle.generated_workspace.specs.Generated.{function_before, import_before, libraries, library_call, library_exports, library_imports, library_macro, library_text, library_uri, main_text, main_uri, selfrun_texts}
 
 -- ---- the texts are short
 
@@ -32,37 +15,41 @@ digits n few = length-decimal-le 2 n (omega arith) (omega arith) (omega arith)
 
 import_short : (n : ℕ) → n < 60 → length (import_before n) ≤ 100
 import_short zero few = omega arith
-import_short (suc n) few = let d = digits n (omega arith) in omega (arith, length-append {A = ℕ})
+import_short (suc n) few = let d = digits n (omega arith) in simp length-append (omega arith)
 
 function_short : (n : ℕ) → n < 60 → length (function_before n) ≤ 100
 function_short zero few = omega arith
-function_short (suc n) few = let d = digits n (omega arith) in omega (arith, length-append {A = ℕ})
+function_short (suc n) few = let d = digits n (omega arith) in simp length-append (omega arith)
 
-head_short : (n : ℕ) → n < 60 → length (library_head n) ≤ 1000
-head_short n few =
-    let d = digits n few in
-    let i = import_short n few in
-    omega (arith, length-append {A = ℕ})
+exports_short : (n : ℕ) → n < 60 → length (library_exports n) ≤ 1000
+exports_short n few = let d = digits n few in simp length-append (omega arith)
+
+imports_short : (n : ℕ) → n < 60 → length (library_imports n) ≤ 1000
+imports_short n few = let i = import_short n few in simp length-append (omega arith)
 
 macro_short : (n : ℕ) → n < 60 → length (library_macro n) ≤ 1000
-macro_short n few = let d = digits n few in omega (arith, length-append {A = ℕ})
+macro_short n few = let d = digits n few in simp length-append (omega arith)
 
-whole_short : (n : ℕ) → n < 60 → length (library_function n) ≤ 1000
-whole_short n few =
+call_short : (n : ℕ) → n < 60 → length (library_call n) ≤ 1000
+call_short n few =
     let d = digits n few in
     let f = function_short n few in
-    omega (arith, length-append {A = ℕ})
+    simp length-append (omega arith)
 
-joined_short : (a b c : List ℕ) → length a ≤ 1000 → length b ≤ 1000 → length c ≤ 1000 → length (a ++ codes " (begin " ++ b ++ codes " " ++ c ++ codes "))") ≤ max_text
-joined_short a b c p q r = omega (arith, length-append {A = ℕ})
+whole : (d a b c k : List ℕ) → length d ≤ 2 → length a ≤ 1000 → length b ≤ 1000 → length c ≤ 1000 → length k ≤ 1000 →
+    length (codes "(define-library (gen l" ++ d ++ codes ") " ++ (a ++ codes " " ++ b ++ codes " " ++ (codes "(begin " ++ c ++ codes " " ++ (codes "(define (f" ++ d ++ codes " t) " ++ k ++ codes ")") ++ codes ")")) ++ codes ")") ≤ max_text
+whole d a b c k p q r s t = simp length-append (omega arith)
 
 pub library_short : (n : ℕ) → n < 60 → length (library_text n) ≤ max_text
 unfolding library_text
-library_short n few = joined_short (library_head n) (library_macro n) (library_function n) (head_short n few) (macro_short n few) (whole_short n few)
+library_short n few = whole (decimal n) (library_exports n) (library_imports n) (library_macro n) (library_call n) (digits n few) (exports_short n few) (imports_short n few) (macro_short n few) (call_short n few)
+
+program_short : (d : List ℕ) → length d ≤ 2 → length ((codes "(import (scheme base) (gen l" ++ d ++ codes "))") ++ codes " " ++ (codes "(define t 1) (define r (twice" ++ d ++ codes " (f" ++ d ++ codes " t)))")) ≤ max_text
+program_short d p = simp length-append (omega arith)
 
 pub main_short : (n : ℕ) → n < 60 → length (main_text n) ≤ max_text
 unfolding main_text
-main_short n few = let d = digits n few in omega (arith, length-append {A = ℕ})
+main_short n few = program_short (decimal n) (digits n few)
 
 -- ---- and few
 

@@ -13,26 +13,40 @@ abbrev pub function_before : ℕ → List ℕ
 function_before zero = codes "abs"
 function_before (suc n) = codes "f" ++ decimal n
 
--- what it is called, exports and imports; its macro; and its function. The macro's template and the function each bind a `t`
-abbrev pub library_head : ℕ → List ℕ
-library_head n = codes "(define-library (gen l" ++ decimal n ++ codes ") (export f" ++ decimal n ++ codes " twice" ++ decimal n ++ codes ") (import (scheme base)" ++ import_before n ++ codes ")"
+-- what it exports and imports; its macro, and its function, which calls that of the library before. The macro's template and the function each bind a `t`
+abbrev pub library_exports : ℕ → List ℕ
+library_exports n = codes "(export f" ++ decimal n ++ codes " twice" ++ decimal n ++ codes ")"
+
+abbrev pub library_imports : ℕ → List ℕ
+library_imports n = codes "(import (scheme base)" ++ import_before n ++ codes ")"
 
 abbrev pub library_macro : ℕ → List ℕ
 library_macro n = codes "(define-syntax twice" ++ decimal n ++ codes " (syntax-rules () ((_ e) (let ((t e)) (+ t t)))))"
 
-abbrev pub library_function : ℕ → List ℕ
-library_function n = codes "(define (f" ++ decimal n ++ codes " t) (twice" ++ decimal n ++ codes " (" ++ function_before n ++ codes " t)))"
+abbrev pub library_call : ℕ → List ℕ
+library_call n = codes "(twice" ++ decimal n ++ codes " (" ++ function_before n ++ codes " t))"
 
-abbrev pub joined : (head keyword function : List ℕ) → List ℕ
-joined head keyword function = head ++ codes " (begin " ++ keyword ++ codes " " ++ function ++ codes "))"
+abbrev pub library_function : ℕ → List ℕ
+library_function n = codes "(define (f" ++ decimal n ++ codes " t) " ++ library_call n ++ codes ")"
+
+abbrev pub library_begin : ℕ → List ℕ
+library_begin n = codes "(begin " ++ library_macro n ++ codes " " ++ library_function n ++ codes ")"
+
+abbrev pub library_declarations : ℕ → List ℕ
+library_declarations n = library_exports n ++ codes " " ++ library_imports n ++ codes " " ++ library_begin n
 
 unfoldable pub library_text : ℕ → List ℕ
-library_text n = joined (library_head n) (library_macro n) (library_function n)
+library_text n = codes "(define-library (gen l" ++ decimal n ++ codes ") " ++ library_declarations n ++ codes ")"
 
 -- the program that uses library n
+abbrev pub main_import : ℕ → List ℕ
+main_import n = codes "(import (scheme base) (gen l" ++ decimal n ++ codes "))"
+
+abbrev pub main_definitions : ℕ → List ℕ
+main_definitions n = codes "(define t 1) (define r (twice" ++ decimal n ++ codes " (f" ++ decimal n ++ codes " t)))"
+
 unfoldable pub main_text : ℕ → List ℕ
-main_text n =
-    codes "(import (scheme base) (gen l" ++ decimal n ++ codes ")) (define t 1) (define r (twice" ++ decimal n ++ codes " (f" ++ decimal n ++ codes " t)))"
+main_text n = main_import n ++ codes " " ++ main_definitions n
 
 abbrev pub main_uri : List ℕ
 main_uri = codes "gen:/main"
