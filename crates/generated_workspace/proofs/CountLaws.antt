@@ -45,11 +45,11 @@ own [] h n r at = cc
 own (x ∷ rows) h zero r at =
     let same : x ≡ r = cc in
     ap (λ b. cond b (Some x.1) (find (slice_cmp nat_cmp) r.0 rows)) (is_tied r.0 x.0 (ap (λ (y : Row). y.0) (sym same))) ∙ ap (λ (y : Row). Some y.1) same
-own (x ∷ rows) h (suc n) r at = past (is_eq (slice_cmp nat_cmp r.0 x.0)) refl
+own (x ∷ rows) h (suc n) r at = past (is_eq (slice_cmp nat_cmp r.0 x.0)) refl (own rows (second _ _ h) n r at)
   where
-    past : (b : Bool) → is_eq (slice_cmp nat_cmp r.0 x.0) ≡ b → find (slice_cmp nat_cmp) r.0 (x ∷ rows) ≡ Some r.1
-    past true tie = absurd (not_both (slice_cmp nat_cmp x.0 r.0) (below_at x.0 rows (first _ _ h) n r at) (is_tied x.0 r.0 (sym (ties_are r.0 x.0 tie))))
-    past false tie = ap (λ b. cond b (Some x.1) (find (slice_cmp nat_cmp) r.0 rows)) tie ∙ own rows (second _ _ h) n r at
+    past : (b : Bool) → is_eq (slice_cmp nat_cmp r.0 x.0) ≡ b → find (slice_cmp nat_cmp) r.0 rows ≡ Some r.1 → find (slice_cmp nat_cmp) r.0 (x ∷ rows) ≡ Some r.1
+    past true tie rest = absurd (not_both (slice_cmp nat_cmp x.0 r.0) (below_at x.0 rows (first _ _ h) n r at) (is_tied x.0 r.0 (sym (ties_are r.0 x.0 tie))))
+    past false tie rest = ap (λ b. cond b (Some x.1) (find (slice_cmp nat_cmp) r.0 rows)) tie ∙ rest
 
 -- ---- sums over documents, as they are read, and over their lists
 

@@ -30,6 +30,6 @@ returns c = λ rs are.
     let cs = c.documents-documents.result.now in
     let arrows : List ℕ → ℕ = λ uri. arrows_to uri (answer_of e ds rs uri defined_at model.Arrows) in
     let over : length cs ≤ c.loop-document.document-index = omega arith in
-    let length_is = c.len.ensures ∙ ap (λ (xs : List Range). length xs) c.as_slice.ensures in
+    let length_is = ap (λ (xs : List Range). length xs) c.as_slice.ensures in
     length_is ∙ sum_whole (λ (x : Document). arrows x.uri) cs c.loop-document.document-index (length c.loop-document.ranges) over (c.loop-document.invariant rs are)
     ∙ over_documents arrows ds cs (subst (λ (t : Texts). AreDocuments (entries t) cs) c.open.ensures c.documents-documents.ensures) 0

@@ -17,5 +17,5 @@ loop-document-preserved c =
 pub returns : goal.returns
 returns c =
     let over : length c.args.documents.now ≤ c.loop-document.document-index = omega arith in
-    let length_is = c.len.ensures ∙ ap (λ (xs : List Range). length xs) c.as_slice.ensures in
+    let length_is = ap (λ (xs : List Range). length xs) c.as_slice.ensures in
     length_is ∙ sum_whole (λ (d : Document). length (list_at c.args.known.now d.uri)) c.args.documents.now c.loop-document.document-index (length c.loop-document.ranges) over c.loop-document.invariant

@@ -9,7 +9,7 @@ use Rattle.generated_workspace.proofs.known.learn.Goals as goal
 pub loop-published-preserved : goal.loop-published-preserved
 loop-published-preserved c = λ uri.
     let p = c.in-Some.published in
-    let start = list_at c.loop-published.initial.known in
+    let start = list_at c.args.known.now in
     c.in_ok-learn_one.ensures uri
     ∙ ap (λ xs. cond (bytes_eq p.uri uri) p.list xs) (c.loop-published.invariant uri)
     ∙ ap (λ (k : Known). k uri) (sym (fold_push with_published start c.loop-published.yielded p))
