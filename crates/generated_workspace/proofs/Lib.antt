@@ -4,4 +4,3 @@ pub mod CountLaws  -- The diagnostics of documents are counted by what is known 
 pub mod SumLaws  -- Sums along a list
 pub mod OpenLaws  -- A document is opened where there is room and its text is short
 pub mod EditLaws  -- The edits of a rename, counted as they are told
-pub mod Rows  -- What workspaces of one and of two libraries come to

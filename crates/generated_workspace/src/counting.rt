@@ -1,6 +1,6 @@
 //! What a workspace that is made of a number answers, counted: its diagnostics and arrows, and the references and the rename of the
 //! function that its first library defines.
-ghost use Rattle.std.specs.Prelude.{◌≡◌, ◌≢◌, ◌+◌, ◌∷◌, ℕ, List, length, if◌then◌else◌, Err, IfOk, OnOk};
+ghost use Rattle.std.specs.Prelude.{◌≡◌, ◌≢◌, ◌+◌, true, ℕ, List, length, if◌then◌else◌, Err, IfOk, OnOk};
 ghost use Rattle.std.specs.FinMap.{entries};
 ghost use Rattle.std.specs.List.{count_by, sum_by};
 ghost use Rattle.std.specs.Str.{bytes_eq};

@@ -2,10 +2,10 @@
 //! and a program that uses the last (R7RS 5.6).
 #![tactic(auto)]
 
+mod command;
 mod counting;
 mod known;
 mod opening;
-mod selfrun;
 mod texts;
 
-pub use selfrun::selfrun;
+pub use command::selfrun;

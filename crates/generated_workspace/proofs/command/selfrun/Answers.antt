@@ -12,7 +12,7 @@ use Rattle.generated_workspace.specs.Known.{IsKnownOf}
 use Rattle.generated_workspace.specs.Selfrun.{counts_of, defined_at, new_name, opening_uses, uses_of}
 use Rattle.generated_workspace.proofs.KnownLaws.{nothing_at, nothing_known}
 use Rattle.generated_workspace.proofs.OpenLaws.{all_uses}
-use Rattle.generated_workspace.proofs.selfrun.selfrun.Goals as goal
+use Rattle.generated_workspace.proofs.command.selfrun.Goals as goal
 
 pub open_all-requires : goal.open_all-requires
 open_all-requires g c = record {
