@@ -12,15 +12,15 @@ use Rattle.generated_workspace.specs.Known.{IsKnownOf}
 use Rattle.generated_workspace.specs.Selfrun.{counts_of, defined_at, new_name, opening_uses, uses_of}
 use Rattle.generated_workspace.proofs.KnownLaws.{nothing_at, nothing_known}
 use Rattle.generated_workspace.proofs.OpenLaws.{all_uses}
-use Rattle.generated_workspace.proofs.command.selfrun.Goals as goal
+use Rattle.generated_workspace.proofs.command.lines_of.Goals as goal
 
 pub open_all-requires : goal.open_all-requires
 open_all-requires g c = record {
   some = c.requires.some;
   few = c.requires.few;
-  none = c.in_ok-workspace.ensures.texts;
-  encoding = c.in_ok-workspace.ensures.encoding;
-  known = nothing_known Utf16 c.in_ok-workspace.workspace.texts (list_at c.new-known.result) c.in_ok-workspace.ensures.texts (nothing_at c.new-known.result c.new-known.ensures.empty);
+  none = c.requires.none;
+  encoding = c.requires.encoding;
+  known = nothing_known Utf16 c.args.workspace.now.texts (list_at c.new-known.result) c.requires.none (nothing_at c.new-known.result c.new-known.ensures.empty);
 }
 
 pub count_all-counts-requires : goal.count_all-counts-requires
