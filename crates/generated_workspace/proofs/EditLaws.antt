@@ -35,17 +35,13 @@ none_told e ds w (Ok es) (faults.Differs difference) free h = absurd h
 
 -- ---- by the rename
 
-module _ (r : Reader) (e : Encoding) (ds : List (List ℕ × Document)) (uri : List ℕ) (position : Pos) (name new : List ℕ) (same : name ≡ new) (count : ℕ) where
-  pub edits_counted : (edits : List told.DocEdits) → count ≡ sum_by (λ (d : told.DocEdits). length d.edits) edits → AnswersAs e ds (rename_at r e ds uri position name) (Ok edits) → count ≡ edits_in (rename_told r e ds uri position new)
-  edits_counted edits is h = is ∙ edits_told e ds (opened_as r ds) (rename_at r e ds uri position name) edits h ∙ ap (λ (n : List ℕ). edits_in (rename_told r e ds uri position n)) same
+module _ (r : Reader) (e : Encoding) (ds : List (List ℕ × Document)) (uri : List ℕ) (position : Pos) (name : List ℕ) (count : ℕ) where
+  pub edits_counted : (edits : List told.DocEdits) → count ≡ sum_by (λ (d : told.DocEdits). length d.edits) edits → AnswersAs e ds (rename_at r e ds uri position name) (Ok edits) → count ≡ edits_in (rename_told r e ds uri position name)
+  edits_counted edits is h = is ∙ edits_told e ds (opened_as r ds) (rename_at r e ds uri position name) edits h
 
-  pub none_counted : (fault : RenameFault) → count ≡ 0 → fault ≢ faults.Memory → AnswersAs e ds (rename_at r e ds uri position name) (Err fault) → count ≡ edits_in (rename_told r e ds uri position new)
-  none_counted fault is free h = is ∙ none_told e ds (opened_as r ds) (rename_at r e ds uri position name) fault free h ∙ ap (λ (n : List ℕ). edits_in (rename_told r e ds uri position n)) same
+  pub none_counted : (fault : RenameFault) → count ≡ 0 → fault ≢ faults.Memory → AnswersAs e ds (rename_at r e ds uri position name) (Err fault) → count ≡ edits_in (rename_told r e ds uri position name)
+  none_counted fault is free h = is ∙ none_told e ds (opened_as r ds) (rename_at r e ds uri position name) fault free h
 
-fault_in : Result (List told.DocEdits) RenameFault → RenameFault
+abbrev pub fault_in : Result (List told.DocEdits) RenameFault → RenameFault
 fault_in (Ok edits) = faults.Memory
 fault_in (Err fault) = fault
-
-pub not_memory : (fault : RenameFault) → fault ≢ faults.Memory → Err fault ≢ Err faults.Memory
-unfolding fault_in
-not_memory fault free same = free (ap fault_in same)

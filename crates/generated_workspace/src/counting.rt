@@ -150,7 +150,22 @@ fn count_edits<L: Ledger>(
     ensures steps { (r : Reader) → IsReader r → OnOk result (steps.new ≡ steps.old + rename_uses r workspace.old.encoding (entries workspace.old.texts) uri.now defined_at new_name) }
 {
     let name = Text::of(alloc, NEW_NAME)?;
-    match rename(alloc, workspace, uri, DEFINED_AT, &name, steps) {
+    Ok(count_renamed(alloc, workspace, uri, &name, steps)?)
+}
+
+/// How many edits rename the function to a name.
+fn count_renamed<L: Ledger>(
+    alloc: Global,
+    workspace: &mut Workspace,
+    uri: &Text,
+    name: &Text,
+    steps: &mut Steps<L>,
+) -> Mem<usize>
+    ensures edits { (r : Reader) → IsReader r →
+        IfOk result (λ count. count ≡ edits_in (rename_told r workspace.old.encoding (entries workspace.old.texts) uri.now defined_at name.now)) }
+    ensures steps { (r : Reader) → IsReader r → OnOk result (steps.new ≡ steps.old + rename_uses r workspace.old.encoding (entries workspace.old.texts) uri.now defined_at name.now) }
+{
+    match rename(alloc, workspace, uri, DEFINED_AT, name, steps) {
         Ok(edits) => Ok(edits_in(alloc, edits.as_slice())?),
         Err(fault) => Ok(no_edits(&fault)?),
     }
