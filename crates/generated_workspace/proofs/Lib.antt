@@ -4,3 +4,4 @@ pub mod CountLaws  -- The diagnostics of documents are counted by what is known 
 pub mod SumLaws  -- Sums along a list
 pub mod OpenLaws  -- A document is opened where there is room and its text is short
 pub mod EditLaws  -- The edits of a rename, counted as they are told
+mod TextRows  -- Some texts and uris of workspaces, letter by letter

@@ -21,7 +21,9 @@ ghost use Rattle.generated_workspace.specs.Selfrun.{arrows_to, counts_of, define
 use crate::known::count_diagnostics;
 use crate::texts::library_uri;
 use command_lines::Counts;
-use ls_base::{Answer, Arrow, DocEdits, Items, Mem, Memory, Pos, Query, Range, Steps, Text, TextEdit};
+use ls_base::{
+    Answer, Arrow, DocEdits, Items, Mem, Memory, Pos, Query, Range, Steps, Text, TextEdit,
+};
 use program_answers::lists::Lists;
 use rename_planner::{RenameFault, rename};
 use std::alloc::Global;

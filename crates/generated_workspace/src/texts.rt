@@ -20,11 +20,7 @@ pub fn library_text(alloc: Global, number: u32) -> Mem<Text>
     ensures { IfOk result (λ text. text ≡ spec.library_text number) }
 {
     let declarations = library_declarations(alloc, number)?;
-    Ok(Text::from_string(library(
-        alloc,
-        number,
-        declarations.as_str(),
-    )?))
+    Ok(Text::from_string(library(alloc, number, declarations.as_str())?))
 }
 
 /// A library with declarations.
@@ -41,12 +37,7 @@ fn library_declarations(alloc: Global, number: u32) -> Result<String, AllocError
     let exports = library_exports(alloc, number)?;
     let imports = library_imports(alloc, number)?;
     let begin = library_begin(alloc, number)?;
-    Ok(spaced(
-        alloc,
-        exports.as_str(),
-        imports.as_str(),
-        begin.as_str(),
-    )?)
+    Ok(spaced(alloc, exports.as_str(), imports.as_str(), begin.as_str())?)
 }
 
 /// Three parts with spaces between them.
@@ -89,11 +80,7 @@ fn library_begin(alloc: Global, number: u32) -> Result<String, AllocError>
 {
     let keyword = library_macro(alloc, number)?;
     let function = library_function(alloc, number)?;
-    Ok(begin_with(
-        alloc,
-        keyword.as_str(),
-        function.as_str(),
-    )?)
+    Ok(begin_with(alloc, keyword.as_str(), function.as_str())?)
 }
 
 /// A declaration that begins with two definitions.
@@ -107,7 +94,9 @@ fn begin_with(alloc: Global, keyword: &str, function: &str) -> Result<String, Al
 fn library_macro(alloc: Global, number: u32) -> Result<String, AllocError>
     ensures { IfOk result (λ text. string_bytes text ≡ spec.library_macro number) }
 {
-    format!(in alloc; "(define-syntax twice{number} (syntax-rules () ((_ e) (let ((t e)) (+ t t)))))")
+    format!(in alloc;
+        "(define-syntax twice{number} (syntax-rules () ((_ e) (let ((t e)) (+ t t)))))"
+    )
 }
 
 /// The function of a library: its macro is used on what the function before answers.
@@ -158,11 +147,7 @@ pub fn main_text(alloc: Global, number: u32) -> Mem<Text>
 {
     let import = main_import(alloc, number)?;
     let definitions = main_definitions(alloc, number)?;
-    Ok(Text::from_string(program(
-        alloc,
-        import.as_str(),
-        definitions.as_str(),
-    )?))
+    Ok(Text::from_string(program(alloc, import.as_str(), definitions.as_str())?))
 }
 
 /// A program of its import and its definitions.

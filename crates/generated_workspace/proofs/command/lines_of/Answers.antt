@@ -1,8 +1,8 @@
-use Rattle.std.proofs.Common.{◌≡◌, ◌+◌, ℕ, List, ap, sym, ◌∙◌, subst}
+use Rattle.std.proofs.Common.{◌≡◌, ℕ, ap, sym, ◌∙◌, subst}
 use Rattle.std.specs.FinMap.{entries}
 use Rattle.command_lines.specs.Counts.{count_lines}
 use Rattle.ls_base.specs.declared.encoding.Encoding.TheVariants.{Utf16}
-use Rattle.document_store.specs.Texts.{Document, Texts}
+use Rattle.document_store.specs.Texts.{Texts}
 use Rattle.document_units.specs.Readings.{AreReadAs}
 use Rattle.program_answers.specs.Updates.{list_at}
 use Rattle.rename_planner.specs.ToldRenames.{rename_uses}
@@ -23,8 +23,8 @@ open_all-requires g c = record {
   known = nothing_known Utf16 c.args.workspace.now.texts (list_at c.new-known.result) c.requires.none (nothing_at c.new-known.result c.new-known.ensures.empty);
 }
 
-pub count_all-counts-requires : goal.count_all-counts-requires
-count_all-counts-requires g c =
+pub count_all-requires : goal.count_all-requires
+count_all-requires g c =
     let same = c.in_ok-collect.ensures in
     record {
       encoding = ap (λ (w : State). w.encoding) same ∙ c.open_all.ensures.encoding;
@@ -42,5 +42,5 @@ returns-clause-steps g c = λ r is.
     let n = c.args.libraries in
     let texts : c.collect.new.self.texts ≡ selfrun_texts n = ap (λ (w : State). w.texts) c.in_ok-collect.ensures ∙ c.in_ok-open_all.ensures.texts in
     let renames : Texts → ℕ = λ t. rename_uses r Utf16 (entries t) (library_uri 0) defined_at new_name in
-    all_uses c.args.steps.now (opening_uses r n) (uses_of r (selfrun_texts n)) (renames c.collect.new.self.texts) c.open_all.new.steps c.count_all-counts.new.steps (renames (selfrun_texts n))
+    all_uses c.args.steps.now (opening_uses r n) (uses_of r (selfrun_texts n)) (renames c.collect.new.self.texts) c.open_all.new.steps c.count_all.new.steps (renames (selfrun_texts n))
     (c.in_ok-open_all.ensures.steps r is) (ap renames texts) (c.in_ok-counts.ensures.steps r is)

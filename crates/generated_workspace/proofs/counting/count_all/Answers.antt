@@ -1,7 +1,6 @@
-use Rattle.std.proofs.Common.{◌≡◌, ◌+◌, ℕ, List, length, ap, ◌∙◌, subst}
+use Rattle.std.proofs.Common.{◌+◌, ℕ, List, true, ap, ◌∙◌, subst}
 use Rattle.std.specs.FinMap.{entries}
 use Rattle.std.specs.List.{sum_by}
-use Rattle.command_lines.specs.declared.counts.Counts.{Counts}
 use Rattle.ls_base.specs.declared.encoding.Encoding.{Encoding}
 use Rattle.ls_base.specs.declared.encoding.Encoding.TheVariants.{Utf16}
 use Rattle.document_store.specs.Texts.{Document, Texts}
@@ -11,7 +10,7 @@ use Rattle.program_answers.specs.Updates.{list_at}
 use Rattle.program_answers.proofs.TextLaws.{as_many}
 use Rattle.rename_planner.specs.ToldRenames.{rename_told, rename_uses}
 use Rattle.scheme_model.specs.Session as model
-use Rattle.generated_workspace.specs.Selfrun.{arrows_to, counts_of, defined_at, edits_in, new_name, places_in}
+use Rattle.generated_workspace.specs.Selfrun.{arrows_to, defined_at, edits_in, new_name, places_in}
 use Rattle.generated_workspace.proofs.CountLaws.{all_counted}
 use Rattle.generated_workspace.proofs.counting.count_all.Goals as goal
 
