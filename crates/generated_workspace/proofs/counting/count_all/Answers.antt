@@ -22,10 +22,11 @@ returns-clause-counts g c = λ r rs is are.
     let e = c.requires.encoding in
     let uri = c.in_ok-uri.ensures in
     let documents : AreDocuments ds cs = subst (λ (t : Texts). AreDocuments (entries t) cs) c.open.ensures c.documents-opened.ensures in
+    let at = c.as_str.ensures ∙ uri in
     let number = as_many ds cs documents in
     let diagnostics = c.in_ok-diagnostics.ensures ∙ all_counted Utf16 texts rs cs (list_at c.args.known.now) c.requires.known are documents in
     let arrows = c.in_ok-arrows.ensures rs are ∙ ap (λ (f : Encoding). sum_by (λ (d : List ℕ × Document). arrows_to d.0 (answer_of f ds rs d.0 defined_at model.Arrows)) ds) e in
-    let references = c.in_ok-references.ensures rs are ∙ (λ i. places_in (answer_of (e i) ds rs (uri i) defined_at (model.References true))) in
+    let references = c.in_ok-references.ensures rs are ∙ (λ i. places_in (answer_of (e i) ds rs (at i) defined_at (model.References true))) in
     let edits = c.in_ok-edits.ensures.edits r is ∙ (λ i. edits_in (rename_told r (e i) ds (uri i) defined_at new_name)) in
     λ i. record { documents = number i; diagnostics = diagnostics i; arrows = arrows i; references = references i; edits = edits i }
 
