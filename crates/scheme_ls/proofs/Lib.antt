@@ -15,5 +15,5 @@ pub mod Uncancelled  -- A session that doesn't look ahead is that of the bytes o
 pub mod SomeOutput  -- Each stream has an output
 pub mod AloneLaws  -- A text alone, opened where no document was open
 pub mod OneText  -- A text has one answer
-pub mod WorkLaws  -- Contents that were fetched, and how a command ends that works on them
+pub mod WorkLaws  -- How a command ends that works on files, or on a workspace made of a number, once its lines were printed or memory ran out
 pub mod Causes  -- What the number of a run tells of its cause
