@@ -7,5 +7,5 @@ use Rattle.command_words.proofs.reading.command_of.Goals as goal
 pub returns-then-is_ahead : goal.returns-then-is_ahead
 returns-then-is_ahead c = is_ahead (texts c.args.words.now) (c.is_ahead.ensures.0 c.if-is_ahead.true)
 
-pub returns-in_ok-command : goal.returns-in_ok-command
-returns-in_ok-command c = not_ahead (texts c.args.words.now) c.in_ok-command.command (λ ahead. false≢true (sym c.if-is_ahead.false ∙ c.is_ahead.ensures.1 ahead)) c.in_ok-command.ensures
+pub returns : goal.returns
+returns c = not_ahead (texts c.args.words.now) c.in_ok-command.command (λ ahead. false≢true (sym c.if-is_ahead.false ∙ c.is_ahead.ensures.1 ahead)) c.in_ok-command.ensures
