@@ -38,7 +38,7 @@ pub fn run<I: Source, O: Sink, F: Files, L: Ledger>(
         (files_seen (F.held files.new) (F.asked files.new) (F.faults files.new)) steps.new) result }
 {
     let status = match command_of(alloc, words) {
-        Ok(command) => obey(alloc, command, input, output, files, steps),
+        Ok(command) => obey(alloc, &command, input, output, files, steps),
         Err(Memory) => Status::NoMemory,
     };
     status.code()
@@ -47,15 +47,15 @@ pub fn run<I: Source, O: Sink, F: Files, L: Ledger>(
 /// Does what a command asks for.
 fn obey<I: Source, O: Sink, F: Files, L: Ledger>(
     alloc: Global,
-    command: Command,
+    command: &Command,
     input: &mut I,
     output: &mut O,
     files: &mut F,
     steps: &mut Steps<L>,
 ) -> Status
-    requires files { (names : List (List ℕ)) → command ≡ asked.Check names → length names ≤ max_documents }
-    requires libraries { (count : ℕ) → command ≡ asked.Selfrun count → (1 ≤ count) × (count ≤ 60) }
-    ensures { CommandEndsAs command
+    requires files { (names : List (List ℕ)) → command.now ≡ asked.Check names → length names ≤ max_documents }
+    requires libraries { (count : ℕ) → command.now ≡ asked.Selfrun count → (1 ≤ count) × (count ≤ 60) }
+    ensures { CommandEndsAs command.now
         (seen (source_seen (I.left input.old) (I.faults input.old) (I.reads input.old))
         (sink_seen (O.taken output.old) (O.faults output.old) (O.writes output.old))
         (files_seen (F.held files.old) (F.asked files.old) (F.faults files.old)) steps.old)
@@ -67,15 +67,15 @@ fn obey<I: Source, O: Sink, F: Files, L: Ledger>(
         Command::Arrows => arrows(alloc, input, output, steps).status(),
         Command::Serve => serve(alloc, input, output, steps).status(),
         Command::ServeAhead => serve_ahead(alloc, input, output, steps).status(),
-        Command::Replay { file } => replay(alloc, &file, output, files, steps),
+        Command::Replay { file } => replay(alloc, file, output, files, steps),
         Command::Check { files: names } => check(alloc, names.as_slice(), output, files, steps),
         Command::TooManyFiles => Status::TooLong,
         Command::Rename {
             file,
             position,
             name,
-        } => rename(alloc, &file, position, &name, output, files, steps),
-        Command::Selfrun { libraries } => selfrun(alloc, libraries, output, steps),
+        } => rename(alloc, file, *position, name, output, files, steps),
+        Command::Selfrun { libraries } => selfrun(alloc, *libraries, output, steps),
         Command::Unknown => print_lines(USAGE, Status::BadWords, output),
     }
 }
