@@ -1,5 +1,5 @@
 -- The diagnostics of documents are counted by what is known of each.
-use Rattle.std.proofs.Common.{◌≡◌, ◌+◌, ℕ, zero, suc, T, List, [], ◌∷◌, length, map, slice_get, Bool, true, false, cond, ◌&&◌, Some, Ordering, Less, Equal, Greater, is_lt, is_eq, nat_cmp, refl, sym, ap, ◌∙◌, subst}
+use Rattle.std.proofs.Common.{◌≡◌, ◌+◌, ℕ, zero, suc, T, List, [], ◌∷◌, length, slice_get, Bool, true, false, cond, ◌&&◌, Some, Ordering, Less, Equal, Greater, is_lt, is_eq, nat_cmp, refl, sym, ap, ◌∙◌, subst}
 use Rattle.std.specs.Cmp.Lexicographic.{slice_cmp}
 use Rattle.std.specs.FinMap.{entries, entries_sorted, find, get-entries, is_sorted}
 use Rattle.std.specs.FinMap.Entries.{below_all}
@@ -12,7 +12,7 @@ use Rattle.document_units.specs.Listed.{Listed, lists_of}
 use Rattle.document_units.specs.Readings.{AreDocuments, AreReadAs, Read}
 use Rattle.document_units.specs.declared.documents.Document as read
 use Rattle.program_answers.specs.Listings.{or_none}
-use Rattle.program_answers.specs.Updates.{AreListsOfTexts, listed_in}
+use Rattle.program_answers.specs.Updates.{AreListsOfTexts}
 use Rattle.program_answers.proofs.PublishedMaps.{is_tied, ties_are}
 use Rattle.program_answers.proofs.TextLists.{one_row, rows_from, some_lists, told_rows}
 use Rattle.generated_workspace.specs.Known.{IsKnownOf, Known}

@@ -1,5 +1,5 @@
 -- The edits of a rename, counted as they are told.
-use Rattle.std.proofs.Common.{◌≡◌, ◌≢◌, ℕ, List, length, Result, Ok, Err, refl, sym, ap, ◌∙◌}
+use Rattle.std.proofs.Common.{◌≡◌, ◌≢◌, ℕ, List, length, Result, Ok, Err, refl, ap, ◌∙◌}
 use Rattle.std.specs.List.{sum_by}
 use Rattle.ls_base.specs.declared.answers.DocEdits as told
 use Rattle.ls_base.specs.declared.encoding.Encoding.{Encoding}

@@ -1,5 +1,5 @@
 -- What is known once all that is published was kept.
-use Rattle.std.proofs.Common.{◌≡◌, ◌≢◌, ◌⊎◌, inl, inr, ℕ, zero, suc, List, [], ◌∷◌, map, slice_get, Bool, true, false, cond, Option, Some, BTreeMap, String, string_bytes, bytes_eq, nat_cmp, refl, sym, ap, ◌∙◌}
+use Rattle.std.proofs.Common.{◌≡◌, ◌≢◌, ◌⊎◌, inl, inr, ℕ, zero, suc, List, [], ◌∷◌, slice_get, Bool, true, false, cond, Option, Some, BTreeMap, String, string_bytes, bytes_eq, nat_cmp, refl, sym, ap, ◌∙◌}
 use Rattle.std.specs.BTreeMap.{is_at}
 use Rattle.std.specs.Cmp.Lexicographic.{slice_cmp}
 use Rattle.std.specs.FinMap.{empty, entries, find, get-entries, len, len-empty, len-entries}
@@ -11,7 +11,7 @@ use Rattle.ls_base.specs.declared.answers.Diagnostic.{Diagnostic}
 use Rattle.ls_base.specs.declared.encoding.Encoding.{Encoding}
 use Rattle.document_store.specs.Texts.{Document, Texts}
 use Rattle.program_answers.specs.Listings.{or_none}
-use Rattle.program_answers.specs.Updates.{AreListsOfTexts, IsNewsOf, Lists, list_at, listed_in}
+use Rattle.program_answers.specs.Updates.{IsNewsOf, Lists, list_at, listed_in}
 use Rattle.program_answers.specs.declared.publications.Published.{Published}
 use Rattle.program_answers.proofs.SameDiagnostics.{same_diagnostics}
 use Rattle.program_answers.proofs.TextLists.{one_lists, told_rows}

@@ -4,7 +4,7 @@ use Rattle.std.specs.FinMap.{entries, insert, len}
 use Rattle.std.proofs.lemmas.Bool.{lt-ltb}
 use Rattle.ls_base.specs.Limits.{max_documents, max_text}
 use Rattle.ls_base.specs.declared.encoding.Encoding.{Encoding}
-use Rattle.document_store.specs.Texts.{Added, Refusal, Texts, after, has_room, is_open}
+use Rattle.document_store.specs.Texts.{Added, Refusal, Texts, after, is_open}
 use Rattle.document_store.proofs.Events.{adds}
 use Rattle.document_units.specs.Readings.{AreReadAs, Read}
 use Rattle.program_answers.specs.Updates.{IsNewsOf, Publishes}

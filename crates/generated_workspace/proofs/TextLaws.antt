@@ -1,11 +1,11 @@
 -- The texts of libraries by their numbers.
-use Rattle.std.proofs.Common.{◌≡◌, ◌≤◌, ◌<◌, ◌+◌, ◌-◌, ◌++◌, ℕ, zero, suc, pos, List, [], length, length-append, codes, Bool, true, false, cond, nat_cmp, refl, sym, ap, ◌∙◌, arith}
+use Rattle.std.proofs.Common.{◌≡◌, ◌≤◌, ◌<◌, ◌+◌, ◌-◌, ◌++◌, ℕ, zero, suc, pos, List, length, length-append, codes, Bool, true, false, cond, nat_cmp, ap, arith}
 use Rattle.std.specs.Cmp.Lexicographic.{slice_cmp, nat_list_cmp_total}
 use Rattle.std.specs.FinMap.{contains_key, insert, len, len-empty, len-insert}
 use Rattle.std.specs.Fmt.{decimal}
 use Rattle.std.proofs.lemmas.Fmt.{length-decimal-le}
 use Rattle.ls_base.specs.Limits.{max_text}
-use Rattle.document_store.specs.Texts.{Document, Texts}
+use Rattle.document_store.specs.Texts.{Document}
 use Rattle.generated_workspace.specs.Generated.{function_before, import_before, libraries, library_call, library_exports, library_imports, library_macro, library_text, library_uri, main_text, main_uri, selfrun_texts}
 
 -- ---- the texts are short

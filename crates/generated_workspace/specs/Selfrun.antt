@@ -1,5 +1,5 @@
 -- What is counted of a workspace that was made of a number.
-use Rattle.std.specs.Prelude.{ℕ, zero, suc, ◌+◌, true, List, [], length, Result, Ok, Err, codes}
+use Rattle.std.specs.Prelude.{ℕ, zero, suc, ◌+◌, true, List, length, Result, Ok, Err, codes}
 use Rattle.std.specs.FinMap.{entries}
 use Rattle.std.specs.List.{count_by, sum_by}
 use Rattle.std.specs.Str.{bytes_eq}

@@ -1,5 +1,5 @@
 -- One arrow more.
-use Rattle.std.proofs.Common.{◌≤◌, ℕ, length, cond, bytes_eq, arith}
+use Rattle.std.proofs.Common.{◌≤◌, length, cond, bytes_eq, arith}
 use Rattle.ls_base.specs.declared.answers.Arrow.{Arrow}
 use Rattle.generated_workspace.proofs.SumLaws.{sum_more_behind, sum_whole_behind}
 use Rattle.generated_workspace.proofs.counting.add_arrows.Goals as goal

@@ -1,5 +1,5 @@
 -- The edits of one document more.
-use Rattle.std.proofs.Common.{◌+◌, ◌≤◌, ℕ, List, length, ap, ◌∙◌, arith}
+use Rattle.std.proofs.Common.{◌+◌, ◌≤◌, List, length, ap, ◌∙◌, arith}
 use Rattle.ls_base.specs.declared.answers.DocEdits.{DocEdits}
 use Rattle.ls_base.specs.declared.answers.TextEdit.{TextEdit}
 use Rattle.ls_base.specs.declared.places.Range.{Range}

@@ -1,6 +1,5 @@
 -- One list more is kept.
-use Rattle.std.proofs.Common.{◌≡◌, ℕ, List, ◌++◌, [], ◌∷◌, cond, bytes_eq, sym, ap, ◌∙◌}
-use Rattle.std.specs.List.{fold}
+use Rattle.std.proofs.Common.{cond, bytes_eq, sym, ap, ◌∙◌}
 use Rattle.std.proofs.lemmas.List.Sums.{fold_push}
 use Rattle.program_answers.specs.Updates.{list_at}
 use Rattle.generated_workspace.specs.Known.{Known, with_published}

@@ -1,7 +1,6 @@
-use Rattle.std.proofs.Common.{ℕ, List, Some, Option, cond, string_bytes, bytes_eq, ap, ◌∙◌}
+use Rattle.std.proofs.Common.{Some, cond, string_bytes, bytes_eq, ap, ◌∙◌}
 use Rattle.std.specs.BTreeMap.{get_by_text}
 use Rattle.std.proofs.lemmas.Map.Text.{btree_map_updates_text}
-use Rattle.ls_base.specs.declared.answers.Diagnostic.{Diagnostic}
 use Rattle.program_answers.specs.Listings.{or_none}
 use Rattle.generated_workspace.proofs.KnownLaws.{none_past}
 use Rattle.generated_workspace.proofs.known.learn_one.Goals as goal

@@ -3,7 +3,7 @@ use Rattle.std.proofs.Common.{◌≡◌, ◌<◌, ◌≤◌, ◌+◌, ℕ, suc, 
 use Rattle.std.specs.FinMap.{insert, len}
 use Rattle.ls_base.specs.Limits.{max_text}
 use Rattle.document_store.specs.Texts.{Texts}
-use Rattle.generated_workspace.specs.Generated.{libraries, library_text}
+use Rattle.generated_workspace.specs.Generated.{libraries}
 use Rattle.generated_workspace.specs.Selfrun.{opening_uses, uses_of}
 use Rattle.generated_workspace.proofs.OpenLaws.{one_more}
 use Rattle.generated_workspace.proofs.TextLaws.{few_libraries, library_short}
