@@ -8,6 +8,7 @@ ghost use Rattle.ls_outside.specs.Files.{FetchWithin, GivesRead, GivesRest};
 
 use crate::faults::count_fault;
 use crate::record::{note_read, note_write};
+use crate::room::keep;
 use crate::{Fetch, Files, Got, Put, Record, Sink, Source};
 use std::alloc::Global;
 use std::fs;
@@ -180,24 +181,27 @@ impl<R: std::rt::Files> Files for StdFiles<R> {
     }
 }
 
-/// Reads to the end, or past `max` bytes.
+/// Reads to the end, or past `max` bytes. It keeps at most `max` of them, in a room of at most `max`.
 fn read_whole<R: Read>(alloc: Global, source: &mut StdSource<R>, max: u32) -> Fetch
     ensures within { FetchWithin result max }
     ensures whole { GivesRest (R.remaining (reader_of source.old)) max result }
     ensures read { GivesRead (std_source_reads source.old) (std_source_reads source.new) max result }
 {
+    let most = max as usize;
     let mut content = Vec::new(alloc);
     let mut buf = [0u8; 4096];
-    while content.len() <= max as usize {
+    loop {
         match source.read(&mut buf) {
             Got::End => return Fetch::Bytes(content),
             Got::Some(count) => {
-                let Ok(()) = content.extend_from_slice(&buf[..count]) else {
+                if most - content.len() < count {
+                    return Fetch::Long;
+                }
+                let Ok(()) = keep(&mut content, &buf[..count], most) else {
                     return Fetch::Memory;
                 };
             }
             Got::Failed => return Fetch::Failed,
         }
     }
-    Fetch::Long
 }

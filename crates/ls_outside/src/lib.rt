@@ -10,6 +10,7 @@ pub mod memory;
 pub mod pieces;
 pub mod plan;
 pub mod record;
+mod room;
 pub mod sink;
 pub mod source;
 pub mod sure;

@@ -30,7 +30,8 @@ use Rattle.program_answers.proofs.PublishedMaps.{is_tied, ties_are}
 use Rattle.program_answers.proofs.TextLists.{one_row, some_row}
 use Rattle.program_expansion.specs.UsesInTurn.{uses_in}
 use Rattle.scheme_ls.specs.Alone.{ArePublishedAlone, HoldsAlone, IsDrawn}
-use Rattle.scheme_ls.specs.Printed.{AreLines, IsStopLine, alone, arrows_alone, error_line, error_lines, input_name, lines_of, published_lines}
+use Rattle.command_lines.specs.Diagnostics.{diagnostic_line, diagnostic_lines}
+use Rattle.scheme_ls.specs.Printed.{AreLines, IsStopLine, alone, arrows_alone, input_name, lines_of, published_lines}
 
 -- ---- the texts
 
@@ -172,9 +173,9 @@ is_some_map f None = refl
 is_some_map f (Some x) = refl
 
 -- one Error that is published
-one_line : (p : Published) (lists : List Published) (d : told.Diagnostic) → lists ≡ p ∷ [] → p.uri ≡ input_name → p.list ≡ d ∷ [] → published_lines lists ≡ error_line input_name d
+one_line : (p : Published) (lists : List Published) (d : told.Diagnostic) → lists ≡ p ∷ [] → p.uri ≡ input_name → p.list ≡ d ∷ [] → published_lines lists ≡ diagnostic_line input_name d
 one_line p lists d one uri list =
-    ap published_lines one ∙ append-nil (error_lines p.uri p.list) ∙ (λ j. error_lines (uri j) (list j)) ∙ append-nil (error_line input_name d)
+    ap published_lines one ∙ append-nil (diagnostic_lines p.uri p.list) ∙ (λ j. diagnostic_lines (uri j) (list j)) ∙ append-nil (diagnostic_line input_name d)
 
 drawn_alone : (text : List ℕ) (r : Read) (at : Pos) → answer_of Utf16 (alone text) (r ∷ []) input_name at Arrows ≡ answers.Arrows (arrows_alone text r)
 drawn_alone text r at = refl

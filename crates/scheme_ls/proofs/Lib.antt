@@ -11,9 +11,9 @@ pub mod SessionSoFar  -- A session that goes on, read by read
 pub mod PieceEndsSession  -- How a session ends in a piece
 pub mod QuietLaws  -- No step is counted over quiet bytes
 pub mod CountLaws  -- The macro uses that are counted over bodies and pieces
-pub mod WordLists  -- Lists of one or two words, and whether they are a command
 pub mod Uncancelled  -- A session that doesn't look ahead is that of the bytes of its pieces
 pub mod SomeOutput  -- Each stream has an output
-pub mod OneCommand  -- Words ask for one command
 pub mod AloneLaws  -- A text alone, opened where no document was open
 pub mod OneText  -- A text has one answer
+pub mod WorkLaws  -- How a command ends that works on files, or on a workspace made of a number, once its lines were printed or memory ran out
+pub mod Causes  -- What the number of a run tells of its cause

@@ -7,7 +7,8 @@ use Rattle.scheme_model.specs.Faults as faults
 use Rattle.document_units.specs.Listed.{of_stop, told_in}
 use Rattle.document_units.specs.Readings.{Read, Reads, Stops, IsReadAs}
 use Rattle.program_answers.proofs.TextLists.{one_row}
-use Rattle.scheme_ls.specs.Printed.{IsAnswer, alone, arrows_alone, error_line, input_name, lines_of}
+use Rattle.command_lines.specs.Diagnostics.{diagnostic_line}
+use Rattle.scheme_ls.specs.Printed.{IsAnswer, alone, arrows_alone, input_name, lines_of}
 use Rattle.scheme_ls.specs.Wording.{not_utf8_text}
 use Rattle.scheme_ls.proofs.AloneLaws.{read_alone}
 
@@ -35,14 +36,14 @@ one_text text one other (inr (inr a)) (inl b) = absurd (reads_and_stops text b.i
 one_text text one other (inr (inr a)) (inr (inl b)) = absurd (b.bad a.utf8)
 one_text text one other (inr (inr a)) (inr (inr b)) =
     let same = same_stop a.stop b.stop (one_read text (Stops a.stop) (Stops b.stop) a.stops b.stops) in
-    a.line ∙ ap (λ (f : faults.Stop). error_line input_name (told_in Utf16 text (of_stop 0 f))) same ∙ sym b.line
+    a.line ∙ ap (λ (f : faults.Stop). diagnostic_line input_name (told_in Utf16 text (of_stop 0 f))) same ∙ sym b.line
 
 some_by : (text : List ℕ) (b : Bool) → is_utf8 text ≡ b → (r : Read) → IsReadAs text r → (output : List ℕ) × IsAnswer text output
 some_by text false is r read = (not_utf8_text, inr (inl (record { bad = λ utf8. true≢false (sym (is_utf8-from_IsUtf8 text utf8) ∙ is); line = refl })))
 some_by text true is (Reads ds spans) read =
     (lines_of (arrows_alone text (Reads ds spans)), inl (record { utf8 = IsUtf8-from_is_utf8 text is; items = ds; spans = spans; reads = read; lines = refl }))
 some_by text true is (Stops f) read =
-    (error_line input_name (told_in Utf16 text (of_stop 0 f)), inr (inr (record { utf8 = IsUtf8-from_is_utf8 text is; stop = f; stops = read; line = refl })))
+    (diagnostic_line input_name (told_in Utf16 text (of_stop 0 f)), inr (inr (record { utf8 = IsUtf8-from_is_utf8 text is; stop = f; stops = read; line = refl })))
 
 pub some_text : (text : List ℕ) → (output : List ℕ) × IsAnswer text output
 some_text text = let read = read_alone text in some_by text (is_utf8 text) refl read.0 read.1

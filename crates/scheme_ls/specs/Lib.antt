@@ -1,6 +1,5 @@
 pub mod Wording  -- The texts that the program says by itself
 pub mod Statuses  -- The statuses of a run, and which one each end of a command has
-pub mod Arguments  -- The commands that words ask for
 pub mod Reading  -- What was read of a source
 pub mod Printed  -- The bytes that are printed
 pub mod Alone  -- A text alone in a workspace, as the document `input`, and what is told of it
@@ -16,4 +15,5 @@ pub mod PieceOutcome  -- What a server makes of a piece of its input, whose bodi
 pub mod ServeOutcome  -- How the command `serve` ends, and why
 pub mod AheadOutcome  -- How a session ends whose input comes in pieces, where the bodies of a piece are looked at ahead or not
 pub mod ArrowsOutcome  -- How the command `arrows` ends, and why
+pub mod WorkOutcome  -- How a command ends that works on files, or on a workspace made of a number, and prints the lines of its work
 pub mod RunOutcome  -- How a run ends, by the command that its words ask for

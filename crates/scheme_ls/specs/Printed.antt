@@ -1,11 +1,8 @@
 -- The bytes that are printed.
 use Rattle.std.specs.Prelude.{◌≡◌, ◌⊎◌, ℕ, pos, List, [], ◌∷◌, ◌++◌, map, codes}
-use Rattle.std.specs.Fmt.{decimal}
 use Rattle.std.specs.Str.{IsUtf8}
 use Rattle.ls_base.specs.declared.answers.Arrow.{Arrow}
-use Rattle.ls_base.specs.declared.answers.Diagnostic.{Diagnostic}
 use Rattle.ls_base.specs.declared.encoding.Encoding.TheVariants.{Utf16}
-use Rattle.ls_base.specs.declared.places.Pos.{Pos}
 use Rattle.scheme_model.specs.Data.{Datum}
 use Rattle.scheme_model.specs.Diagnostics.{Span}
 use Rattle.scheme_model.specs.Faults as faults
@@ -15,11 +12,9 @@ use Rattle.document_units.specs.Listed.{of_stop, told_in}
 use Rattle.document_units.specs.Readings.{Read, Reads, Stops, IsReadAs}
 use Rattle.program_answers.specs.ToldAnswers.{arrow_told, facts_in}
 use Rattle.program_answers.specs.declared.publications.Published.{Published}
+use Rattle.command_lines.specs.Diagnostics.{diagnostic_line, diagnostic_lines}
+use Rattle.command_lines.specs.Places.{place_text}
 use Rattle.scheme_ls.specs.Wording.{not_utf8_text}
-
--- `LINE:COLUMN`
-abbrev pub place_text : Pos → List ℕ
-place_text at = decimal at.line ++ (codes ":" ++ decimal at.character)
 
 -- the starts of binder and use, and the use's token
 abbrev pub line_of : Arrow → List ℕ
@@ -30,18 +25,9 @@ abbrev pub lines_of : List Arrow → List ℕ
 lines_of [] = []
 lines_of (arrow ∷ arrows) = line_of arrow ++ lines_of arrows
 
--- an Error of a document: where it starts, its code and its text
-abbrev pub error_line : List ℕ → Diagnostic → List ℕ
-error_line name d =
-    name ++ (codes ":" ++ place_text d.range.start) ++ (codes ": error " ++ decimal d.code) ++ (codes " " ++ d.message) ++ codes "\n"
-
-abbrev pub error_lines : List ℕ → List Diagnostic → List ℕ
-error_lines name [] = []
-error_lines name (d ∷ ds) = error_line name d ++ error_lines name ds
-
 abbrev pub published_lines : List Published → List ℕ
 published_lines [] = []
-published_lines (p ∷ ps) = error_lines p.uri p.list ++ published_lines ps
+published_lines (p ∷ ps) = diagnostic_lines p.uri p.list ++ published_lines ps
 
 -- ---- a text alone
 
@@ -64,12 +50,12 @@ pub record AreLines (text output : List ℕ) : Type 0 where
   pub reads : IsReadAs text (Reads items spans)
   pub lines : output ≡ lines_of (arrows_alone text (Reads items spans))
 
--- its reading stops, and this is the line that says where and why
+-- its reading stops, and this is the line of the diagnostic that says where and why
 pub record IsStopLine (text output : List ℕ) : Type 0 where
   pub utf8 : IsUtf8 text
   pub stop : faults.Stop
   pub stops : IsReadAs text (Stops stop)
-  pub line : output ≡ error_line input_name (told_in Utf16 text (of_stop 0 stop))
+  pub line : output ≡ diagnostic_line input_name (told_in Utf16 text (of_stop 0 stop))
 
 -- it isn't UTF-8, and this is the line for such texts
 pub record IsBadLine (text output : List ℕ) : Type 0 where

@@ -1,30 +1,22 @@
 -- How a run ends, by the command that its words ask for.
 use Rattle.std.specs.Prelude.{◌≡◌, ◌⊎◌, ℕ, List}
-use Rattle.std.specs.declared.option.Option.{Option}
+use Rattle.command_words.specs.Commands.{CommandOf}
+use Rattle.command_words.specs.declared.command.Command.{Command}
+use Rattle.command_words.specs.declared.command.Command.TheVariants.{Arrows, Check, Rename, Replay, Selfrun, Serve, ServeAhead, TooManyFiles, Unknown}
+use Rattle.file_fetching.specs.FilesSeen.{FilesSeen}
 use Rattle.scheme_ls.specs.AheadOutcome.{ServesAhead}
 use Rattle.scheme_ls.specs.ArrowsOutcome.{ArrowsEndsAs, OpensNone}
-use Rattle.scheme_ls.specs.Prints.{Prints, PrintsFront, SinkSeen}
+use Rattle.scheme_ls.specs.Prints.{SinkSeen}
 use Rattle.scheme_ls.specs.Reading.{SourceSeen}
 use Rattle.scheme_ls.specs.ServeOutcome.{Serves}
 use Rattle.scheme_ls.specs.Statuses.{arrows_status, code_of, session_status}
 use Rattle.scheme_ls.specs.Streams.{Streams}
 use Rattle.scheme_ls.specs.Wording.{usage_text}
-use Rattle.scheme_ls.specs.Arguments.{CommandOf}
+use Rattle.scheme_ls.specs.WorkOutcome.{CheckEndsAs, PrintsLines, RenameEndsAs, ReplayEndsAs, SelfrunEndsAs, WorkSeen, work_seen}
 use Rattle.scheme_ls.specs.declared.arrows.ArrowsEnd.{ArrowsEnd}
 use Rattle.scheme_ls.specs.declared.serve.SessionEnd.{SessionEnd}
 use Rattle.scheme_ls.specs.declared.status.Status.{Status}
-use Rattle.scheme_ls.specs.declared.status.Status.TheVariants.{BadWords, SinkFault}
-use Rattle.scheme_ls.specs.declared.arguments.Command.{Command}
-use Rattle.scheme_ls.specs.declared.arguments.Command.TheVariants.{Arrows, Serve, ServeAhead, Unknown}
-
--- what files show at a moment: what names hold, where they tell it, the names asked so far, and how often a fetch has failed
-pub record FilesSeen : Type 0 where
-  pub held : Option (List ℕ → Option (List ℕ))
-  pub asked : List (List ℕ)
-  pub faults : ℕ
-
-abbrev pub files_seen : Option (List ℕ → Option (List ℕ)) → List (List ℕ) → ℕ → FilesSeen
-files_seen held asked faults = record { held = held; asked = asked; faults = faults }
+use Rattle.scheme_ls.specs.declared.status.Status.TheVariants.{BadWords, NoMemory, TooLong}
 
 -- what the outside and the counter of steps show at a moment
 pub record Seen : Type 0 where
@@ -68,24 +60,38 @@ pub record ServeAheadDone (old new : Seen) (status : Status) : Type 0 where
 
 -- the usage was printed, or a write of it failed
 abbrev pub PrintsUsage : SinkSeen → SinkSeen → Status → Type 0
-PrintsUsage old new status = ((status ≡ BadWords) × Prints old new usage_text) ⊎ ((status ≡ SinkFault) × PrintsFront old new usage_text)
+PrintsUsage old new status = PrintsLines usage_text BadWords old new status
 
 -- nothing was read, and the usage was printed
 pub record UsageDone (old new : Streams) (status : Status) : Type 0 where
   pub unread : new.source ≡ old.source
   pub prints : PrintsUsage old.sink new.sink status
 
+-- nothing was read, and a command worked that reads no source
+pub record Works (EndsAs : WorkSeen → WorkSeen → Status → Type 0) (old new : Seen) (status : Status) : Type 0 where
+  pub unread : new.streams.source ≡ old.streams.source
+  pub ends : EndsAs (work_seen old.files old.streams.sink old.steps) (work_seen new.files new.streams.sink new.steps) status
+
 -- how a command ends
 abbrev pub CommandEndsAs : Command → Seen → Seen → Status → Type 0
 CommandEndsAs Arrows old new status = ArrowsDone old new status
 CommandEndsAs Serve old new status = ServeDone old new status
 CommandEndsAs ServeAhead old new status = ServeAheadDone old new status
+CommandEndsAs (Replay file) old new status = Works (ReplayEndsAs file) old new status
+CommandEndsAs (Check files) old new status = Works (CheckEndsAs files) old new status
+CommandEndsAs TooManyFiles old new status = (status ≡ TooLong) × (new ≡ old)
+CommandEndsAs (Rename file position name) old new status = Works (RenameEndsAs file position name) old new status
+CommandEndsAs (Selfrun libraries) old new status = Works (SelfrunEndsAs libraries) old new status
 CommandEndsAs Unknown old new status = UsageDone old.streams new.streams status × AsksNothing old new
+
+-- memory ran out for the words, and nothing was done
+abbrev pub NothingDone : Seen → Seen → Status → Type 0
+NothingDone old new status = (status ≡ NoMemory) × (new ≡ old)
 
 -- how a run ends: as the command does that its words ask for
 pub record RunEnds (words : List (List ℕ)) (old new : Seen) (code : ℕ) : Type 0 where
   pub command : Command
   pub asked : CommandOf words command
   pub status : Status
-  pub ends : CommandEndsAs command old new status
+  pub ends : CommandEndsAs command old new status ⊎ NothingDone old new status
   pub number : code ≡ code_of status

@@ -1,6 +1,8 @@
 -- The statuses of a run, and which one each end of a command has.
 use Rattle.std.specs.Prelude.{ℕ}
 use Rattle.scheme_model.specs.Session as session
+use Rattle.file_fetching.specs.declared.fetching.FetchStop.{FetchStop}
+use Rattle.file_fetching.specs.declared.fetching.FetchStop.TheVariants as fetch
 use Rattle.scheme_ls.specs.declared.answering.Exit.{Exit}
 use Rattle.scheme_ls.specs.declared.answering.Exit.TheVariants as exits
 use Rattle.scheme_ls.specs.declared.arrows.ArrowsEnd.{ArrowsEnd}
@@ -10,7 +12,7 @@ use Rattle.scheme_ls.specs.declared.arrows.TextEnd.TheVariants as text
 use Rattle.scheme_ls.specs.declared.serve.SessionEnd.{SessionEnd}
 use Rattle.scheme_ls.specs.declared.serve.SessionEnd.TheVariants as serve
 use Rattle.scheme_ls.specs.declared.status.Status.{Status}
-use Rattle.scheme_ls.specs.declared.status.Status.TheVariants.{Done, Refused, BadWords, SourceFault, NoMemory, SinkFault, FrameFault, TooLong, Endless}
+use Rattle.scheme_ls.specs.declared.status.Status.TheVariants.{Done, Refused, BadWords, SourceFault, FilesFault, NoMemory, SinkFault, FrameFault, TooLong, Endless}
 
 -- the number of a status
 abbrev pub code_of : Status → ℕ
@@ -18,6 +20,7 @@ code_of Done = 0
 code_of Refused = 1
 code_of BadWords = 2
 code_of SourceFault = 3
+code_of FilesFault = 3
 code_of NoMemory = 4
 code_of SinkFault = 5
 code_of FrameFault = 6
@@ -57,3 +60,9 @@ arrows_status (arrows.Answered end) = text_status end
 arrows_status arrows.TooLong = TooLong
 arrows_status arrows.ReadFailed = SourceFault
 arrows_status arrows.NoMemory = NoMemory
+
+-- the status where a file wasn't fetched
+abbrev pub fetch_status : FetchStop → Status
+fetch_status fetch.Long = TooLong
+fetch_status fetch.Failed = FilesFault
+fetch_status fetch.Memory = NoMemory

@@ -4,23 +4,25 @@
 ghost use Rattle.std.specs.Prelude.{◌≡◌, ◌<◌, ℕ, drop};
 ghost use Rattle.scheme_ls.specs.Prints.{sink_seen};
 ghost use Rattle.scheme_ls.specs.Reading.{source_seen};
-ghost use Rattle.scheme_ls.specs.RunOutcome.{RunEnds, files_seen, seen};
-ghost use Rattle.scheme_ls.specs.Arguments.{texts};
+ghost use Rattle.scheme_ls.specs.RunOutcome.{RunEnds, seen};
+ghost use Rattle.command_words.specs.Words.{texts};
+ghost use Rattle.file_fetching.specs.FilesSeen.{files_seen};
 
 pub mod ahead_laws;
 mod alone;
 mod answering;
-mod arguments;
 mod arrows;
 pub mod laws;
 mod printing;
 mod reading;
+mod replay;
 mod replies;
 pub mod run;
 mod serve;
 mod server;
 mod status;
 mod wording;
+mod work;
 
 use ls_base::Steps;
 use ls_outside::{Files, Sink, Source, StdFiles, StdSink, StdSource};

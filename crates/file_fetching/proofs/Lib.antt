@@ -1,0 +1,1 @@
+pub mod FetchLaws  -- Files that are fetched one after another
