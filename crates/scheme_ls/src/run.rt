@@ -15,7 +15,7 @@ use crate::status::Status;
 use crate::wording::USAGE;
 use crate::work::{check, print_lines, rename, selfrun};
 use command_words::{Command, command_of};
-use ls_base::{Memory, Steps};
+use ls_base::Steps;
 use ls_outside::{Files, Sink, Source};
 use std::alloc::Global;
 use std::sync::ledger::Ledger;
@@ -37,11 +37,10 @@ pub fn run<I: Source, O: Sink, F: Files, L: Ledger>(
         (sink_seen (O.taken output.new) (O.faults output.new) (O.writes output.new))
         (files_seen (F.held files.new) (F.asked files.new) (F.faults files.new)) steps.new) result }
 {
-    let status = match command_of(alloc, words) {
-        Ok(command) => obey(alloc, &command, input, output, files, steps),
-        Err(Memory) => Status::NoMemory,
+    let Ok(command) = command_of(alloc, words) else {
+        return Status::NoMemory.code();
     };
-    status.code()
+    obey(alloc, &command, input, output, files, steps).code()
 }
 
 /// Does what a command asks for.
