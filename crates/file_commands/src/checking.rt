@@ -1,8 +1,8 @@
 //! The diagnostics of files, which are the open documents (LSP 3.17, Diagnostic).
-ghost use Rattle.std.specs.Prelude.{◌≡◌, ◌≤◌, ◌+◌, List, [], ◌∷◌, length, IfOk, OnOk};
+ghost use Rattle.std.specs.Prelude.{◌≡◌, ◌<◌, ◌≤◌, ◌+◌, List, [], ◌∷◌, length, IfOk, OnOk};
 ghost use Rattle.std.specs.List.{AllByRecursion, fold, zip};
 ghost use Rattle.std.specs.Cmp.Lexicographic.{slice_cmp};
-ghost use Rattle.std.specs.FinMap.{entries, put};
+ghost use Rattle.std.specs.FinMap.{entries, len, put};
 ghost use Rattle.std.specs.Ordering.{nat_cmp};
 ghost use Rattle.ls_base.specs.Limits.{max_documents, max_text};
 ghost use Rattle.ls_base.specs.declared.encoding.Encoding.TheVariants.{Utf16};
@@ -13,7 +13,7 @@ ghost use Rattle.program_expansion.specs.UsesInTurn.{uses_in};
 ghost use Rattle.file_commands.specs.Checking.{checked_in, bytes_in, open_file, opened, printed, with_file};
 
 use command_lines::{diagnostic_lines, has_error, not_utf8};
-use document_store::Store;
+use document_store::{Store, StoreFault};
 use ls_base::{Encoding, Items, Mem, Memory, Steps, Text};
 use program_answers::lists::{Lists, lists};
 use program_answers::open::Open;
@@ -56,6 +56,8 @@ pub fn check_files<L: Ledger>(
 
 /// The documents of the files that are UTF-8.
 fn open_files(alloc: Global, names: &[Text], contents: &[Vec<u8>]) -> Mem<Store>
+    requires few { length names.now ≤ max_documents }
+    requires short { AllByRecursion (λ content. length content ≤ max_text) (bytes_in contents.now) }
     ensures { IfOk result (λ store. store ≡ opened names.now (bytes_in contents.now)) }
 {
     let mut store = Store::new(alloc);
@@ -65,8 +67,10 @@ fn open_files(alloc: Global, names: &[Text], contents: &[Vec<u8>]) -> Mem<Store>
     Ok(store)
 }
 
-/// Opens the document of a file, if it is UTF-8. Any refusal is answered as want of memory.
+/// Opens the document of a file, if it is UTF-8. There is room for it, and its text is short enough.
 fn open_file(store: &mut Store, name: &Text, content: &[u8]) -> Mem<()>
+    requires room { len store.old < max_documents }
+    requires short { length content.now ≤ max_text }
     ensures { OnOk result (store.new ≡ open_file store.old (name.now, content.now)) }
 {
     let Ok(text) = str::from_utf8(content) else {
@@ -74,7 +78,10 @@ fn open_file(store: &mut Store, name: &Text, content: &[u8]) -> Mem<()>
     };
     match store.add(name.as_str(), VERSION, text) {
         Ok(()) => Ok(()),
-        Err(_) => Err(Memory),
+        Err(StoreFault::Memory) => Err(Memory),
+        Err(StoreFault::NotOpen | StoreFault::BadRange | StoreFault::TooLong | StoreFault::TooMany) => {
+            unreachable!()
+        }
     }
 }
 

@@ -1,7 +1,8 @@
 -- The document of a file that is UTF-8 is put among the texts.
-use Rattle.std.proofs.Common.{◌∙◌, pos, sym}
-use Rattle.document_store.specs.Texts.{added}
+use Rattle.std.proofs.Common.{◌≡◌, ◌∙◌, List, ℕ, pos, sym}
+use Rattle.document_store.specs.Texts.{added, NotOpen, BadRange, TooLong, TooMany}
 use Rattle.file_commands.proofs.FileLaws.{left_out, put_in}
+use Rattle.file_commands.proofs.Room.{accepted}
 use Rattle.file_commands.proofs.checking.open_file.Goals as goal
 
 pub returns-in_default : goal.returns-in_default
