@@ -17,7 +17,7 @@ use Rattle.scheme_ls.proofs.serve.answer_input.Goals as goal
 
 pub loop-taken-init : goal.loop-taken-init
 loop-taken-init g c = record {
-  going = goes_first c.args.ahead _ (serving c.args.server.now.deframer c.args.server.now.session) 1099511627776 [] c.args.steps.now c.requires.start c.requires.end c.requires.state;
+  going = goes_first c.args.looking _ (serving c.args.server.now.deframer c.args.server.now.session) 1099511627776 [] c.args.steps.now c.requires.start c.requires.end c.requires.state;
   few = omega arith;
   wide = refl;
 }
@@ -49,7 +49,7 @@ returns-in-Exited g c =
     let whole = take_first buffer (drop room c.loop-taken.buf) n c.in-Some.ensures.within.1 in
     let read = read_piece old mid new server c.loop-taken.taken n room buffer c.loop-taken.invariant.going.so_far c.loop-taken-test.true (g.met.I.Source.sized c.loop-taken.input) c.in-Some.ensures.within.0 c.in-Some.ensures.within.1 size c.min-room.ensures c.in-Some.ensures.takes c.in-Some.ensures.counts c.in-Some.ensures.notes in
     piece_exits old mid new server next c.loop-taken.taken 1099511627776 c.in-Exited.exit (take n buffer) c.loop-taken.invariant.going.so_far read
-    (subst (λ (piece : List ℕ). EndsInPiece c.args.ahead server next piece (said_exit c.in-Exited.exit) mid.sink new.sink) whole c.in-Exited.ensures.takes)
+    (subst (λ (piece : List ℕ). EndsInPiece c.args.looking server next piece (said_exit c.in-Exited.exit) mid.sink new.sink) whole c.in-Exited.ensures.takes)
     (all_then {old = old} {mid = mid} {server = server} {next = next} c.loop-taken.invariant.going.so_far c.loop-taken.invariant.going.counted whole c.in-Exited.ensures.counted)
     (uncounted_then {old = old} {mid = mid} {server = server} c.loop-taken.invariant.going.so_far c.loop-taken.invariant.going.uncounted whole c.in-Exited.ensures.steps)
 
@@ -70,7 +70,7 @@ returns-in-WriteFailed g c =
     let whole = take_first buffer (drop room c.loop-taken.buf) n c.in-Some.ensures.within.1 in
     let read = read_piece old mid new server c.loop-taken.taken n room buffer c.loop-taken.invariant.going.so_far c.loop-taken-test.true (g.met.I.Source.sized c.loop-taken.input) c.in-Some.ensures.within.0 c.in-Some.ensures.within.1 size c.min-room.ensures c.in-Some.ensures.takes c.in-Some.ensures.counts c.in-Some.ensures.notes in
     piece_cut old mid new server next c.loop-taken.taken 1099511627776 (take n buffer) c.loop-taken.invariant.going.so_far read
-    (subst (λ (piece : List ℕ). AnswersInPiece c.args.ahead server next piece (PrintsFront mid.sink new.sink)) whole c.in-WriteFailed.ensures.takes)
+    (subst (λ (piece : List ℕ). AnswersInPiece c.args.looking server next piece (PrintsFront mid.sink new.sink)) whole c.in-WriteFailed.ensures.takes)
     (first_then {old = old} {mid = mid} {server = server} {next = next} c.loop-taken.invariant.going.so_far new.sink c.loop-taken.invariant.going.counted whole c.in-WriteFailed.ensures.counted)
     (uncounted_then {old = old} {mid = mid} {server = server} c.loop-taken.invariant.going.so_far c.loop-taken.invariant.going.uncounted whole c.in-WriteFailed.ensures.steps)
 
@@ -91,7 +91,7 @@ returns-in-NoMemory g c =
     let whole = take_first buffer (drop room c.loop-taken.buf) n c.in-Some.ensures.within.1 in
     let read = read_piece old mid new server c.loop-taken.taken n room buffer c.loop-taken.invariant.going.so_far c.loop-taken-test.true (g.met.I.Source.sized c.loop-taken.input) c.in-Some.ensures.within.0 c.in-Some.ensures.within.1 size c.min-room.ensures c.in-Some.ensures.takes c.in-Some.ensures.counts c.in-Some.ensures.notes in
     piece_lost old mid new server next c.loop-taken.taken 1099511627776 (take n buffer) c.loop-taken.invariant.going.so_far read
-    (subst (λ (piece : List ℕ). AnswersInPiece c.args.ahead server next piece (PrintsPart mid.sink new.sink) ⊎ (new.sink ≡ mid.sink)) whole c.in-NoMemory.ensures.takes)
+    (subst (λ (piece : List ℕ). AnswersInPiece c.args.looking server next piece (PrintsPart mid.sink new.sink) ⊎ (new.sink ≡ mid.sink)) whole c.in-NoMemory.ensures.takes)
     (uncounted_then {old = old} {mid = mid} {server = server} c.loop-taken.invariant.going.so_far c.loop-taken.invariant.going.uncounted whole c.in-NoMemory.ensures.steps)
 
 pub returns-in-Ok : goal.returns-in-Ok
@@ -112,7 +112,7 @@ returns-in-Ok g c =
     let read = read_piece old mid new server c.loop-taken.taken n room buffer c.loop-taken.invariant.going.so_far c.loop-taken-test.true (g.met.I.Source.sized c.loop-taken.input) c.in-Some.ensures.within.0 c.in-Some.ensures.within.1 size c.min-room.ensures c.in-Some.ensures.takes c.in-Some.ensures.counts c.in-Some.ensures.notes in
     let sink = sink_seen (g.O.Sink.taken c.say_farewell.new.output) (g.O.Sink.faults c.say_farewell.new.output) (g.O.Sink.writes c.say_farewell.new.output) in
     farewell_written old mid new sink server next c.loop-taken.taken 1099511627776 (take n buffer) c.in-Faulty.fault c.loop-taken.invariant.going.so_far read
-    (subst (λ (piece : List ℕ). TakesPiece c.args.ahead server next piece (HasFault c.in-Faulty.fault) mid.sink new.sink) whole c.in-Faulty.ensures.takes) c.in-Ok.ensures
+    (subst (λ (piece : List ℕ). TakesPiece c.args.looking server next piece (HasFault c.in-Faulty.fault) mid.sink new.sink) whole c.in-Faulty.ensures.takes) c.in-Ok.ensures
     (all_then {old = old} {mid = mid} {server = server} {next = next} c.loop-taken.invariant.going.so_far c.loop-taken.invariant.going.counted whole c.in-Faulty.ensures.counted)
     (uncounted_then {old = old} {mid = mid} {server = server} c.loop-taken.invariant.going.so_far c.loop-taken.invariant.going.uncounted whole c.in-Faulty.ensures.steps)
 
@@ -134,7 +134,7 @@ returns-in-Err-Failed g c =
     let read = read_piece old mid new server c.loop-taken.taken n room buffer c.loop-taken.invariant.going.so_far c.loop-taken-test.true (g.met.I.Source.sized c.loop-taken.input) c.in-Some.ensures.within.0 c.in-Some.ensures.within.1 size c.min-room.ensures c.in-Some.ensures.takes c.in-Some.ensures.counts c.in-Some.ensures.notes in
     let sink = sink_seen (g.O.Sink.taken c.say_farewell.new.output) (g.O.Sink.faults c.say_farewell.new.output) (g.O.Sink.writes c.say_farewell.new.output) in
     farewell_cut old mid new sink server next c.loop-taken.taken 1099511627776 (take n buffer) c.in-Faulty.fault c.loop-taken.invariant.going.so_far read
-    (subst (λ (piece : List ℕ). TakesPiece c.args.ahead server next piece (HasFault c.in-Faulty.fault) mid.sink new.sink) whole c.in-Faulty.ensures.takes)
+    (subst (λ (piece : List ℕ). TakesPiece c.args.looking server next piece (HasFault c.in-Faulty.fault) mid.sink new.sink) whole c.in-Faulty.ensures.takes)
     (subst (λ (stop : WriteStop). WritingEndsAs new.sink sink (frame_of_reply (fault_log c.in-Faulty.fault.number c.in-Faulty.fault.offset)) (Err stop)) c.in-Err-Failed.field-0-is c.in-Err-Failed.ensures)
     (all_then {old = old} {mid = mid} {server = server} {next = next} c.loop-taken.invariant.going.so_far c.loop-taken.invariant.going.counted whole c.in-Faulty.ensures.counted)
     (uncounted_then {old = old} {mid = mid} {server = server} c.loop-taken.invariant.going.so_far c.loop-taken.invariant.going.uncounted whole c.in-Faulty.ensures.steps)
@@ -157,7 +157,7 @@ returns-in-Err-Memory g c =
     let read = read_piece old mid new server c.loop-taken.taken n room buffer c.loop-taken.invariant.going.so_far c.loop-taken-test.true (g.met.I.Source.sized c.loop-taken.input) c.in-Some.ensures.within.0 c.in-Some.ensures.within.1 size c.min-room.ensures c.in-Some.ensures.takes c.in-Some.ensures.counts c.in-Some.ensures.notes in
     let sink = sink_seen (g.O.Sink.taken c.say_farewell.new.output) (g.O.Sink.faults c.say_farewell.new.output) (g.O.Sink.writes c.say_farewell.new.output) in
     farewell_lost old mid new sink server next c.loop-taken.taken 1099511627776 (take n buffer) c.in-Faulty.fault c.loop-taken.invariant.going.so_far read
-    (subst (λ (piece : List ℕ). TakesPiece c.args.ahead server next piece (HasFault c.in-Faulty.fault) mid.sink new.sink) whole c.in-Faulty.ensures.takes)
+    (subst (λ (piece : List ℕ). TakesPiece c.args.looking server next piece (HasFault c.in-Faulty.fault) mid.sink new.sink) whole c.in-Faulty.ensures.takes)
     (subst (λ (stop : WriteStop). WritingEndsAs new.sink sink (frame_of_reply (fault_log c.in-Faulty.fault.number c.in-Faulty.fault.offset)) (Err stop)) c.in-Err-Memory.field-0-is c.in-Err-Memory.ensures)
     (uncounted_then {old = old} {mid = mid} {server = server} c.loop-taken.invariant.going.so_far c.loop-taken.invariant.going.uncounted whole c.in-Faulty.ensures.steps)
 
@@ -177,7 +177,7 @@ loop-taken-preserved g c =
     let size : length buffer ≡ room = filled c.loop-taken.buf buffer room (1099511627776 - c.loop-taken.taken) c.loop-taken.invariant.wide c.min-room.ensures c.read.auto.buf in
     let whole = take_first buffer (drop room c.loop-taken.buf) n c.in-Some.ensures.within.1 in
     let read = read_piece old mid new server c.loop-taken.taken n room buffer c.loop-taken.invariant.going.so_far c.loop-taken-test.true (g.met.I.Source.sized c.loop-taken.input) c.in-Some.ensures.within.0 c.in-Some.ensures.within.1 size c.min-room.ensures c.in-Some.ensures.takes c.in-Some.ensures.counts c.in-Some.ensures.notes in
-    let answered = subst (λ (piece : List ℕ). TakesPiece c.args.ahead server next piece IsOpen mid.sink new.sink) whole c.in-Answered.ensures.takes in
+    let answered = subst (λ (piece : List ℕ). TakesPiece c.args.looking server next piece IsOpen mid.sink new.sink) whole c.in-Answered.ensures.takes in
     let within : n ≤ room = omega (arith, c.in-Some.ensures.within.1, size) in
     record {
       going = going_more old mid new server next c.loop-taken.taken n room buffer c.loop-taken.invariant.going.so_far c.loop-taken-test.true (g.met.I.Source.sized c.loop-taken.input) size within c.min-room.ensures
