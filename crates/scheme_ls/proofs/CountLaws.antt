@@ -138,19 +138,17 @@ all_yet {before = before} {now = now} w c = record {
 }
 
 -- with one piece more
-pub all_then : {looking : Looking} {old mid : Streams} {server next : Serving} {taken most before between now : ℕ} {read piece : List ℕ} (w : Going looking old mid server taken most) → AreCounted (looked_from (begin empty) w.seen).replies before between → read ≡ piece →
-    CountsPiece looking server next read between now → CountsAllBy looking (w.pieces ++ piece ∷ []) before now
-all_then {looking = looking} {old = old} {mid = mid} {server = server} {next = next} {taken = taken} {most = most} {before = before} {between = between} {now = now} {piece = piece} w so_far same c =
-    let p = subst (λ (q : List ℕ). CountsPiece looking server next q between now) same c in
+pub all_then : {looking : Looking} {old mid : Streams} {server next : Serving} {taken most before between now : ℕ} {piece : List ℕ} (w : Going looking old mid server taken most) → AreCounted (looked_from (begin empty) w.seen).replies before between →
+    CountsPiece looking server next piece between now → CountsAllBy looking (w.pieces ++ piece ∷ []) before now
+all_then {looking = looking} {old = old} {mid = mid} {server = server} {next = next} {taken = taken} {most = most} {before = before} {between = between} {now = now} {piece = piece} w so_far p =
     let all = frames_then old mid server next taken most piece p.given w p.feeds in
     counts_all_then old mid server taken most piece p.given w all.0 before now all.1
     (counts_then (begin empty) server.state w.seen (looked looking p.given) before between now w.answers.session.ends w.answers.now so_far p.counted)
 
 -- with a part of one, within whose answers a write failed
-pub first_then : {looking : Looking} {old mid : Streams} {server next : Serving} {taken most before between now : ℕ} {read piece : List ℕ} (w : Going looking old mid server taken most) (new : SinkSeen) → AreCounted (looked_from (begin empty) w.seen).replies before between → read ≡ piece →
-    CountsInPiece looking server next read (PrintsFront mid.sink new) between now → WritesFront (CountsBeginBy looking (w.pieces ++ piece ∷ []) before now) old.sink new
-first_then {looking = looking} {old = old} {mid = mid} {server = server} {next = next} {taken = taken} {most = most} {before = before} {between = between} {now = now} {piece = piece} w new so_far same c =
-    let p = subst (λ (q : List ℕ). CountsInPiece looking server next q (PrintsFront mid.sink new) between now) same c in
+pub first_then : {looking : Looking} {old mid : Streams} {server next : Serving} {taken most before between now : ℕ} {piece : List ℕ} (w : Going looking old mid server taken most) (new : SinkSeen) → AreCounted (looked_from (begin empty) w.seen).replies before between →
+    CountsInPiece looking server next piece (PrintsFront mid.sink new) between now → WritesFront (CountsBeginBy looking (w.pieces ++ piece ∷ []) before now) old.sink new
+first_then {looking = looking} {old = old} {mid = mid} {server = server} {next = next} {taken = taken} {most = most} {before = before} {between = between} {now = now} {piece = piece} w new so_far p =
     let all = frames_then old mid server next taken most piece p.given w p.feeds in
     let first = w.answers.session.messages in
     let some = p.counts.some in
@@ -165,10 +163,9 @@ first_then {looking = looking} {old = old} {mid = mid} {server = server} {next =
     }
 
 -- the session goes on after the piece
-pub counts_more : {looking : Looking} {old mid : Streams} {server next : Serving} {taken most : ℕ} {read piece : List ℕ} {seen sink : SinkSeen} (before between now : ℕ) (w : Going looking old mid server taken most) (answered : TakesPiece looking server next piece IsOpen seen sink) →
-    AreCounted (looked_from (begin empty) w.seen).replies before between → read ≡ piece → CountsPiece looking server next read between now → AreCounted (looked_from (begin empty) (w.seen ++ looked looking answered.given)).replies before now
-counts_more {looking = looking} {old = old} {mid = mid} {server = server} {next = next} {taken = taken} {most = most} {piece = piece} before between now w answered so_far same c =
-    let p = subst (λ (q : List ℕ). CountsPiece looking server next q between now) same c in
+pub counts_more : {looking : Looking} {old mid : Streams} {server next : Serving} {taken most : ℕ} {piece : List ℕ} {seen sink : SinkSeen} (before between now : ℕ) (w : Going looking old mid server taken most) (answered : TakesPiece looking server next piece IsOpen seen sink) →
+    AreCounted (looked_from (begin empty) w.seen).replies before between → CountsPiece looking server next piece between now → AreCounted (looked_from (begin empty) (w.seen ++ looked looking answered.given)).replies before now
+counts_more {looking = looking} {old = old} {mid = mid} {server = server} {next = next} {taken = taken} {most = most} {piece = piece} before between now w answered so_far p =
     let all = frames_then old mid server next taken most piece p.given w p.feeds in
     let frames = frames_so_far (w.bytes ++ piece) (w.bodies ++ answered.given) next.frames (rest answered.end.0) (answered.feeds w.bytes w.bodies w.after) answered.end.1 in
     let one = (one_reading (w.bytes ++ piece) (w.bodies ++ p.given) (w.bodies ++ answered.given) all.0 (rest answered.end.0) all.1 frames).0 in

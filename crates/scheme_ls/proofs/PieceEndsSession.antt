@@ -1,6 +1,5 @@
 -- How a session ends in a piece.
 use Rattle.std.proofs.Common.{◌≡◌, ℕ, ◌+◌, ◌-◌, ◌<◌, ◌≤◌, List, [], ◌∷◌, ◌++◌, length, min, take, refl, sym, ap, ◌∙◌, arith, append_assoc, append-nil, Some, None, Option, subst, inl, inr, ◌⊎◌, length-append}
-use Rattle.std.proofs.lemmas.List.{length-take}
 use Rattle.std.proofs.KnownBytes.{Appends-trans}
 use Rattle.std.specs.Io.KnownBytes.{Appends}
 use Rattle.std.specs.FinMap.{empty}
@@ -12,8 +11,7 @@ use Rattle.lsp_framing.proofs.OneReading.{bodies_grow}
 use Rattle.lsp_framing.proofs.Written.{written_again}
 use Rattle.lsp_messages.specs.declared.reply.Reply.{Reply}
 use Rattle.ls_outside.specs.Calls.{CallsTake}
-use Rattle.ls_outside.specs.Sources.{ArePieces, GotTakes, bytes_of}
-use Rattle.ls_outside.specs.declared.source.Got.TheVariants as got
+use Rattle.ls_outside.specs.Sources.{bytes_of}
 use Rattle.ls_outside.proofs.CallLaws.{calls_then, last_none_all}
 use Rattle.lookahead.specs.Looked.{Looked, looked}
 use Rattle.lookahead.specs.declared.looking.Looking.{Looking}
@@ -21,7 +19,7 @@ use Rattle.scheme_model.specs.Session.{Run, begin}
 use Rattle.session_core.specs.Asked.{Question}
 use Rattle.session_core.specs.Counted.{AreCounted}
 use Rattle.session_core.specs.ToWire.{AreReplies}
-use Rattle.scheme_ls.specs.AheadOutcome.{AnswersBeforeLast, CountsAllBy, CountsBeginBy, ReadsPieces, ServesBy, TakesPieces}
+use Rattle.scheme_ls.specs.AheadOutcome.{AnswersBeforeLast, CountsAllBy, CountsBeginBy, ServesBy}
 use Rattle.scheme_ls.specs.AheadOutput.{AnswerFirstBy, IsOutputBy, looked_from, looked_over}
 use Rattle.scheme_ls.specs.BodiesOutcome.{AnswersBodies}
 use Rattle.scheme_ls.specs.PieceOutcome.{AnswersInPiece, EndsInPiece, HasFault, Serving, TakesPiece}
@@ -36,24 +34,10 @@ use Rattle.scheme_ls.specs.declared.answering.Exit.{Exit}
 use Rattle.scheme_ls.specs.declared.server.FaultAt.{FaultAt}
 use Rattle.scheme_ls.specs.declared.serve.SessionEnd.TheVariants.{Exited, FrameFault, NoMemory, WriteFailed}
 use Rattle.scheme_ls.proofs.AnswerLaws.{answers_then, are_first, ends_after}
-use Rattle.scheme_ls.proofs.Pieces.{complete_more, joined_more, pieces_whole, reads_no_piece, reads_piece, whole_none}
-use Rattle.scheme_ls.proofs.SessionSoFar.{Going, frames_so_far, going_frames, is_output_so_far, joined_quiet, joined_run, output_so_far, takes_more, without_farewell}
+use Rattle.scheme_ls.proofs.Pieces.{complete_more, joined_more, pieces_whole, reads_no_piece, whole_none}
+use Rattle.scheme_ls.proofs.SessionSoFar.{Going, Read, frames_so_far, going_frames, is_output_so_far, joined_quiet, joined_run, output_so_far, without_farewell}
 use Rattle.scheme_ls.proofs.Sessions.{frames_more}
 use Rattle.scheme_ls.proofs.Writes.{front_after, part_after, prints_nothing, prints_then, whole_part}
-
--- a piece that is read behind those so far, before what it completes is answered
-pub record Read {looking : Looking} (old mid new : Streams) (server : Serving) (taken most : ℕ) (piece : List ℕ) (w : Going looking old mid server taken most) : Type 0 where
-  pub takes : TakesPieces old.source.left new.source.left (w.pieces ++ piece ∷ [])
-  pub few : taken + length piece ≤ 1099511627776
-  pub on : ReadsPieces old.source new.source (w.pieces ++ piece ∷ [])
-
-pub read_piece : {looking : Looking} (old mid new : Streams) (server : Serving) (taken n room : ℕ) (buffer : List ℕ) (w : Going looking old mid server taken 1099511627776) → taken < 1099511627776 → ArePieces mid.source.left → 1 ≤ n → n ≤ length buffer → length buffer ≡ room →
-    room ≡ min 65536 (1099511627776 - taken) → GotTakes mid.source.left new.source.left (got.Some n) buffer → new.source.faults ≡ mid.source.faults → new.source.reads ≡ mid.source.reads ++ take n buffer ∷ [] → Read old mid new server taken 1099511627776 (take n buffer) w
-read_piece old mid new server taken n room buffer w below sized some within size space takes counts notes = record {
-  takes = takes_more old mid new server taken n room buffer w below sized size (omega arith) space takes;
-  few = let l = length-take n buffer in omega arith;
-  on = reads_piece old.source mid.source new.source w.pieces buffer n w.on counts notes some within;
-}
 
 -- how the bytes end, where that is told
 pub some_end : (e : Option End) (bytes : List ℕ) (bodies : List (List ℕ)) → IsSomeAnd e (IsFrames bytes bodies) → (end : End) × IsFrames bytes bodies end

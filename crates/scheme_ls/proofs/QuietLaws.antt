@@ -68,12 +68,12 @@ uncounted_yet {old = old} {mid = mid} {server = server} {taken = taken} {most = 
     steps (subst (λ (bodies : List (List ℕ)). AllByRecursion IsQuiet bodies) same q.quiet)
 
 -- so have quiet bytes with one piece more
-pub uncounted_then : {looking : Looking} {old mid : Streams} {server : Serving} {taken most before between now : ℕ} {read piece : List ℕ} (w : Going looking old mid server taken most) → (AllByRecursion IsQuiet w.bodies → between ≡ before) → read ≡ piece →
-    (IsQuietPiece server.frames read → now ≡ between) → AreQuiet (w.bytes ++ piece) → now ≡ before
-uncounted_then {old = old} {mid = mid} {server = server} {taken = taken} {most = most} {between = between} {now = now} {piece = piece} w so_far same steps q =
+pub uncounted_then : {looking : Looking} {old mid : Streams} {server : Serving} {taken most before between now : ℕ} {piece : List ℕ} (w : Going looking old mid server taken most) → (AllByRecursion IsQuiet w.bodies → between ≡ before) →
+    (IsQuietPiece server.frames piece → now ≡ between) → AreQuiet (w.bytes ++ piece) → now ≡ before
+uncounted_then {old = old} {mid = mid} {server = server} {taken = taken} {most = most} {piece = piece} w so_far steps q =
     let more = bodies_grow w.bytes piece w.bodies q.bodies (rest w.kept) q.end (going_frames old mid server taken most w) q.frames in
     let parts = all_parts w.bodies more.0 (subst (λ (bodies : List (List ℕ)). AllByRecursion IsQuiet bodies) more.1 q.quiet) in
-    subst (λ (p : List ℕ). IsQuietPiece server.frames p → now ≡ between) same steps (record {
+    steps (record {
       past = w.bytes;
       before = w.bodies;
       given = more.0;
@@ -85,11 +85,11 @@ uncounted_then {old = old} {mid = mid} {server = server} {taken = taken} {most =
     ∙ so_far parts.0
 
 -- the session goes on after the piece
-pub uncounted_more : {looking : Looking} {old mid : Streams} {server next : Serving} {taken most before between now : ℕ} {read piece : List ℕ} {seen sink : SinkSeen} (w : Going looking old mid server taken most) (answered : TakesPiece looking server next piece IsOpen seen sink) →
-    (AllByRecursion IsQuiet w.bodies → between ≡ before) → read ≡ piece → (IsQuietPiece server.frames read → now ≡ between) → AllByRecursion IsQuiet (w.bodies ++ answered.given) → now ≡ before
-uncounted_more {server = server} {next = next} {between = between} {now = now} {piece = piece} w answered so_far same steps q =
+pub uncounted_more : {looking : Looking} {old mid : Streams} {server next : Serving} {taken most before between now : ℕ} {piece : List ℕ} {seen sink : SinkSeen} (w : Going looking old mid server taken most) (answered : TakesPiece looking server next piece IsOpen seen sink) →
+    (AllByRecursion IsQuiet w.bodies → between ≡ before) → (IsQuietPiece server.frames piece → now ≡ between) → AllByRecursion IsQuiet (w.bodies ++ answered.given) → now ≡ before
+uncounted_more {next = next} {piece = piece} w answered so_far steps q =
     let parts = all_parts w.bodies answered.given q in
-    subst (λ (p : List ℕ). IsQuietPiece server.frames p → now ≡ between) same steps (record {
+    steps (record {
       past = w.bytes;
       before = w.bodies;
       given = answered.given;

@@ -32,7 +32,8 @@ use Rattle.scheme_ls.specs.SessionOutput.{Output}
 use Rattle.scheme_ls.specs.Streams.{Streams}
 use Rattle.scheme_ls.specs.declared.serve.SessionEnd.TheVariants.{InputEnded, ReadFailed, Endless}
 use Rattle.scheme_ls.proofs.AnswerLaws.{none_yet, answers_then}
-use Rattle.scheme_ls.proofs.Pieces.{Joined, TakesWhole, complete_more, joined_more, joined_none, pieces_more, pieces_over, pieces_stay, pieces_whole, reads_end, reads_failing, reads_no_piece, whole_none}
+use Rattle.scheme_ls.proofs.Pieces.{Joined, TakesWhole, complete_more, joined_more, joined_none, pieces_more, pieces_over, pieces_stay, pieces_whole, reads_end, reads_failing, reads_no_piece, reads_piece, whole_none}
+use Rattle.scheme_ls.proofs.Writes.{take_first}
 
 -- a session that read pieces, answered all the bodies that they complete and goes on
 pub record Going (looking : Looking) (old now : Streams) (server : Serving) (taken most : ℕ) : Type 0 where
@@ -131,7 +132,7 @@ whole_piece piece buffer pieces new n count same left =
     (same ∙ take_all n piece all, left ∙ ap (λ (rest : List ℕ). left_over rest pieces) (drop_all n piece all))
 
 -- where pieces are told, a read that takes a whole piece
-pub whole_more : (old mid new : Option (List (List ℕ))) (pieces : List (List ℕ)) (buffer : List ℕ) (n room : ℕ) → ArePieces mid → length buffer ≡ room → (n < room) ⊎ (65536 ≤ room) → TakesWhole old mid pieces → GotTakes mid new (got.Some n) buffer →
+whole_more : (old mid new : Option (List (List ℕ))) (pieces : List (List ℕ)) (buffer : List ℕ) (n room : ℕ) → ArePieces mid → length buffer ≡ room → (n < room) ⊎ (65536 ≤ room) → TakesWhole old mid pieces → GotTakes mid new (got.Some n) buffer →
     TakesWhole old new (pieces ++ take n buffer ∷ [])
 whole_more None mid new pieces buffer n room sized size wide w takes = tt
 whole_more (Some old) None new pieces buffer n room sized size wide w takes = absurd w
@@ -154,7 +155,7 @@ wide_read n room taken most more below within space = elim (cases_lt room 65536)
 ]
 
 -- a read leaves room for a whole piece, or fills what a session may take
-pub takes_more : {looking : Looking} (old mid new : Streams) (server : Serving) (taken n room : ℕ) (buffer : List ℕ) (w : Going looking old mid server taken 1099511627776) → taken < 1099511627776 → ArePieces mid.source.left → length buffer ≡ room → n ≤ room →
+takes_more : {looking : Looking} (old mid new : Streams) (server : Serving) (taken n room : ℕ) (buffer : List ℕ) (w : Going looking old mid server taken 1099511627776) → taken < 1099511627776 → ArePieces mid.source.left → length buffer ≡ room → n ≤ room →
     room ≡ min 65536 (1099511627776 - taken) → GotTakes mid.source.left new.source.left (got.Some n) buffer → TakesPieces old.source.left new.source.left (w.pieces ++ take n buffer ∷ [])
 takes_more old mid new server taken n room buffer w below sized size within space takes =
     pieces_more old.source.left mid.source.left new.source.left w.pieces buffer n (w.whole below) takes
@@ -163,31 +164,50 @@ takes_more old mid new server taken n room buffer w below sized size within spac
       | inr full ↦ inr (ap length (joined_more (take n buffer) [] w.joined).bytes_are ∙ length-append w.bytes (take n buffer) ∙ (let l = length-take n buffer in omega (arith, w.count)))
     ])
 
--- a read, and what answers it: the session goes on
-pub going_more : {looking : Looking} {before steps : ℕ} (old mid new : Streams) (server next : Serving) (taken n room : ℕ) (buffer : List ℕ) (w : Going looking old mid server taken 1099511627776) → taken < 1099511627776 → ArePieces mid.source.left → length buffer ≡ room →
-    n ≤ room → room ≡ min 65536 (1099511627776 - taken) → GotTakes mid.source.left new.source.left (got.Some n) buffer → ReadsPieces old.source new.source (w.pieces ++ take n buffer ∷ []) →
-    (answered : TakesPiece looking server next (take n buffer) IsOpen mid.sink new.sink) → AreCounted (looked_from (begin empty) (w.seen ++ looked looking answered.given)).replies before steps →
+-- a piece that is read behind those so far, before what it completes is answered
+pub record Read {looking : Looking} (old mid new : Streams) (server : Serving) (taken most : ℕ) (piece : List ℕ) (w : Going looking old mid server taken most) : Type 0 where
+  pub takes : TakesPieces old.source.left new.source.left (w.pieces ++ piece ∷ [])
+  pub whole : taken + length piece < most → TakesWhole old.source.left new.source.left (w.pieces ++ piece ∷ [])
+  pub few : taken + length piece ≤ 1099511627776
+  pub on : ReadsPieces old.source new.source (w.pieces ++ piece ∷ [])
+
+-- the bytes that a read puts at the front of the buffer are such a piece
+pub read_piece : {looking : Looking} (old mid new : Streams) (server : Serving) (taken n room : ℕ) (buffer others : List ℕ) (w : Going looking old mid server taken 1099511627776) → taken < 1099511627776 → ArePieces mid.source.left → length buffer ≡ room → room ≡ min 65536 (1099511627776 - taken) →
+    1 ≤ n → n ≤ length buffer → GotTakes mid.source.left new.source.left (got.Some n) buffer → new.source.faults ≡ mid.source.faults → new.source.reads ≡ mid.source.reads ++ take n buffer ∷ [] → Read old mid new server taken 1099511627776 (take n (buffer ++ others)) w
+read_piece old mid new server taken n room buffer others w below sized size space some within takes counts notes =
+    let l = length-take n buffer in
+    let fits : n ≤ room = omega arith in
+    subst (λ (piece : List ℕ). Read old mid new server taken 1099511627776 piece w) (sym (take_first buffer others n within)) (record {
+      takes = takes_more old mid new server taken n room buffer w below sized size fits space takes;
+      whole = λ more. whole_more old.source.left mid.source.left new.source.left w.pieces buffer n room sized size (wide_read n room taken 1099511627776 (omega arith) below fits space) (w.whole below) takes;
+      few = omega arith;
+      on = reads_piece old.source mid.source new.source w.pieces buffer n w.on counts notes some within;
+    })
+
+-- and what answers it: the session goes on
+pub going_more : {looking : Looking} {before steps : ℕ} (old mid new : Streams) (server next : Serving) (taken n : ℕ) (piece : List ℕ) (w : Going looking old mid server taken 1099511627776) → Read old mid new server taken 1099511627776 piece w → length piece ≡ n →
+    (answered : TakesPiece looking server next piece IsOpen mid.sink new.sink) → AreCounted (looked_from (begin empty) (w.seen ++ looked looking answered.given)).replies before steps →
     (AllByRecursion IsQuiet (w.bodies ++ answered.given) → steps ≡ before) → GoesUncounted looking old new next (taken + n) 1099511627776 before steps
-going_more {looking = looking} old mid new server next taken n room buffer w below sized size within space takes on answered counted uncounted =
+going_more {looking = looking} old mid new server next taken n piece w r size answered counted uncounted =
     let after = answered.feeds w.bytes w.bodies w.after in
     record {
       so_far = record {
-        pieces = w.pieces ++ take n buffer ∷ [];
+        pieces = w.pieces ++ piece ∷ [];
         given = w.given ++ answered.given ∷ [];
-        bytes = w.bytes ++ take n buffer;
+        bytes = w.bytes ++ piece;
         bodies = w.bodies ++ answered.given;
         seen = w.seen ++ looked looking answered.given;
-        joined = joined_more (take n buffer) answered.given w.joined;
-        takes = takes_more old mid new server taken n room buffer w below sized size within space takes;
-        whole = λ more. whole_more old.source.left mid.source.left new.source.left w.pieces buffer n room sized size (wide_read n room taken 1099511627776 more below within space) (w.whole below) takes;
+        joined = joined_more piece answered.given w.joined;
+        takes = r.takes;
+        whole = λ more. r.whole (omega arith);
         after = after;
         kept = answered.end.0;
         open_end = answered.end.1;
-        complete = complete_more (take n buffer) answered.given (rest w.kept) (rest answered.end.0) w.joined w.complete
-            (frames_so_far (w.bytes ++ take n buffer) (w.bodies ++ answered.given) next.frames (rest answered.end.0) after answered.end.1);
+        complete = complete_more piece answered.given (rest w.kept) (rest answered.end.0) w.joined w.complete
+            (frames_so_far (w.bytes ++ piece) (w.bodies ++ answered.given) next.frames (rest answered.end.0) after answered.end.1);
         answers = answers_then (begin empty) server.state next.state w.seen (looked looking answered.given) old.sink mid.sink new.sink w.answers answered.answers;
-        count = length-append w.bytes (take n buffer) ∙ (let l = length-take n buffer in omega (arith, w.count));
-        on = on;
+        count = length-append w.bytes piece ∙ omega (arith, w.count);
+        on = r.on;
       };
       counted = counted;
       uncounted = uncounted;
