@@ -1,6 +1,6 @@
 -- Bodies that are looked at in groups.
 use Rattle.std.proofs.Common.{◌≡◌, ◌⊎◌, inl, inr, ℕ, suc, ◌+◌, ◌-◌, ◌%◌, ◌≤◌, List, [], ◌∷◌, ◌++◌, length, take, map, Option, Some, None, refl, sym, ap, ◌∙◌, subst, append-nil, arith}
-use Rattle.std.specs.Prelude.{zip, true}
+use Rattle.std.specs.Prelude.{zip}
 use Rattle.std.proofs.Math.Nat.{mod-eq_of_lt, suc-mod}
 use Rattle.std.proofs.lemmas.List.{length-map, map-append, take-append-le, take_all}
 use Rattle.lsp_messages.specs.declared.message.Id.{Id}
@@ -8,6 +8,7 @@ use Rattle.lookahead.specs.Cancelled.{cancelled_by, cancelled_from}
 use Rattle.lookahead.specs.Looked.{Gives, Looked, left_in, looked}
 use Rattle.lookahead.specs.Roles.{role_of}
 use Rattle.lookahead.specs.Windows.{Leaves}
+use Rattle.lookahead.specs.declared.looking.Looking.TheVariants.{Ahead}
 use Rattle.lookahead.specs.declared.role.Role.{Role}
 use Rattle.lookahead.specs.declared.window.Next.{Next}
 
@@ -27,7 +28,7 @@ any_place (role ∷ later) place other few as_few =
     λ j. cancelled_by role (same j) ∷ any_place later (suc place) (suc other) (omega arith) (omega arith) j
 
 -- the first of a group
-looked_first : (body : List ℕ) (later : List (List ℕ)) → length (body ∷ later) ≤ 64 → looked true (body ∷ later) ≡ (body, cancelled_by (role_of body) (map role_of later)) ∷ looked true later
+looked_first : (body : List ℕ) (later : List (List ℕ)) → length (body ∷ later) ≤ 64 → looked Ahead (body ∷ later) ≡ (body, cancelled_by (role_of body) (map role_of later)) ∷ looked Ahead later
 looked_first body later few =
     let count = length-map later role_of in
     let all : take 63 (map role_of later) ≡ map role_of later = take_all 63 (map role_of later) (omega arith) in
@@ -37,12 +38,12 @@ looked_first body later few =
 pub gives_first : (held left rest : List (List ℕ)) (next : Option Next) → length held ≤ 64 → (held ≡ [] → rest ≡ []) → Leaves held next left → Gives (left_in (Some held) rest) next (left_in (Some left) rest)
 gives_first [] left rest None few none leaves =
     let over = none refl in
-    subst (λ (r : List (List ℕ)). Gives (looked true r) None (looked true left ++ looked true r)) (sym over) (ap (λ (l : List (List ℕ)). looked true l ++ []) leaves)
+    subst (λ (r : List (List ℕ)). Gives (looked Ahead r) None (looked Ahead left ++ looked Ahead r)) (sym over) (ap (λ (l : List (List ℕ)). looked Ahead l ++ []) leaves)
 gives_first [] left rest (Some next) few none leaves = absurd leaves
 gives_first (body ∷ later) left rest None few none leaves = absurd leaves
 gives_first (body ∷ later) left rest (Some next) few none leaves =
-    subst (λ (all : List Looked). Gives (all ++ looked true rest) (Some next) (looked true left ++ looked true rest)) (sym (looked_first body later few))
-    (λ j. (leaves.0 j, leaves.1 j), ap (λ (l : List (List ℕ)). looked true l ++ looked true rest) leaves.2)
+    subst (λ (all : List Looked). Gives (all ++ looked Ahead rest) (Some next) (looked Ahead left ++ looked Ahead rest)) (sym (looked_first body later few))
+    (λ j. (leaves.0 j, leaves.1 j), ap (λ (l : List (List ℕ)). looked Ahead l ++ looked Ahead rest) leaves.2)
 
 -- ---- group by group
 
@@ -67,13 +68,13 @@ full_group (body ∷ held) rest place full =
     λ j. (body, cancelled_by (role_of body) (behind_full place held rest (omega arith) j)) ∷ full_group held rest (suc place) (omega arith) j
 
 -- bodies that fill a group, or are all that there is
-pub one_group : (held rest : List (List ℕ)) → (length held ≡ 64) ⊎ (rest ≡ []) → looked true (held ++ rest) ≡ looked true held ++ looked true rest
+pub one_group : (held rest : List (List ℕ)) → (length held ≡ 64) ⊎ (rest ≡ []) → looked Ahead (held ++ rest) ≡ looked Ahead held ++ looked Ahead rest
 one_group held rest (inl full) = full_group held rest 0 (omega arith)
 one_group held rest (inr over) =
-    subst (λ (r : List (List ℕ)). looked true (held ++ r) ≡ looked true held ++ looked true r) (sym over)
-    (ap (looked true) (append-nil held) ∙ sym (append-nil (looked true held)))
+    subst (λ (r : List (List ℕ)). looked Ahead (held ++ r) ≡ looked Ahead held ++ looked Ahead r) (sym over)
+    (ap (looked Ahead) (append-nil held) ∙ sym (append-nil (looked Ahead held)))
 
 -- a window that held nothing, once it is filled
 pub refilled : (before held rest all : List (List ℕ)) → length before ≡ 0 → held ++ rest ≡ all → (length held ≡ 64) ⊎ (rest ≡ []) → left_in (Some held) rest ≡ left_in (Some before) all
-refilled [] held rest all none same ends = sym (one_group held rest ends) ∙ ap (looked true) same
+refilled [] held rest all none same ends = sym (one_group held rest ends) ∙ ap (looked Ahead) same
 refilled (body ∷ before) held rest all none same ends = absurd (omega arith)

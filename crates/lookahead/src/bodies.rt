@@ -1,10 +1,12 @@
 //! The bodies that a piece completes, given out one after another.
-ghost use Rattle.std.specs.Prelude.{◌≡◌, ◌≤◌, [], Some, false, length, IfOk, OnOk};
+ghost use Rattle.std.specs.Prelude.{◌≡◌, ◌≤◌, [], Some, length, IfOk, OnOk};
 ghost use Rattle.std.specs.Vec.Iter.{into_iter_items};
 ghost use Rattle.lsp_framing.specs.Taken.{contents};
 ghost use Rattle.lookahead.specs.Cancelled.{max_group};
 ghost use Rattle.lookahead.specs.Looked.{Gives, left_in, looked};
+ghost use Rattle.lookahead.specs.declared.looking.Looking.TheVariants.{OneByOne};
 
+use crate::looking::Looking;
 use crate::window::{CAPACITY, Next, Window};
 use ls_base::{Mem, Memory};
 use std::alloc::Global;
@@ -33,14 +35,13 @@ impl Model for Bodies {
 }
 
 impl Bodies {
-    /// All bodies of a piece, which are looked at ahead or not. It takes no memory.
-    pub fn new(alloc: Global, bodies: Vec<Vec<u8>>, ahead: bool) -> Bodies
-        ensures { result ≡ looked ahead (contents bodies.items) }
+    /// All bodies of a piece, which are looked at so. It takes no memory.
+    pub fn new(alloc: Global, bodies: Vec<Vec<u8>>, looking: Looking) -> Bodies
+        ensures { result ≡ looked looking (contents bodies.items) }
     {
-        let window = if ahead {
-            Some(Window::new(alloc))
-        } else {
-            None
+        let window = match looking {
+            Looking::Ahead => Some(Window::new(alloc)),
+            Looking::OneByOne => None,
         };
         Bodies {
             window,
@@ -63,9 +64,9 @@ impl Bodies {
     }
 }
 
-/// The first of bodies that aren't looked at ahead.
+/// The first of bodies that are looked at one by one.
 fn first_of(bodies: &mut IntoIter<Vec<u8>>) -> Option<Next>
-    ensures { Gives (looked false (contents (into_iter_items bodies.old))) result (looked false (contents (into_iter_items bodies.new))) }
+    ensures { Gives (looked OneByOne (contents (into_iter_items bodies.old))) result (looked OneByOne (contents (into_iter_items bodies.new))) }
 {
     let body = bodies.next()?;
     Some(Next {

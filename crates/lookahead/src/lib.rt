@@ -7,8 +7,10 @@ mod cancellations;
 mod counts;
 mod held;
 pub mod laws;
+mod looking;
 mod role;
 mod window;
 
 pub use bodies::Bodies;
+pub use looking::Looking;
 pub use window::{Next, Window, WindowFault};

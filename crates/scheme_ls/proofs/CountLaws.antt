@@ -1,10 +1,11 @@
 -- The macro uses that are counted over bodies and pieces.
-use Rattle.std.proofs.Common.{◌≡◌, ℕ, zero, suc, List, [], ◌∷◌, ◌++◌, refl, sym, ap, ◌∙◌, append_assoc, append-nil, Some, None, Option, Bool, subst, inl}
+use Rattle.std.proofs.Common.{◌≡◌, ℕ, zero, suc, List, [], ◌∷◌, ◌++◌, refl, sym, ap, ◌∙◌, append_assoc, append-nil, Some, None, Option, subst, inl}
 use Rattle.std.specs.FinMap.{empty}
 use Rattle.ls_base.specs.Frames.{rest}
 use Rattle.lsp_framing.specs.Feeds.{Feeds}
 use Rattle.lsp_framing.proofs.OneReading.{one_reading}
 use Rattle.lookahead.specs.Looked.{Looked, looked}
+use Rattle.lookahead.specs.declared.looking.Looking.{Looking}
 use Rattle.scheme_model.specs.Session as model
 use Rattle.scheme_model.specs.Session.{Run, State, begin}
 use Rattle.session_core.specs.Asked.{Question}
@@ -110,16 +111,16 @@ counted_some state mid all later body old seen new before between now w c =
 
 -- ---- the bodies of a piece
 
-pub piece_counts : {ahead : Bool} (old new : Serving) (piece : List ℕ) (bodies : List Looked) (given : List (List ℕ)) (before now : ℕ) → Feeds old.frames piece given new.frames → bodies ≡ looked ahead given →
-    AreCounted (looked_from old.state bodies).replies before now → CountsPiece ahead old new piece before now
+pub piece_counts : {looking : Looking} (old new : Serving) (piece : List ℕ) (bodies : List Looked) (given : List (List ℕ)) (before now : ℕ) → Feeds old.frames piece given new.frames → bodies ≡ looked looking given →
+    AreCounted (looked_from old.state bodies).replies before now → CountsPiece looking old new piece before now
 piece_counts old new piece bodies given before now feeds same c = record {
   given = given;
   feeds = feeds;
   counted = subst (λ (all : List Looked). AreCounted (looked_from old.state all).replies before now) same c;
 }
 
-pub part_counts : {ahead : Bool} (old new : Serving) (piece : List ℕ) (bodies : List Looked) (given : List (List ℕ)) (IsPrinted : List ℕ → Type 0) (before now : ℕ) → Feeds old.frames piece given new.frames → bodies ≡ looked ahead given →
-    CountsSome old.state bodies IsPrinted before now → CountsInPiece ahead old new piece IsPrinted before now
+pub part_counts : {looking : Looking} (old new : Serving) (piece : List ℕ) (bodies : List Looked) (given : List (List ℕ)) (IsPrinted : List ℕ → Type 0) (before now : ℕ) → Feeds old.frames piece given new.frames → bodies ≡ looked looking given →
+    CountsSome old.state bodies IsPrinted before now → CountsInPiece looking old new piece IsPrinted before now
 part_counts old new piece bodies given IsPrinted before now feeds same c = record {
   given = given;
   feeds = feeds;
@@ -128,7 +129,7 @@ part_counts old new piece bodies given IsPrinted before now feeds same c = recor
 
 -- ---- all pieces so far
 
-pub all_yet : {ahead : Bool} {old mid : Streams} {server : Serving} {taken most before now : ℕ} (w : Going ahead old mid server taken most) → AreCounted (looked_from (begin empty) w.seen).replies before now → CountsAllBy ahead w.pieces before now
+pub all_yet : {looking : Looking} {old mid : Streams} {server : Serving} {taken most before now : ℕ} (w : Going looking old mid server taken most) → AreCounted (looked_from (begin empty) w.seen).replies before now → CountsAllBy looking w.pieces before now
 all_yet {before = before} {now = now} w c = record {
   given = w.given;
   end = rest w.kept;
@@ -137,19 +138,17 @@ all_yet {before = before} {now = now} w c = record {
 }
 
 -- with one piece more
-pub all_then : {ahead : Bool} {old mid : Streams} {server next : Serving} {taken most before between now : ℕ} {read piece : List ℕ} (w : Going ahead old mid server taken most) → AreCounted (looked_from (begin empty) w.seen).replies before between → read ≡ piece →
-    CountsPiece ahead server next read between now → CountsAllBy ahead (w.pieces ++ piece ∷ []) before now
-all_then {ahead = ahead} {old = old} {mid = mid} {server = server} {next = next} {taken = taken} {most = most} {before = before} {between = between} {now = now} {piece = piece} w so_far same c =
-    let p = subst (λ (q : List ℕ). CountsPiece ahead server next q between now) same c in
+pub all_then : {looking : Looking} {old mid : Streams} {server next : Serving} {taken most before between now : ℕ} {piece : List ℕ} (w : Going looking old mid server taken most) → AreCounted (looked_from (begin empty) w.seen).replies before between →
+    CountsPiece looking server next piece between now → CountsAllBy looking (w.pieces ++ piece ∷ []) before now
+all_then {looking = looking} {old = old} {mid = mid} {server = server} {next = next} {taken = taken} {most = most} {before = before} {between = between} {now = now} {piece = piece} w so_far p =
     let all = frames_then old mid server next taken most piece p.given w p.feeds in
     counts_all_then old mid server taken most piece p.given w all.0 before now all.1
-    (counts_then (begin empty) server.state w.seen (looked ahead p.given) before between now w.answers.session.ends w.answers.now so_far p.counted)
+    (counts_then (begin empty) server.state w.seen (looked looking p.given) before between now w.answers.session.ends w.answers.now so_far p.counted)
 
 -- with a part of one, within whose answers a write failed
-pub first_then : {ahead : Bool} {old mid : Streams} {server next : Serving} {taken most before between now : ℕ} {read piece : List ℕ} (w : Going ahead old mid server taken most) (new : SinkSeen) → AreCounted (looked_from (begin empty) w.seen).replies before between → read ≡ piece →
-    CountsInPiece ahead server next read (PrintsFront mid.sink new) between now → WritesFront (CountsBeginBy ahead (w.pieces ++ piece ∷ []) before now) old.sink new
-first_then {ahead = ahead} {old = old} {mid = mid} {server = server} {next = next} {taken = taken} {most = most} {before = before} {between = between} {now = now} {piece = piece} w new so_far same c =
-    let p = subst (λ (q : List ℕ). CountsInPiece ahead server next q (PrintsFront mid.sink new) between now) same c in
+pub first_then : {looking : Looking} {old mid : Streams} {server next : Serving} {taken most before between now : ℕ} {piece : List ℕ} (w : Going looking old mid server taken most) (new : SinkSeen) → AreCounted (looked_from (begin empty) w.seen).replies before between →
+    CountsInPiece looking server next piece (PrintsFront mid.sink new) between now → WritesFront (CountsBeginBy looking (w.pieces ++ piece ∷ []) before now) old.sink new
+first_then {looking = looking} {old = old} {mid = mid} {server = server} {next = next} {taken = taken} {most = most} {before = before} {between = between} {now = now} {piece = piece} w new so_far p =
     let all = frames_then old mid server next taken most piece p.given w p.feeds in
     let first = w.answers.session.messages in
     let some = p.counts.some in
@@ -164,12 +163,11 @@ first_then {ahead = ahead} {old = old} {mid = mid} {server = server} {next = nex
     }
 
 -- the session goes on after the piece
-pub counts_more : {ahead : Bool} {old mid : Streams} {server next : Serving} {taken most : ℕ} {read piece : List ℕ} {seen sink : SinkSeen} (before between now : ℕ) (w : Going ahead old mid server taken most) (answered : TakesPiece ahead server next piece IsOpen seen sink) →
-    AreCounted (looked_from (begin empty) w.seen).replies before between → read ≡ piece → CountsPiece ahead server next read between now → AreCounted (looked_from (begin empty) (w.seen ++ looked ahead answered.given)).replies before now
-counts_more {ahead = ahead} {old = old} {mid = mid} {server = server} {next = next} {taken = taken} {most = most} {piece = piece} before between now w answered so_far same c =
-    let p = subst (λ (q : List ℕ). CountsPiece ahead server next q between now) same c in
+pub counts_more : {looking : Looking} {old mid : Streams} {server next : Serving} {taken most : ℕ} {piece : List ℕ} {seen sink : SinkSeen} (before between now : ℕ) (w : Going looking old mid server taken most) (answered : TakesPiece looking server next piece IsOpen seen sink) →
+    AreCounted (looked_from (begin empty) w.seen).replies before between → CountsPiece looking server next piece between now → AreCounted (looked_from (begin empty) (w.seen ++ looked looking answered.given)).replies before now
+counts_more {looking = looking} {old = old} {mid = mid} {server = server} {next = next} {taken = taken} {most = most} {piece = piece} before between now w answered so_far p =
     let all = frames_then old mid server next taken most piece p.given w p.feeds in
     let frames = frames_so_far (w.bytes ++ piece) (w.bodies ++ answered.given) next.frames (rest answered.end.0) (answered.feeds w.bytes w.bodies w.after) answered.end.1 in
     let one = (one_reading (w.bytes ++ piece) (w.bodies ++ p.given) (w.bodies ++ answered.given) all.0 (rest answered.end.0) all.1 frames).0 in
-    let counted = subst (λ (given : List (List ℕ)). AreCounted (looked_from server.state (looked ahead given)).replies between now) (same_rest w.bodies p.given answered.given one) p.counted in
-    counts_then (begin empty) server.state w.seen (looked ahead answered.given) before between now w.answers.session.ends w.answers.now so_far counted
+    let counted = subst (λ (given : List (List ℕ)). AreCounted (looked_from server.state (looked looking given)).replies between now) (same_rest w.bodies p.given answered.given one) p.counted in
+    counts_then (begin empty) server.state w.seen (looked looking answered.given) before between now w.answers.session.ends w.answers.now so_far counted

@@ -1,11 +1,12 @@
 -- A stream has one output, and messages that begin it are its front.
-use Rattle.std.proofs.Common.{◌≡◌, ℕ, List, [], ◌++◌, refl, sym, ap, ◌∙◌, subst, append_assoc, append-nil, Bool, Option, Some, None, inl, inr}
-use Rattle.std.specs.Prelude.{false}
+use Rattle.std.proofs.Common.{◌≡◌, ℕ, List, [], ◌++◌, refl, sym, ap, ◌∙◌, subst, append_assoc, append-nil, Option, Some, None, inl, inr}
 use Rattle.std.specs.FinMap.{empty}
 use Rattle.std.proofs.lemmas.List.{map-append}
 use Rattle.lsp_framing.proofs.OneReading.{one_reading}
 use Rattle.lsp_messages.specs.declared.reply.Reply.{Reply}
 use Rattle.lookahead.specs.Looked.{Looked, looked, uncancelled}
+use Rattle.lookahead.specs.declared.looking.Looking.{Looking}
+use Rattle.lookahead.specs.declared.looking.Looking.TheVariants.{OneByOne}
 use Rattle.lookahead.proofs.OneCompletion.{only_completion}
 use Rattle.scheme_model.specs.Session.{Ending, Run, begin}
 use Rattle.session_core.specs.ToWire.{AreReplies}
@@ -48,10 +49,10 @@ one_output bytes a b h k =
 pub front_of_output : (bytes : List ℕ) (messages : List Reply) (output : Output) → BeginOutput bytes messages → IsOutputOf bytes output → (rest : List Reply) × (written output ≡ messages ++ rest)
 front_of_output bytes messages output (inl first) is =
     let same = one_reading bytes is.bodies (first.bodies ++ first.later) output.end first.end is.frames first.frames in
-    let all : session_over is.bodies ≡ looked_from (begin empty) (looked false first.bodies ++ looked false first.later) =
+    let all : session_over is.bodies ≡ looked_from (begin empty) (looked OneByOne first.bodies ++ looked OneByOne first.later) =
     ap session_over same.0 ∙ uncancelled_session (first.bodies ++ first.later) (begin empty) ∙ ap (looked_from (begin empty)) (map-append uncancelled first.bodies first.later) in
     front_written messages output
-    (front_of_replies (looked false first.bodies) (looked false first.later) messages output.messages (looked_from (begin empty) (looked false first.bodies)).end refl
+    (front_of_replies (looked OneByOne first.bodies) (looked OneByOne first.later) messages output.messages (looked_from (begin empty) (looked OneByOne first.bodies)).end refl
     (subst (λ (run : Run Question). AreReplies run.replies messages) (uncancelled_session first.bodies (begin empty)) first.answered)
     (subst (λ (run : Run Question). AreReplies run.replies output.messages) all is.answered))
 front_of_output bytes messages output (inr whole) is =
@@ -59,19 +60,19 @@ front_of_output bytes messages output (inr whole) is =
 
 -- ---- of pieces
 
-pub one_output_by : (ahead : Bool) (pieces : List (List ℕ)) (a b : Output) → IsOutputBy ahead pieces a → IsOutputBy ahead pieces b → a ≡ b
-one_output_by ahead pieces a b h k =
+pub one_output_by : (looking : Looking) (pieces : List (List ℕ)) (a b : Output) → IsOutputBy looking pieces a → IsOutputBy looking pieces b → a ≡ b
+one_output_by looking pieces a b h k =
     let same = only_completion pieces [] [] h.given k.given a.end b.end h.complete k.complete in
-    let messages : a.messages ≡ b.messages = one_replies (looked_over ahead h.given).replies a.messages b.messages h.answered
-    (subst (λ (given : List (List (List ℕ))). AreReplies (looked_over ahead given).replies b.messages) (sym same.0) k.answered) in
-    let exit : a.exit ≡ b.exit = h.exits ∙ ap (λ (given : List (List (List ℕ))). (looked_over ahead given).end) same.0 ∙ sym k.exits in
+    let messages : a.messages ≡ b.messages = one_replies (looked_over looking h.given).replies a.messages b.messages h.answered
+    (subst (λ (given : List (List (List ℕ))). AreReplies (looked_over looking given).replies b.messages) (sym same.0) k.answered) in
+    let exit : a.exit ≡ b.exit = h.exits ∙ ap (λ (given : List (List (List ℕ))). (looked_over looking given).end) same.0 ∙ sym k.exits in
     λ j. record { messages = messages j; exit = exit j; end = same.1 j }
 
-pub front_of_output_by : (ahead : Bool) (pieces : List (List ℕ)) (messages : List Reply) (output : Output) → BeginBy ahead pieces messages → IsOutputBy ahead pieces output → (rest : List Reply) × (written output ≡ messages ++ rest)
-front_of_output_by ahead pieces messages output (inl a) is =
+pub front_of_output_by : (looking : Looking) (pieces : List (List ℕ)) (messages : List Reply) (output : Output) → BeginBy looking pieces messages → IsOutputBy looking pieces output → (rest : List Reply) × (written output ≡ messages ++ rest)
+front_of_output_by looking pieces messages output (inl a) is =
     let same = only_completion pieces [] [] is.given a.given output.end a.end is.complete a.complete in
-    let all : looked_over ahead is.given ≡ looked_from (begin empty) (a.first ++ a.later) = ap (looked_over ahead) same.0 ∙ ap (looked_from (begin empty)) a.split in
+    let all : looked_over looking is.given ≡ looked_from (begin empty) (a.first ++ a.later) = ap (looked_over looking) same.0 ∙ ap (looked_from (begin empty)) a.split in
     front_written messages output
     (front_of_replies a.first a.later messages output.messages (looked_from (begin empty) a.first).end refl a.answered (subst (λ (run : Run Question). AreReplies run.replies output.messages) all is.answered))
-front_of_output_by ahead pieces messages output (inr whole) is =
-    ([], ap written (one_output_by ahead pieces output whole.0 is whole.1) ∙ sym whole.2 ∙ sym (append-nil messages))
+front_of_output_by looking pieces messages output (inr whole) is =
+    ([], ap written (one_output_by looking pieces output whole.0 is whole.1) ∙ sym whole.2 ∙ sym (append-nil messages))

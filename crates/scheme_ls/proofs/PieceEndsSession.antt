@@ -1,6 +1,5 @@
 -- How a session ends in a piece.
-use Rattle.std.proofs.Common.{◌≡◌, ℕ, ◌+◌, ◌-◌, ◌<◌, ◌≤◌, List, [], ◌∷◌, ◌++◌, length, min, take, refl, sym, ap, ◌∙◌, arith, append_assoc, append-nil, Some, None, Option, Bool, subst, inl, inr, ◌⊎◌, length-append}
-use Rattle.std.proofs.lemmas.List.{length-take}
+use Rattle.std.proofs.Common.{◌≡◌, ℕ, ◌+◌, ◌-◌, ◌<◌, ◌≤◌, List, [], ◌∷◌, ◌++◌, length, min, take, refl, sym, ap, ◌∙◌, arith, append_assoc, append-nil, Some, None, Option, subst, inl, inr, ◌⊎◌, length-append}
 use Rattle.std.proofs.KnownBytes.{Appends-trans}
 use Rattle.std.specs.Io.KnownBytes.{Appends}
 use Rattle.std.specs.FinMap.{empty}
@@ -12,15 +11,15 @@ use Rattle.lsp_framing.proofs.OneReading.{bodies_grow}
 use Rattle.lsp_framing.proofs.Written.{written_again}
 use Rattle.lsp_messages.specs.declared.reply.Reply.{Reply}
 use Rattle.ls_outside.specs.Calls.{CallsTake}
-use Rattle.ls_outside.specs.Sources.{ArePieces, GotTakes, bytes_of}
-use Rattle.ls_outside.specs.declared.source.Got.TheVariants as got
+use Rattle.ls_outside.specs.Sources.{bytes_of}
 use Rattle.ls_outside.proofs.CallLaws.{calls_then, last_none_all}
 use Rattle.lookahead.specs.Looked.{Looked, looked}
+use Rattle.lookahead.specs.declared.looking.Looking.{Looking}
 use Rattle.scheme_model.specs.Session.{Run, begin}
 use Rattle.session_core.specs.Asked.{Question}
 use Rattle.session_core.specs.Counted.{AreCounted}
 use Rattle.session_core.specs.ToWire.{AreReplies}
-use Rattle.scheme_ls.specs.AheadOutcome.{AnswersBeforeLast, CountsAllBy, CountsBeginBy, ReadsPieces, ServesBy, TakesPieces}
+use Rattle.scheme_ls.specs.AheadOutcome.{AnswersBeforeLast, CountsAllBy, CountsBeginBy, ServesBy}
 use Rattle.scheme_ls.specs.AheadOutput.{AnswerFirstBy, IsOutputBy, looked_from, looked_over}
 use Rattle.scheme_ls.specs.BodiesOutcome.{AnswersBodies}
 use Rattle.scheme_ls.specs.PieceOutcome.{AnswersInPiece, EndsInPiece, HasFault, Serving, TakesPiece}
@@ -35,24 +34,10 @@ use Rattle.scheme_ls.specs.declared.answering.Exit.{Exit}
 use Rattle.scheme_ls.specs.declared.server.FaultAt.{FaultAt}
 use Rattle.scheme_ls.specs.declared.serve.SessionEnd.TheVariants.{Exited, FrameFault, NoMemory, WriteFailed}
 use Rattle.scheme_ls.proofs.AnswerLaws.{answers_then, are_first, ends_after}
-use Rattle.scheme_ls.proofs.Pieces.{complete_more, joined_more, pieces_whole, reads_no_piece, reads_piece, whole_none}
-use Rattle.scheme_ls.proofs.SessionSoFar.{Going, frames_so_far, going_frames, is_output_so_far, joined_quiet, joined_run, output_so_far, takes_more, without_farewell}
+use Rattle.scheme_ls.proofs.Pieces.{complete_more, joined_more, pieces_whole, reads_no_piece, whole_none}
+use Rattle.scheme_ls.proofs.SessionSoFar.{Going, Read, frames_so_far, going_frames, is_output_so_far, joined_quiet, joined_run, output_so_far, without_farewell}
 use Rattle.scheme_ls.proofs.Sessions.{frames_more}
 use Rattle.scheme_ls.proofs.Writes.{front_after, part_after, prints_nothing, prints_then, whole_part}
-
--- a piece that is read behind those so far, before what it completes is answered
-pub record Read {ahead : Bool} (old mid new : Streams) (server : Serving) (taken most : ℕ) (piece : List ℕ) (w : Going ahead old mid server taken most) : Type 0 where
-  pub takes : TakesPieces old.source.left new.source.left (w.pieces ++ piece ∷ [])
-  pub few : taken + length piece ≤ 1099511627776
-  pub on : ReadsPieces old.source new.source (w.pieces ++ piece ∷ [])
-
-pub read_piece : {ahead : Bool} (old mid new : Streams) (server : Serving) (taken n room : ℕ) (buffer : List ℕ) (w : Going ahead old mid server taken 1099511627776) → taken < 1099511627776 → ArePieces mid.source.left → 1 ≤ n → n ≤ length buffer → length buffer ≡ room →
-    room ≡ min 65536 (1099511627776 - taken) → GotTakes mid.source.left new.source.left (got.Some n) buffer → new.source.faults ≡ mid.source.faults → new.source.reads ≡ mid.source.reads ++ take n buffer ∷ [] → Read old mid new server taken 1099511627776 (take n buffer) w
-read_piece old mid new server taken n room buffer w below sized some within size space takes counts notes = record {
-  takes = takes_more old mid new server taken n room buffer w below sized size (omega arith) space takes;
-  few = let l = length-take n buffer in omega arith;
-  on = reads_piece old.source mid.source new.source w.pieces buffer n w.on counts notes some within;
-}
 
 -- how the bytes end, where that is told
 pub some_end : (e : Option End) (bytes : List ℕ) (bodies : List (List ℕ)) → IsSomeAnd e (IsFrames bytes bodies) → (end : End) × IsFrames bytes bodies end
@@ -60,24 +45,24 @@ some_end None bytes bodies h = absurd h
 some_end (Some end) bytes bodies h = (end, h)
 
 -- the frames of all bytes, however they end
-pub frames_then : {ahead : Bool} (old mid : Streams) (server next : Serving) (taken most : ℕ) (piece : List ℕ) (given : List (List ℕ)) (w : Going ahead old mid server taken most) → Feeds server.frames piece given next.frames →
+pub frames_then : {looking : Looking} (old mid : Streams) (server next : Serving) (taken most : ℕ) (piece : List ℕ) (given : List (List ℕ)) (w : Going looking old mid server taken most) → Feeds server.frames piece given next.frames →
     (end : End) × IsFrames (w.bytes ++ piece) (w.bodies ++ given) end
 frames_then old mid server next taken most piece given w feeds = some_end next.frames.end _ _ (feeds w.bytes w.bodies w.after).frames
 
 -- ---- what the pieces come to, with the last one
 
-few_bytes : {ahead : Bool} (old mid new : Streams) (server : Serving) (taken most : ℕ) (piece : List ℕ) (w : Going ahead old mid server taken most) (r : Read old mid new server taken most piece w) → length (bytes_of (w.pieces ++ piece ∷ [])) ≤ 1099511627776
+few_bytes : {looking : Looking} (old mid new : Streams) (server : Serving) (taken most : ℕ) (piece : List ℕ) (w : Going looking old mid server taken most) (r : Read old mid new server taken most piece w) → length (bytes_of (w.pieces ++ piece ∷ [])) ≤ 1099511627776
 few_bytes old mid new server taken most piece w r =
     let size : length (bytes_of (w.pieces ++ piece ∷ [])) ≡ length (w.bytes ++ piece) = ap length (joined_more piece [] w.joined).bytes_are in
     let m = length-append w.bytes piece in
     omega (arith, w.count, r.few)
 
 -- the bodies of the last piece with those before it
-run_then : {ahead : Bool} (old mid : Streams) (server : Serving) (taken most : ℕ) (piece : List ℕ) (given : List (List ℕ)) (w : Going ahead old mid server taken most) → looked_from (begin empty) (w.seen ++ looked ahead given) ≡ looked_over ahead (w.given ++ given ∷ [])
+run_then : {looking : Looking} (old mid : Streams) (server : Serving) (taken most : ℕ) (piece : List ℕ) (given : List (List ℕ)) (w : Going looking old mid server taken most) → looked_from (begin empty) (w.seen ++ looked looking given) ≡ looked_over looking (w.given ++ given ∷ [])
 run_then old mid server taken most piece given w = joined_run (joined_more piece given w.joined)
 
-pub output_then : {ahead : Bool} (old mid : Streams) (server : Serving) (taken most : ℕ) (piece : List ℕ) (given : List (List ℕ)) (w : Going ahead old mid server taken most) (output : Output) → IsFrames (w.bytes ++ piece) (w.bodies ++ given) output.end →
-    AreReplies (looked_from (begin empty) (w.seen ++ looked ahead given)).replies output.messages → (looked_from (begin empty) (w.seen ++ looked ahead given)).end ≡ output.exit → IsOutputBy ahead (w.pieces ++ piece ∷ []) output
+pub output_then : {looking : Looking} (old mid : Streams) (server : Serving) (taken most : ℕ) (piece : List ℕ) (given : List (List ℕ)) (w : Going looking old mid server taken most) (output : Output) → IsFrames (w.bytes ++ piece) (w.bodies ++ given) output.end →
+    AreReplies (looked_from (begin empty) (w.seen ++ looked looking given)).replies output.messages → (looked_from (begin empty) (w.seen ++ looked looking given)).end ≡ output.exit → IsOutputBy looking (w.pieces ++ piece ∷ []) output
 output_then old mid server taken most piece given w output frames answered ends =
     let run = run_then old mid server taken most piece given w in
     record {
@@ -87,8 +72,8 @@ output_then old mid server taken most piece given w output frames answered ends 
       exits = sym ends ∙ ap (λ (r : Run Question). r.end) run;
     }
 
-abbrev pub first_in : {ahead : Bool} (old mid : Streams) (server : Serving) (taken most : ℕ) (piece : List ℕ) (given : List (List ℕ)) (w : Going ahead old mid server taken most) (end : End) (first later : List Looked) (messages : List Reply) →
-    IsFrames (w.bytes ++ piece) (w.bodies ++ given) end → looked ahead given ≡ first ++ later → AreReplies (looked_from (begin empty) (w.seen ++ first)).replies messages → AnswerFirstBy ahead (w.pieces ++ piece ∷ []) messages
+abbrev pub first_in : {looking : Looking} (old mid : Streams) (server : Serving) (taken most : ℕ) (piece : List ℕ) (given : List (List ℕ)) (w : Going looking old mid server taken most) (end : End) (first later : List Looked) (messages : List Reply) →
+    IsFrames (w.bytes ++ piece) (w.bodies ++ given) end → looked looking given ≡ first ++ later → AreReplies (looked_from (begin empty) (w.seen ++ first)).replies messages → AnswerFirstBy looking (w.pieces ++ piece ∷ []) messages
 first_in old mid server taken most piece given w end first later messages frames split answered = record {
   given = w.given ++ given ∷ [];
   end = end;
@@ -99,8 +84,8 @@ first_in old mid server taken most piece given w end first later messages frames
   answered = answered;
 }
 
-pub counts_all_then : {ahead : Bool} (old mid : Streams) (server : Serving) (taken most : ℕ) (piece : List ℕ) (given : List (List ℕ)) (w : Going ahead old mid server taken most) (end : End) (before now : ℕ) → IsFrames (w.bytes ++ piece) (w.bodies ++ given) end →
-    AreCounted (looked_from (begin empty) (w.seen ++ looked ahead given)).replies before now → CountsAllBy ahead (w.pieces ++ piece ∷ []) before now
+pub counts_all_then : {looking : Looking} (old mid : Streams) (server : Serving) (taken most : ℕ) (piece : List ℕ) (given : List (List ℕ)) (w : Going looking old mid server taken most) (end : End) (before now : ℕ) → IsFrames (w.bytes ++ piece) (w.bodies ++ given) end →
+    AreCounted (looked_from (begin empty) (w.seen ++ looked looking given)).replies before now → CountsAllBy looking (w.pieces ++ piece ∷ []) before now
 counts_all_then old mid server taken most piece given w end before now frames counted = record {
   given = w.given ++ given ∷ [];
   end = end;
@@ -108,12 +93,12 @@ counts_all_then old mid server taken most piece given w end before now frames co
   counted = subst (λ (r : Run Question). AreCounted r.replies before now) (run_then old mid server taken most piece given w) counted;
 }
 
-quiet_then : {ahead : Bool} {before now : ℕ} (old mid : Streams) (server : Serving) (taken most : ℕ) (piece : List ℕ) (w : Going ahead old mid server taken most) → (AreQuiet (w.bytes ++ piece) → now ≡ before) → AreQuiet (bytes_of (w.pieces ++ piece ∷ [])) → now ≡ before
+quiet_then : {looking : Looking} {before now : ℕ} (old mid : Streams) (server : Serving) (taken most : ℕ) (piece : List ℕ) (w : Going looking old mid server taken most) → (AreQuiet (w.bytes ++ piece) → now ≡ before) → AreQuiet (bytes_of (w.pieces ++ piece ∷ [])) → now ≡ before
 quiet_then old mid server taken most piece w uncounted = joined_quiet (joined_more piece [] w.joined) uncounted
 
 -- what was printed before the piece, and after it
-before_written : {ahead : Bool} (old mid : Streams) (server : Serving) (taken most : ℕ) (piece : List ℕ) (w : Going ahead old mid server taken most) (more : List ℕ) (sink : SinkSeen) → Appends mid.sink.taken sink.taken more → CallsTake mid.sink.writes sink.writes more →
-    AnswersBeforeLast ahead old.sink sink (w.pieces ++ piece ∷ [])
+before_written : {looking : Looking} (old mid : Streams) (server : Serving) (taken most : ℕ) (piece : List ℕ) (w : Going looking old mid server taken most) (more : List ℕ) (sink : SinkSeen) → Appends mid.sink.taken sink.taken more → CallsTake mid.sink.writes sink.writes more →
+    AnswersBeforeLast looking old.sink sink (w.pieces ++ piece ∷ [])
 before_written old mid server taken most piece w more sink printed writes = record {
   before = w.pieces;
   last = piece;
@@ -128,11 +113,11 @@ before_written old mid server taken most piece w more sink printed writes = reco
 }
 
 -- `exit` stands in the piece
-pub piece_exits : {ahead : Bool} {before now : ℕ} (old mid new : Streams) (server next : Serving) (taken most : ℕ) (exit : Exit) (piece : List ℕ) (w : Going ahead old mid server taken most) → Read old mid new server taken most piece w →
-    EndsInPiece ahead server next piece (said_exit exit) mid.sink new.sink → CountsAllBy ahead (w.pieces ++ piece ∷ []) before now → (AreQuiet (w.bytes ++ piece) → now ≡ before) → ServesBy ahead old new before now (Exited exit)
-piece_exits {ahead = ahead} old mid new server next taken most exit piece w r e counted uncounted =
+pub piece_exits : {looking : Looking} {before now : ℕ} (old mid new : Streams) (server next : Serving) (taken most : ℕ) (exit : Exit) (piece : List ℕ) (w : Going looking old mid server taken most) → Read old mid new server taken most piece w →
+    EndsInPiece looking server next piece (said_exit exit) mid.sink new.sink → CountsAllBy looking (w.pieces ++ piece ∷ []) before now → (AreQuiet (w.bytes ++ piece) → now ≡ before) → ServesBy looking old new before now (Exited exit)
+piece_exits {looking = looking} old mid new server next taken most exit piece w r e counted uncounted =
     let all = frames_then old mid server next taken most piece e.given w e.feeds in
-    let ended = ends_after (begin empty) server.state w.seen (looked ahead e.given) (said_exit exit) old.sink mid.sink new.sink w.answers e.ends in
+    let ended = ends_after (begin empty) server.state w.seen (looked looking e.given) (said_exit exit) old.sink mid.sink new.sink w.answers e.ends in
     record {
       ends = record {
         pieces = w.pieces ++ piece ∷ [];
@@ -157,18 +142,18 @@ piece_exits {ahead = ahead} old mid new server next taken most exit piece w r e 
 -- ---- a fault stands in the piece
 
 -- the answers to all bodies before the fault
-abbrev all_answers : {ahead : Bool} (old mid seen : Streams) (server next : Serving) (taken most : ℕ) (piece : List ℕ) (at : FaultAt) (w : Going ahead old mid server taken most) (e : TakesPiece ahead server next piece (HasFault at) mid.sink seen.sink) →
-    AnswersBodies (begin empty) (w.seen ++ looked ahead e.given) next.state old.sink seen.sink
-all_answers {ahead = ahead} old mid seen server next taken most piece at w e =
-    answers_then (begin empty) server.state next.state w.seen (looked ahead e.given) old.sink mid.sink seen.sink w.answers e.answers
+abbrev all_answers : {looking : Looking} (old mid seen : Streams) (server next : Serving) (taken most : ℕ) (piece : List ℕ) (at : FaultAt) (w : Going looking old mid server taken most) (e : TakesPiece looking server next piece (HasFault at) mid.sink seen.sink) →
+    AnswersBodies (begin empty) (w.seen ++ looked looking e.given) next.state old.sink seen.sink
+all_answers {looking = looking} old mid seen server next taken most piece at w e =
+    answers_then (begin empty) server.state next.state w.seen (looked looking e.given) old.sink mid.sink seen.sink w.answers e.answers
 
 -- the output of the bytes up to the fault
-abbrev faulty_output : {ahead : Bool} (old mid seen : Streams) (server next : Serving) (taken most : ℕ) (piece : List ℕ) (at : FaultAt) (w : Going ahead old mid server taken most) (e : TakesPiece ahead server next piece (HasFault at) mid.sink seen.sink) → Output
+abbrev faulty_output : {looking : Looking} (old mid seen : Streams) (server next : Serving) (taken most : ℕ) (piece : List ℕ) (at : FaultAt) (w : Going looking old mid server taken most) (e : TakesPiece looking server next piece (HasFault at) mid.sink seen.sink) → Output
 faulty_output old mid seen server next taken most piece at w e =
     record { messages = (all_answers old mid seen server next taken most piece at w e).session.messages; exit = None; end = fault e.end.0 at.offset }
 
-is_faulty_output : {ahead : Bool} (old mid seen : Streams) (server next : Serving) (taken most : ℕ) (piece : List ℕ) (at : FaultAt) (w : Going ahead old mid server taken most) (e : TakesPiece ahead server next piece (HasFault at) mid.sink seen.sink) →
-    IsOutputBy ahead (w.pieces ++ piece ∷ []) (faulty_output old mid seen server next taken most piece at w e)
+is_faulty_output : {looking : Looking} (old mid seen : Streams) (server next : Serving) (taken most : ℕ) (piece : List ℕ) (at : FaultAt) (w : Going looking old mid server taken most) (e : TakesPiece looking server next piece (HasFault at) mid.sink seen.sink) →
+    IsOutputBy looking (w.pieces ++ piece ∷ []) (faulty_output old mid seen server next taken most piece at w e)
 is_faulty_output old mid seen server next taken most piece at w e =
     let answers = all_answers old mid seen server next taken most piece at w e in
     output_then old mid server taken most piece e.given w (faulty_output old mid seen server next taken most piece at w e)
@@ -182,9 +167,9 @@ farewell_frames messages number offset kind is =
     ∙ sym (frames_more messages (fault_log (fault_number kind) offset ∷ []))
 
 -- the farewell is written
-pub farewell_written : {ahead : Bool} {before now : ℕ} (old mid seen : Streams) (sink : SinkSeen) (server next : Serving) (taken most : ℕ) (piece : List ℕ) (at : FaultAt) (w : Going ahead old mid server taken most) → Read old mid seen server taken most piece w →
-    TakesPiece ahead server next piece (HasFault at) mid.sink seen.sink → Prints seen.sink sink (frame_of_reply (fault_log at.number at.offset)) → CountsAllBy ahead (w.pieces ++ piece ∷ []) before now → (AreQuiet (w.bytes ++ piece) → now ≡ before) →
-    ServesBy ahead old (record { source = seen.source; sink = sink }) before now FrameFault
+pub farewell_written : {looking : Looking} {before now : ℕ} (old mid seen : Streams) (sink : SinkSeen) (server next : Serving) (taken most : ℕ) (piece : List ℕ) (at : FaultAt) (w : Going looking old mid server taken most) → Read old mid seen server taken most piece w →
+    TakesPiece looking server next piece (HasFault at) mid.sink seen.sink → Prints seen.sink sink (frame_of_reply (fault_log at.number at.offset)) → CountsAllBy looking (w.pieces ++ piece ∷ []) before now → (AreQuiet (w.bytes ++ piece) → now ≡ before) →
+    ServesBy looking old (record { source = seen.source; sink = sink }) before now FrameFault
 farewell_written old mid seen sink server next taken most piece at w r e p counted uncounted =
     let answers = all_answers old mid seen server next taken most piece at w e in
     record {
@@ -215,9 +200,9 @@ farewell_written old mid seen sink server next taken most piece at w r e p count
     }
 
 -- a write of the farewell fails
-pub farewell_cut : {ahead : Bool} {before now : ℕ} (old mid seen : Streams) (sink : SinkSeen) (server next : Serving) (taken most : ℕ) (piece : List ℕ) (at : FaultAt) (w : Going ahead old mid server taken most) → Read old mid seen server taken most piece w →
-    TakesPiece ahead server next piece (HasFault at) mid.sink seen.sink → PrintsFront seen.sink sink (frame_of_reply (fault_log at.number at.offset)) → CountsAllBy ahead (w.pieces ++ piece ∷ []) before now → (AreQuiet (w.bytes ++ piece) → now ≡ before) →
-    ServesBy ahead old (record { source = seen.source; sink = sink }) before now WriteFailed
+pub farewell_cut : {looking : Looking} {before now : ℕ} (old mid seen : Streams) (sink : SinkSeen) (server next : Serving) (taken most : ℕ) (piece : List ℕ) (at : FaultAt) (w : Going looking old mid server taken most) → Read old mid seen server taken most piece w →
+    TakesPiece looking server next piece (HasFault at) mid.sink seen.sink → PrintsFront seen.sink sink (frame_of_reply (fault_log at.number at.offset)) → CountsAllBy looking (w.pieces ++ piece ∷ []) before now → (AreQuiet (w.bytes ++ piece) → now ≡ before) →
+    ServesBy looking old (record { source = seen.source; sink = sink }) before now WriteFailed
 farewell_cut old mid seen sink server next taken most piece at w r e p counted uncounted =
     let answers = all_answers old mid seen server next taken most piece at w e in
     let output = faulty_output old mid seen server next taken most piece at w e in
@@ -240,9 +225,9 @@ farewell_cut old mid seen sink server next taken most piece at w r e p counted u
     }
 
 -- memory runs out in the farewell
-pub farewell_lost : {ahead : Bool} {before now : ℕ} (old mid seen : Streams) (sink : SinkSeen) (server next : Serving) (taken most : ℕ) (piece : List ℕ) (at : FaultAt) (w : Going ahead old mid server taken most) → Read old mid seen server taken most piece w →
-    TakesPiece ahead server next piece (HasFault at) mid.sink seen.sink → PrintsPart seen.sink sink (frame_of_reply (fault_log at.number at.offset)) → (AreQuiet (w.bytes ++ piece) → now ≡ before) →
-    ServesBy ahead old (record { source = seen.source; sink = sink }) before now NoMemory
+pub farewell_lost : {looking : Looking} {before now : ℕ} (old mid seen : Streams) (sink : SinkSeen) (server next : Serving) (taken most : ℕ) (piece : List ℕ) (at : FaultAt) (w : Going looking old mid server taken most) → Read old mid seen server taken most piece w →
+    TakesPiece looking server next piece (HasFault at) mid.sink seen.sink → PrintsPart seen.sink sink (frame_of_reply (fault_log at.number at.offset)) → (AreQuiet (w.bytes ++ piece) → now ≡ before) →
+    ServesBy looking old (record { source = seen.source; sink = sink }) before now NoMemory
 farewell_lost old mid seen sink server next taken most piece at w r e p uncounted =
     let answers = all_answers old mid seen server next taken most piece at w e in
     let output = faulty_output old mid seen server next taken most piece at w e in
@@ -268,9 +253,9 @@ farewell_lost old mid seen sink server next taken most piece at w r e p uncounte
 -- ---- a part of the piece is answered
 
 -- memory runs out while a body of the piece is answered
-piece_memory : {ahead : Bool} {before now : ℕ} (old mid new : Streams) (server next : Serving) (taken most : ℕ) (piece : List ℕ) (w : Going ahead old mid server taken most) → Read old mid new server taken most piece w →
-    AnswersInPiece ahead server next piece (PrintsPart mid.sink new.sink) → (AreQuiet (w.bytes ++ piece) → now ≡ before) → ServesBy ahead old new before now NoMemory
-piece_memory {ahead = ahead} old mid new server next taken most piece w r e uncounted =
+piece_memory : {looking : Looking} {before now : ℕ} (old mid new : Streams) (server next : Serving) (taken most : ℕ) (piece : List ℕ) (w : Going looking old mid server taken most) → Read old mid new server taken most piece w →
+    AnswersInPiece looking server next piece (PrintsPart mid.sink new.sink) → (AreQuiet (w.bytes ++ piece) → now ≡ before) → ServesBy looking old new before now NoMemory
+piece_memory {looking = looking} old mid new server next taken most piece w r e uncounted =
     let all = frames_then old mid server next taken most piece e.given w e.feeds in
     let first = w.answers.session.messages in
     let some = e.answers in
@@ -294,9 +279,9 @@ piece_memory {ahead = ahead} old mid new server next taken most piece w r e unco
     }
 
 -- memory runs out before a body of the piece is answered
-no_memory : {ahead : Bool} {before now : ℕ} (old mid new : Streams) (server : Serving) (taken most : ℕ) (piece : List ℕ) (w : Going ahead old mid server taken most) → Read old mid new server taken most piece w → new.sink ≡ mid.sink →
-    (AreQuiet (w.bytes ++ piece) → now ≡ before) → ServesBy ahead old new before now NoMemory
-no_memory {ahead = ahead} old mid new server taken most piece w r same uncounted =
+no_memory : {looking : Looking} {before now : ℕ} (old mid new : Streams) (server : Serving) (taken most : ℕ) (piece : List ℕ) (w : Going looking old mid server taken most) → Read old mid new server taken most piece w → new.sink ≡ mid.sink →
+    (AreQuiet (w.bytes ++ piece) → now ≡ before) → ServesBy looking old new before now NoMemory
+no_memory {looking = looking} old mid new server taken most piece w r same uncounted =
     let all = every_reading (w.bytes ++ piece) in
     let more = bodies_grow w.bytes piece w.bodies all.0 (rest w.kept) all.1 (going_frames old mid server taken most w) all.2 in
     let messages = w.answers.session.messages in
@@ -309,7 +294,7 @@ no_memory {ahead = ahead} old mid new server taken most piece w r same uncounted
           few_bytes old mid new server taken most piece w r,
           record {
             messages = messages;
-            begin = inl (first_in old mid server taken most piece more.0 w all.1 [] (looked ahead more.0) messages (subst (λ (bodies : List (List ℕ)). IsFrames (w.bytes ++ piece) bodies all.1) more.1 all.2) refl
+            begin = inl (first_in old mid server taken most piece more.0 w all.1 [] (looked looking more.0) messages (subst (λ (bodies : List (List ℕ)). IsFrames (w.bytes ++ piece) bodies all.1) more.1 all.2) refl
                 (subst (λ (bodies : List Looked). AreReplies (looked_from (begin empty) bodies).replies messages) (sym (append-nil w.seen)) w.answers.session.answered));
             prints = subst (λ (sink : SinkSeen). PrintsPart old.sink sink (frames_of messages)) (sym same) (whole_part old.sink mid.sink (frames_of messages) w.answers.prints);
           },
@@ -319,14 +304,14 @@ no_memory {ahead = ahead} old mid new server taken most piece w r same uncounted
       uncounted = quiet_then old mid server taken most piece w uncounted;
     }
 
-pub piece_lost : {ahead : Bool} {before now : ℕ} (old mid new : Streams) (server next : Serving) (taken most : ℕ) (piece : List ℕ) (w : Going ahead old mid server taken most) → Read old mid new server taken most piece w →
-    AnswersInPiece ahead server next piece (PrintsPart mid.sink new.sink) ⊎ (new.sink ≡ mid.sink) → (AreQuiet (w.bytes ++ piece) → now ≡ before) → ServesBy ahead old new before now NoMemory
+pub piece_lost : {looking : Looking} {before now : ℕ} (old mid new : Streams) (server next : Serving) (taken most : ℕ) (piece : List ℕ) (w : Going looking old mid server taken most) → Read old mid new server taken most piece w →
+    AnswersInPiece looking server next piece (PrintsPart mid.sink new.sink) ⊎ (new.sink ≡ mid.sink) → (AreQuiet (w.bytes ++ piece) → now ≡ before) → ServesBy looking old new before now NoMemory
 piece_lost old mid new server next taken most piece w r (inl some) uncounted = piece_memory old mid new server next taken most piece w r some uncounted
 piece_lost old mid new server next taken most piece w r (inr same) uncounted = no_memory old mid new server taken most piece w r same uncounted
 
 -- a write fails while a body of the piece is answered
-pub piece_cut : {ahead : Bool} {before now : ℕ} (old mid new : Streams) (server next : Serving) (taken most : ℕ) (piece : List ℕ) (w : Going ahead old mid server taken most) → Read old mid new server taken most piece w →
-    AnswersInPiece ahead server next piece (PrintsFront mid.sink new.sink) → WritesFront (CountsBeginBy ahead (w.pieces ++ piece ∷ []) before now) old.sink new.sink → (AreQuiet (w.bytes ++ piece) → now ≡ before) → ServesBy ahead old new before now WriteFailed
+pub piece_cut : {looking : Looking} {before now : ℕ} (old mid new : Streams) (server next : Serving) (taken most : ℕ) (piece : List ℕ) (w : Going looking old mid server taken most) → Read old mid new server taken most piece w →
+    AnswersInPiece looking server next piece (PrintsFront mid.sink new.sink) → WritesFront (CountsBeginBy looking (w.pieces ++ piece ∷ []) before now) old.sink new.sink → (AreQuiet (w.bytes ++ piece) → now ≡ before) → ServesBy looking old new before now WriteFailed
 piece_cut old mid new server next taken most piece w r e counted uncounted =
     let all = frames_then old mid server next taken most piece e.given w e.feeds in
     let first = w.answers.session.messages in
@@ -351,8 +336,8 @@ piece_cut old mid new server next taken most piece w r e counted uncounted =
     }
 
 -- memory runs out before anything is read
-pub nothing_served : (ahead : Bool) (a : Streams) (now : ℕ) → ServesBy ahead a a now now NoMemory
-nothing_served ahead a now = record {
+pub nothing_served : (looking : Looking) (a : Streams) (now : ℕ) → ServesBy looking a a now now NoMemory
+nothing_served looking a now = record {
   ends = record {
     pieces = [];
     taken = pieces_whole a.source.left a.source.left [] (whole_none a.source.left);

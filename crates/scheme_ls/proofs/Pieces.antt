@@ -1,6 +1,5 @@
 -- Pieces that are read one after another, and the bodies that they complete.
 use Rattle.std.proofs.Common.{◌≡◌, ◌⊎◌, inl, inr, ℕ, ◌≤◌, List, [], ◌∷◌, ◌++◌, length, take, drop, Option, Some, None, refl, sym, ap, ◌∙◌, subst, append_assoc, append-nil, arith}
-use Rattle.std.specs.Prelude.{Bool}
 use Rattle.std.specs.List.{AllByRecursion}
 use Rattle.std.proofs.lemmas.List.{length-take, take-append-drop}
 use Rattle.std.proofs.lemmas.Grind.{flat_map-append}
@@ -11,6 +10,7 @@ use Rattle.ls_outside.specs.declared.source.Got.TheVariants as got
 use Rattle.ls_outside.proofs.CallLaws.{bytes_more}
 use Rattle.lookahead.specs.Completed.{Complete, Completes}
 use Rattle.lookahead.specs.Looked.{Looked, looked}
+use Rattle.lookahead.specs.declared.looking.Looking.{Looking}
 use Rattle.scheme_ls.specs.AheadOutcome.{FailsBehind, IsNonempty, IsOver, ReadsAllPieces, ReadsPieces, TakesPieces}
 use Rattle.scheme_ls.specs.AheadOutput.{looked_in}
 use Rattle.scheme_ls.specs.Reading.{SourceSeen}
@@ -24,25 +24,25 @@ all_bodies [] = []
 all_bodies (completed ∷ given) = completed ++ all_bodies given
 
 -- their bytes, those bodies, and each of them looked at with those of its piece
-pub record Joined (ahead : Bool) (pieces : List (List ℕ)) (given : List (List (List ℕ))) (bytes : List ℕ) (bodies : List (List ℕ)) (seen : List Looked) : Type 0 where
+pub record Joined (looking : Looking) (pieces : List (List ℕ)) (given : List (List (List ℕ))) (bytes : List ℕ) (bodies : List (List ℕ)) (seen : List Looked) : Type 0 where
   pub bytes_are : bytes_of pieces ≡ bytes
   pub bodies_are : all_bodies given ≡ bodies
-  pub seen_are : looked_in ahead given ≡ seen
+  pub seen_are : looked_in looking given ≡ seen
 
-pub joined_none : (ahead : Bool) → Joined ahead [] [] [] [] []
-joined_none ahead = record { bytes_are = refl; bodies_are = refl; seen_are = refl }
+pub joined_none : (looking : Looking) → Joined looking [] [] [] [] []
+joined_none looking = record { bytes_are = refl; bodies_are = refl; seen_are = refl }
 
 more_bodies : (given : List (List (List ℕ))) (completed : List (List ℕ)) → all_bodies (given ++ completed ∷ []) ≡ all_bodies given ++ completed
 more_bodies [] completed = append-nil completed
 more_bodies (first ∷ given) completed = ap (λ (rest : List (List ℕ)). first ++ rest) (more_bodies given completed) ∙ sym (append_assoc first (all_bodies given) completed)
 
 -- one piece more
-pub joined_more : {ahead : Bool} {pieces : List (List ℕ)} {given : List (List (List ℕ))} {bytes : List ℕ} {bodies : List (List ℕ)} {seen : List Looked} (piece : List ℕ) (completed : List (List ℕ)) → Joined ahead pieces given bytes bodies seen →
-    Joined ahead (pieces ++ piece ∷ []) (given ++ completed ∷ []) (bytes ++ piece) (bodies ++ completed) (seen ++ looked ahead completed)
-joined_more {ahead = ahead} {pieces = pieces} {given = given} piece completed w = record {
+pub joined_more : {looking : Looking} {pieces : List (List ℕ)} {given : List (List (List ℕ))} {bytes : List ℕ} {bodies : List (List ℕ)} {seen : List Looked} (piece : List ℕ) (completed : List (List ℕ)) → Joined looking pieces given bytes bodies seen →
+    Joined looking (pieces ++ piece ∷ []) (given ++ completed ∷ []) (bytes ++ piece) (bodies ++ completed) (seen ++ looked looking completed)
+joined_more {looking = looking} {pieces = pieces} {given = given} piece completed w = record {
   bytes_are = bytes_more pieces (piece ∷ []) ∙ λ j. w.bytes_are j ++ append-nil piece j;
   bodies_are = more_bodies given completed ∙ ap (λ (first : List (List ℕ)). first ++ completed) w.bodies_are;
-  seen_are = flat_map-append (looked ahead) given (completed ∷ []) ∙ λ j. w.seen_are j ++ append-nil (looked ahead completed) j;
+  seen_are = flat_map-append (looked looking) given (completed ∷ []) ∙ λ j. w.seen_are j ++ append-nil (looked looking completed) j;
 }
 
 completes_more : (pieces : List (List ℕ)) (given : List (List (List ℕ))) (bytes piece : List ℕ) (bodies completed : List (List ℕ)) (end after : End) → Completes bytes bodies pieces given end →
@@ -58,7 +58,7 @@ completes_more (p ∷ pieces) (g ∷ given) bytes piece bodies completed end aft
       (subst (λ (q : List ℕ × List (List ℕ)). IsFrames (q.0 ++ piece) (q.1 ++ completed) after) (λ j. (sym (append_assoc bytes p (bytes_of pieces)) j, sym (append_assoc bodies g (all_bodies given)) j)) frames),
 )
 
-pub complete_more : {ahead : Bool} {pieces : List (List ℕ)} {given : List (List (List ℕ))} {bytes : List ℕ} {bodies : List (List ℕ)} {seen : List Looked} (piece : List ℕ) (completed : List (List ℕ)) (end after : End) → Joined ahead pieces given bytes bodies seen →
+pub complete_more : {looking : Looking} {pieces : List (List ℕ)} {given : List (List (List ℕ))} {bytes : List ℕ} {bodies : List (List ℕ)} {seen : List Looked} (piece : List ℕ) (completed : List (List ℕ)) (end after : End) → Joined looking pieces given bytes bodies seen →
     Complete pieces given end → IsFrames (bytes ++ piece) (bodies ++ completed) after → Complete (pieces ++ piece ∷ []) (given ++ completed ∷ []) after
 complete_more {pieces = pieces} {given = given} piece completed end after w so_far frames =
     completes_more pieces given [] piece [] completed end after so_far

@@ -1,5 +1,5 @@
 -- No step is counted over quiet bytes.
-use Rattle.std.proofs.Common.{◌≡◌, ℕ, List, [], ◌∷◌, ◌++◌, Option, Bool, true, false, map, sym, ◌∙◌, subst}
+use Rattle.std.proofs.Common.{◌≡◌, ℕ, List, [], ◌∷◌, ◌++◌, Option, map, sym, ◌∙◌, subst}
 use Rattle.std.specs.Prelude.{zip}
 use Rattle.std.specs.List.{AllByRecursion}
 use Rattle.ls_base.specs.Frames.{IsFrames, rest}
@@ -8,6 +8,8 @@ use Rattle.lsp_framing.specs.Feeds.{Feeds}
 use Rattle.lsp_framing.proofs.OneReading.{bodies_grow, one_reading}
 use Rattle.lookahead.specs.Cancelled.{cancelled_in}
 use Rattle.lookahead.specs.Looked.{Looked, looked, uncancelled}
+use Rattle.lookahead.specs.declared.looking.Looking.{Looking}
+use Rattle.lookahead.specs.declared.looking.Looking.TheVariants.{Ahead, OneByOne}
 use Rattle.lsp_messages.specs.declared.message.Id.{Id}
 use Rattle.session_core.specs.Stepped.{IsQuiet}
 use Rattle.scheme_ls.specs.BodiesOutcome.{IsQuietBody}
@@ -48,30 +50,30 @@ quiet_alone : (bodies : List (List ℕ)) → AllByRecursion IsQuiet bodies → A
 quiet_alone [] quiet = tt
 quiet_alone (body ∷ bodies) quiet = (quiet.0, quiet_alone bodies quiet.1)
 
-quiet_looked : (ahead : Bool) (bodies : List (List ℕ)) → AllByRecursion IsQuiet bodies → AllByRecursion IsQuietBody (looked ahead bodies)
-quiet_looked true bodies quiet = quiet_beside bodies (cancelled_in bodies) quiet
-quiet_looked false bodies quiet = quiet_alone bodies quiet
+quiet_looked : (looking : Looking) (bodies : List (List ℕ)) → AllByRecursion IsQuiet bodies → AllByRecursion IsQuietBody (looked looking bodies)
+quiet_looked Ahead bodies quiet = quiet_beside bodies (cancelled_in bodies) quiet
+quiet_looked OneByOne bodies quiet = quiet_alone bodies quiet
 
-pub piece_uncounted : (ahead : Bool) (old new : Deframed) (piece : List ℕ) (bodies : List Looked) (given : List (List ℕ)) (before now : ℕ) → Feeds old piece given new → bodies ≡ looked ahead given → (AllByRecursion IsQuietBody bodies → now ≡ before) →
+pub piece_uncounted : (looking : Looking) (old new : Deframed) (piece : List ℕ) (bodies : List Looked) (given : List (List ℕ)) (before now : ℕ) → Feeds old piece given new → bodies ≡ looked looking given → (AllByRecursion IsQuietBody bodies → now ≡ before) →
     IsQuietPiece old piece → now ≡ before
-piece_uncounted ahead old new piece bodies given before now feeds same steps q =
-    subst (λ (all : List Looked). AllByRecursion IsQuietBody all → now ≡ before) same steps (quiet_looked ahead given (cut_quiet old new piece given feeds q))
+piece_uncounted looking old new piece bodies given before now feeds same steps q =
+    subst (λ (all : List Looked). AllByRecursion IsQuietBody all → now ≡ before) same steps (quiet_looked looking given (cut_quiet old new piece given feeds q))
 
 -- ---- all pieces so far
 
 -- quiet bytes have quiet bodies
-pub uncounted_yet : {ahead : Bool} {old mid : Streams} {server : Serving} {taken most before now : ℕ} (w : Going ahead old mid server taken most) → (AllByRecursion IsQuiet w.bodies → now ≡ before) → AreQuiet w.bytes → now ≡ before
+pub uncounted_yet : {looking : Looking} {old mid : Streams} {server : Serving} {taken most before now : ℕ} (w : Going looking old mid server taken most) → (AllByRecursion IsQuiet w.bodies → now ≡ before) → AreQuiet w.bytes → now ≡ before
 uncounted_yet {old = old} {mid = mid} {server = server} {taken = taken} {most = most} w steps q =
     let same = (one_reading w.bytes q.bodies w.bodies q.end (rest w.kept) q.frames (going_frames old mid server taken most w)).0 in
     steps (subst (λ (bodies : List (List ℕ)). AllByRecursion IsQuiet bodies) same q.quiet)
 
 -- so have quiet bytes with one piece more
-pub uncounted_then : {ahead : Bool} {old mid : Streams} {server : Serving} {taken most before between now : ℕ} {read piece : List ℕ} (w : Going ahead old mid server taken most) → (AllByRecursion IsQuiet w.bodies → between ≡ before) → read ≡ piece →
-    (IsQuietPiece server.frames read → now ≡ between) → AreQuiet (w.bytes ++ piece) → now ≡ before
-uncounted_then {old = old} {mid = mid} {server = server} {taken = taken} {most = most} {between = between} {now = now} {piece = piece} w so_far same steps q =
+pub uncounted_then : {looking : Looking} {old mid : Streams} {server : Serving} {taken most before between now : ℕ} {piece : List ℕ} (w : Going looking old mid server taken most) → (AllByRecursion IsQuiet w.bodies → between ≡ before) →
+    (IsQuietPiece server.frames piece → now ≡ between) → AreQuiet (w.bytes ++ piece) → now ≡ before
+uncounted_then {old = old} {mid = mid} {server = server} {taken = taken} {most = most} {piece = piece} w so_far steps q =
     let more = bodies_grow w.bytes piece w.bodies q.bodies (rest w.kept) q.end (going_frames old mid server taken most w) q.frames in
     let parts = all_parts w.bodies more.0 (subst (λ (bodies : List (List ℕ)). AllByRecursion IsQuiet bodies) more.1 q.quiet) in
-    subst (λ (p : List ℕ). IsQuietPiece server.frames p → now ≡ between) same steps (record {
+    steps (record {
       past = w.bytes;
       before = w.bodies;
       given = more.0;
@@ -83,11 +85,11 @@ uncounted_then {old = old} {mid = mid} {server = server} {taken = taken} {most =
     ∙ so_far parts.0
 
 -- the session goes on after the piece
-pub uncounted_more : {ahead : Bool} {old mid : Streams} {server next : Serving} {taken most before between now : ℕ} {read piece : List ℕ} {seen sink : SinkSeen} (w : Going ahead old mid server taken most) (answered : TakesPiece ahead server next piece IsOpen seen sink) →
-    (AllByRecursion IsQuiet w.bodies → between ≡ before) → read ≡ piece → (IsQuietPiece server.frames read → now ≡ between) → AllByRecursion IsQuiet (w.bodies ++ answered.given) → now ≡ before
-uncounted_more {server = server} {next = next} {between = between} {now = now} {piece = piece} w answered so_far same steps q =
+pub uncounted_more : {looking : Looking} {old mid : Streams} {server next : Serving} {taken most before between now : ℕ} {piece : List ℕ} {seen sink : SinkSeen} (w : Going looking old mid server taken most) (answered : TakesPiece looking server next piece IsOpen seen sink) →
+    (AllByRecursion IsQuiet w.bodies → between ≡ before) → (IsQuietPiece server.frames piece → now ≡ between) → AllByRecursion IsQuiet (w.bodies ++ answered.given) → now ≡ before
+uncounted_more {next = next} {piece = piece} w answered so_far steps q =
     let parts = all_parts w.bodies answered.given q in
-    subst (λ (p : List ℕ). IsQuietPiece server.frames p → now ≡ between) same steps (record {
+    steps (record {
       past = w.bytes;
       before = w.bodies;
       given = answered.given;

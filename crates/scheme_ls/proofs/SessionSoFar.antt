@@ -14,6 +14,7 @@ use Rattle.ls_outside.specs.declared.source.Got.TheVariants as got
 use Rattle.std.specs.FinMap.{empty}
 use Rattle.lookahead.specs.Completed.{Complete}
 use Rattle.lookahead.specs.Looked.{Looked, looked}
+use Rattle.lookahead.specs.declared.looking.Looking.{Looking}
 use Rattle.scheme_model.specs.Session.{Run, State, begin}
 use Rattle.session_core.specs.Asked.{Question}
 use Rattle.session_core.specs.Counted.{AreCounted}
@@ -31,16 +32,17 @@ use Rattle.scheme_ls.specs.SessionOutput.{Output}
 use Rattle.scheme_ls.specs.Streams.{Streams}
 use Rattle.scheme_ls.specs.declared.serve.SessionEnd.TheVariants.{InputEnded, ReadFailed, Endless}
 use Rattle.scheme_ls.proofs.AnswerLaws.{none_yet, answers_then}
-use Rattle.scheme_ls.proofs.Pieces.{Joined, TakesWhole, complete_more, joined_more, joined_none, pieces_more, pieces_over, pieces_stay, pieces_whole, reads_end, reads_failing, reads_no_piece, whole_none}
+use Rattle.scheme_ls.proofs.Pieces.{Joined, TakesWhole, complete_more, joined_more, joined_none, pieces_more, pieces_over, pieces_stay, pieces_whole, reads_end, reads_failing, reads_no_piece, reads_piece, whole_none}
+use Rattle.scheme_ls.proofs.Writes.{take_first}
 
 -- a session that read pieces, answered all the bodies that they complete and goes on
-pub record Going (ahead : Bool) (old now : Streams) (server : Serving) (taken most : ℕ) : Type 0 where
+pub record Going (looking : Looking) (old now : Streams) (server : Serving) (taken most : ℕ) : Type 0 where
   pub pieces : List (List ℕ)
   pub given : List (List (List ℕ))
   pub bytes : List ℕ
   pub bodies : List (List ℕ)
   pub seen : List Looked
-  pub joined : Joined ahead pieces given bytes bodies seen
+  pub joined : Joined looking pieces given bytes bodies seen
   pub takes : TakesPieces old.source.left now.source.left pieces
   pub whole : taken < most → TakesWhole old.source.left now.source.left pieces
   pub after : After bytes bodies server.frames
@@ -52,8 +54,8 @@ pub record Going (ahead : Bool) (old now : Streams) (server : Serving) (taken mo
   pub on : ReadsPieces old.source now.source pieces
 
 -- and the macro uses of the bodies were counted, none over quiet bodies
-pub record GoesUncounted (ahead : Bool) (old now : Streams) (server : Serving) (taken most before steps : ℕ) : Type 0 where
-  pub so_far : Going ahead old now server taken most
+pub record GoesUncounted (looking : Looking) (old now : Streams) (server : Serving) (taken most before steps : ℕ) : Type 0 where
+  pub so_far : Going looking old now server taken most
   pub counted : AreCounted (looked_from (begin empty) so_far.seen).replies before steps
   pub uncounted : AllByRecursion IsQuiet so_far.bodies → steps ≡ before
 
@@ -62,18 +64,18 @@ pub record GoesUncounted (ahead : Bool) (old now : Streams) (server : Serving) (
 pub frames_so_far : (bytes : List ℕ) (bodies : List (List ℕ)) (d : Deframed) (end : End) → After bytes bodies d → d.end ≡ Some end → IsFrames bytes bodies end
 frames_so_far bytes bodies d end after is = subst (λ (e : Option End). IsSomeAnd e (IsFrames bytes bodies)) is after.frames
 
-pub going_frames : {ahead : Bool} (old now : Streams) (server : Serving) (taken most : ℕ) (w : Going ahead old now server taken most) → IsFrames w.bytes w.bodies (rest w.kept)
+pub going_frames : {looking : Looking} (old now : Streams) (server : Serving) (taken most : ℕ) (w : Going looking old now server taken most) → IsFrames w.bytes w.bodies (rest w.kept)
 going_frames old now server taken most w = frames_so_far w.bytes w.bodies server.frames (rest w.kept) w.after w.open_end
 
 -- nothing was taken
-pub going_first : (ahead : Bool) (a : Streams) (server : Serving) (most : ℕ) (kept : List ℕ) → After [] [] server.frames → server.frames.end ≡ Some (rest kept) → server.state ≡ begin empty → Going ahead a a server 0 most
-going_first ahead a server most kept after end state = record {
+pub going_first : (looking : Looking) (a : Streams) (server : Serving) (most : ℕ) (kept : List ℕ) → After [] [] server.frames → server.frames.end ≡ Some (rest kept) → server.state ≡ begin empty → Going looking a a server 0 most
+going_first looking a server most kept after end state = record {
   pieces = [];
   given = [];
   bytes = [];
   bodies = [];
   seen = [];
-  joined = joined_none ahead;
+  joined = joined_none looking;
   takes = pieces_whole a.source.left a.source.left [] (whole_none a.source.left);
   whole = λ _. whole_none a.source.left;
   after = after;
@@ -86,20 +88,20 @@ going_first ahead a server most kept after end state = record {
 }
 
 -- and nothing counted
-pub goes_first : (ahead : Bool) (a : Streams) (server : Serving) (most : ℕ) (kept : List ℕ) (n : ℕ) → After [] [] server.frames → server.frames.end ≡ Some (rest kept) → server.state ≡ begin empty → GoesUncounted ahead a a server 0 most n n
+pub goes_first : (looking : Looking) (a : Streams) (server : Serving) (most : ℕ) (kept : List ℕ) (n : ℕ) → After [] [] server.frames → server.frames.end ≡ Some (rest kept) → server.state ≡ begin empty → GoesUncounted looking a a server 0 most n n
 unfolding going_first
-goes_first ahead a server most kept n after end state = record { so_far = going_first ahead a server most kept after end state; counted = refl; uncounted = λ q. refl }
+goes_first looking a server most kept n after end state = record { so_far = going_first looking a server most kept after end state; counted = refl; uncounted = λ q. refl }
 
 -- ---- the output so far
 
 -- what bodies lead to, also as those that pieces complete
-pub joined_run : {ahead : Bool} {pieces : List (List ℕ)} {given : List (List (List ℕ))} {bytes : List ℕ} {bodies : List (List ℕ)} {seen : List Looked} → Joined ahead pieces given bytes bodies seen → looked_from (begin empty) seen ≡ looked_over ahead given
+pub joined_run : {looking : Looking} {pieces : List (List ℕ)} {given : List (List (List ℕ))} {bytes : List ℕ} {bodies : List (List ℕ)} {seen : List Looked} → Joined looking pieces given bytes bodies seen → looked_from (begin empty) seen ≡ looked_over looking given
 joined_run w = ap (looked_from (begin empty)) (sym w.seen_are)
 
-abbrev pub output_so_far : {ahead : Bool} (old now : Streams) (server : Serving) (taken most : ℕ) (w : Going ahead old now server taken most) → Output
+abbrev pub output_so_far : {looking : Looking} (old now : Streams) (server : Serving) (taken most : ℕ) (w : Going looking old now server taken most) → Output
 output_so_far old now server taken most w = record { messages = w.answers.session.messages; exit = None; end = rest w.kept }
 
-pub is_output_so_far : {ahead : Bool} (old now : Streams) (server : Serving) (taken most : ℕ) (w : Going ahead old now server taken most) → IsOutputBy ahead w.pieces (output_so_far old now server taken most w)
+pub is_output_so_far : {looking : Looking} (old now : Streams) (server : Serving) (taken most : ℕ) (w : Going looking old now server taken most) → IsOutputBy looking w.pieces (output_so_far old now server taken most w)
 is_output_so_far old now server taken most w = record {
   given = w.given;
   complete = w.complete;
@@ -130,7 +132,7 @@ whole_piece piece buffer pieces new n count same left =
     (same ∙ take_all n piece all, left ∙ ap (λ (rest : List ℕ). left_over rest pieces) (drop_all n piece all))
 
 -- where pieces are told, a read that takes a whole piece
-pub whole_more : (old mid new : Option (List (List ℕ))) (pieces : List (List ℕ)) (buffer : List ℕ) (n room : ℕ) → ArePieces mid → length buffer ≡ room → (n < room) ⊎ (65536 ≤ room) → TakesWhole old mid pieces → GotTakes mid new (got.Some n) buffer →
+whole_more : (old mid new : Option (List (List ℕ))) (pieces : List (List ℕ)) (buffer : List ℕ) (n room : ℕ) → ArePieces mid → length buffer ≡ room → (n < room) ⊎ (65536 ≤ room) → TakesWhole old mid pieces → GotTakes mid new (got.Some n) buffer →
     TakesWhole old new (pieces ++ take n buffer ∷ [])
 whole_more None mid new pieces buffer n room sized size wide w takes = tt
 whole_more (Some old) None new pieces buffer n room sized size wide w takes = absurd w
@@ -153,7 +155,7 @@ wide_read n room taken most more below within space = elim (cases_lt room 65536)
 ]
 
 -- a read leaves room for a whole piece, or fills what a session may take
-pub takes_more : {ahead : Bool} (old mid new : Streams) (server : Serving) (taken n room : ℕ) (buffer : List ℕ) (w : Going ahead old mid server taken 1099511627776) → taken < 1099511627776 → ArePieces mid.source.left → length buffer ≡ room → n ≤ room →
+takes_more : {looking : Looking} (old mid new : Streams) (server : Serving) (taken n room : ℕ) (buffer : List ℕ) (w : Going looking old mid server taken 1099511627776) → taken < 1099511627776 → ArePieces mid.source.left → length buffer ≡ room → n ≤ room →
     room ≡ min 65536 (1099511627776 - taken) → GotTakes mid.source.left new.source.left (got.Some n) buffer → TakesPieces old.source.left new.source.left (w.pieces ++ take n buffer ∷ [])
 takes_more old mid new server taken n room buffer w below sized size within space takes =
     pieces_more old.source.left mid.source.left new.source.left w.pieces buffer n (w.whole below) takes
@@ -162,31 +164,50 @@ takes_more old mid new server taken n room buffer w below sized size within spac
       | inr full ↦ inr (ap length (joined_more (take n buffer) [] w.joined).bytes_are ∙ length-append w.bytes (take n buffer) ∙ (let l = length-take n buffer in omega (arith, w.count)))
     ])
 
--- a read, and what answers it: the session goes on
-pub going_more : {ahead : Bool} {before steps : ℕ} (old mid new : Streams) (server next : Serving) (taken n room : ℕ) (buffer : List ℕ) (w : Going ahead old mid server taken 1099511627776) → taken < 1099511627776 → ArePieces mid.source.left → length buffer ≡ room →
-    n ≤ room → room ≡ min 65536 (1099511627776 - taken) → GotTakes mid.source.left new.source.left (got.Some n) buffer → ReadsPieces old.source new.source (w.pieces ++ take n buffer ∷ []) →
-    (answered : TakesPiece ahead server next (take n buffer) IsOpen mid.sink new.sink) → AreCounted (looked_from (begin empty) (w.seen ++ looked ahead answered.given)).replies before steps →
-    (AllByRecursion IsQuiet (w.bodies ++ answered.given) → steps ≡ before) → GoesUncounted ahead old new next (taken + n) 1099511627776 before steps
-going_more {ahead = ahead} old mid new server next taken n room buffer w below sized size within space takes on answered counted uncounted =
+-- a piece that is read behind those so far, before what it completes is answered
+pub record Read {looking : Looking} (old mid new : Streams) (server : Serving) (taken most : ℕ) (piece : List ℕ) (w : Going looking old mid server taken most) : Type 0 where
+  pub takes : TakesPieces old.source.left new.source.left (w.pieces ++ piece ∷ [])
+  pub whole : taken + length piece < most → TakesWhole old.source.left new.source.left (w.pieces ++ piece ∷ [])
+  pub few : taken + length piece ≤ 1099511627776
+  pub on : ReadsPieces old.source new.source (w.pieces ++ piece ∷ [])
+
+-- the bytes that a read puts at the front of the buffer are such a piece
+pub read_piece : {looking : Looking} (old mid new : Streams) (server : Serving) (taken n room : ℕ) (buffer others : List ℕ) (w : Going looking old mid server taken 1099511627776) → taken < 1099511627776 → ArePieces mid.source.left → length buffer ≡ room → room ≡ min 65536 (1099511627776 - taken) →
+    1 ≤ n → n ≤ length buffer → GotTakes mid.source.left new.source.left (got.Some n) buffer → new.source.faults ≡ mid.source.faults → new.source.reads ≡ mid.source.reads ++ take n buffer ∷ [] → Read old mid new server taken 1099511627776 (take n (buffer ++ others)) w
+read_piece old mid new server taken n room buffer others w below sized size space some within takes counts notes =
+    let l = length-take n buffer in
+    let fits : n ≤ room = omega arith in
+    subst (λ (piece : List ℕ). Read old mid new server taken 1099511627776 piece w) (sym (take_first buffer others n within)) (record {
+      takes = takes_more old mid new server taken n room buffer w below sized size fits space takes;
+      whole = λ more. whole_more old.source.left mid.source.left new.source.left w.pieces buffer n room sized size (wide_read n room taken 1099511627776 (omega arith) below fits space) (w.whole below) takes;
+      few = omega arith;
+      on = reads_piece old.source mid.source new.source w.pieces buffer n w.on counts notes some within;
+    })
+
+-- and what answers it: the session goes on
+pub going_more : {looking : Looking} {before steps : ℕ} (old mid new : Streams) (server next : Serving) (taken n : ℕ) (piece : List ℕ) (w : Going looking old mid server taken 1099511627776) → Read old mid new server taken 1099511627776 piece w → length piece ≡ n →
+    (answered : TakesPiece looking server next piece IsOpen mid.sink new.sink) → AreCounted (looked_from (begin empty) (w.seen ++ looked looking answered.given)).replies before steps →
+    (AllByRecursion IsQuiet (w.bodies ++ answered.given) → steps ≡ before) → GoesUncounted looking old new next (taken + n) 1099511627776 before steps
+going_more {looking = looking} old mid new server next taken n piece w r size answered counted uncounted =
     let after = answered.feeds w.bytes w.bodies w.after in
     record {
       so_far = record {
-        pieces = w.pieces ++ take n buffer ∷ [];
+        pieces = w.pieces ++ piece ∷ [];
         given = w.given ++ answered.given ∷ [];
-        bytes = w.bytes ++ take n buffer;
+        bytes = w.bytes ++ piece;
         bodies = w.bodies ++ answered.given;
-        seen = w.seen ++ looked ahead answered.given;
-        joined = joined_more (take n buffer) answered.given w.joined;
-        takes = takes_more old mid new server taken n room buffer w below sized size within space takes;
-        whole = λ more. whole_more old.source.left mid.source.left new.source.left w.pieces buffer n room sized size (wide_read n room taken 1099511627776 more below within space) (w.whole below) takes;
+        seen = w.seen ++ looked looking answered.given;
+        joined = joined_more piece answered.given w.joined;
+        takes = r.takes;
+        whole = λ more. r.whole (omega arith);
         after = after;
         kept = answered.end.0;
         open_end = answered.end.1;
-        complete = complete_more (take n buffer) answered.given (rest w.kept) (rest answered.end.0) w.joined w.complete
-            (frames_so_far (w.bytes ++ take n buffer) (w.bodies ++ answered.given) next.frames (rest answered.end.0) after answered.end.1);
-        answers = answers_then (begin empty) server.state next.state w.seen (looked ahead answered.given) old.sink mid.sink new.sink w.answers answered.answers;
-        count = length-append w.bytes (take n buffer) ∙ (let l = length-take n buffer in omega (arith, w.count));
-        on = on;
+        complete = complete_more piece answered.given (rest w.kept) (rest answered.end.0) w.joined w.complete
+            (frames_so_far (w.bytes ++ piece) (w.bodies ++ answered.given) next.frames (rest answered.end.0) after answered.end.1);
+        answers = answers_then (begin empty) server.state next.state w.seen (looked looking answered.given) old.sink mid.sink new.sink w.answers answered.answers;
+        count = length-append w.bytes piece ∙ omega (arith, w.count);
+        on = r.on;
       };
       counted = counted;
       uncounted = uncounted;
@@ -195,15 +216,15 @@ going_more {ahead = ahead} old mid new server next taken n room buffer w below s
 -- ---- a session that ends between two pieces
 
 -- quiet bytes, also as those of the pieces
-pub joined_quiet : {ahead : Bool} {pieces : List (List ℕ)} {given : List (List (List ℕ))} {bytes : List ℕ} {bodies : List (List ℕ)} {seen : List Looked} {before now : ℕ} → Joined ahead pieces given bytes bodies seen → (AreQuiet bytes → now ≡ before) → AreQuiet (bytes_of pieces) → now ≡ before
+pub joined_quiet : {looking : Looking} {pieces : List (List ℕ)} {given : List (List (List ℕ))} {bytes : List ℕ} {bodies : List (List ℕ)} {seen : List Looked} {before now : ℕ} → Joined looking pieces given bytes bodies seen → (AreQuiet bytes → now ≡ before) → AreQuiet (bytes_of pieces) → now ≡ before
 joined_quiet {before = before} {now = now} w uncounted = subst (λ (b : List ℕ). AreQuiet b → now ≡ before) (sym w.bytes_are) uncounted
 
 -- as many as were taken
-pub taken_bytes : {ahead : Bool} (old mid : Streams) (server : Serving) (taken most : ℕ) (w : Going ahead old mid server taken most) → length (bytes_of w.pieces) ≡ taken
+pub taken_bytes : {looking : Looking} (old mid : Streams) (server : Serving) (taken most : ℕ) (w : Going looking old mid server taken most) → length (bytes_of w.pieces) ≡ taken
 taken_bytes old mid server taken most w = ap length w.joined.bytes_are ∙ w.count
 
 -- what was taken so far is answered, and the session goes on
-goes_on : {ahead : Bool} (old mid : Streams) (sink : SinkSeen) (server : Serving) (taken most : ℕ) (w : Going ahead old mid server taken most) → sink ≡ mid.sink → GoesOn (IsOutputBy ahead w.pieces) old.sink sink
+goes_on : {looking : Looking} (old mid : Streams) (sink : SinkSeen) (server : Serving) (taken most : ℕ) (w : Going looking old mid server taken most) → sink ≡ mid.sink → GoesOn (IsOutputBy looking w.pieces) old.sink sink
 goes_on old mid sink server taken most w same = record {
   writes = record {
     output = output_so_far old mid server taken most w;
@@ -215,8 +236,8 @@ goes_on old mid sink server taken most w same = record {
 }
 
 -- the input ends
-pub input_ends : {ahead : Bool} {before now : ℕ} (old mid new : Streams) (server : Serving) (taken most : ℕ) (buffer : List ℕ) (w : Going ahead old mid server taken most) → taken < 1099511627776 → GotTakes mid.source.left new.source.left got.End buffer →
-    new.source.faults ≡ mid.source.faults → new.source.reads ≡ mid.source.reads ++ [] ∷ [] → new.sink ≡ mid.sink → CountsAllBy ahead w.pieces before now → (AreQuiet w.bytes → now ≡ before) → ServesBy ahead old new before now InputEnded
+pub input_ends : {looking : Looking} {before now : ℕ} (old mid new : Streams) (server : Serving) (taken most : ℕ) (buffer : List ℕ) (w : Going looking old mid server taken most) → taken < 1099511627776 → GotTakes mid.source.left new.source.left got.End buffer →
+    new.source.faults ≡ mid.source.faults → new.source.reads ≡ mid.source.reads ++ [] ∷ [] → new.sink ≡ mid.sink → CountsAllBy looking w.pieces before now → (AreQuiet w.bytes → now ≡ before) → ServesBy looking old new before now InputEnded
 input_ends old mid new server taken most buffer w fewer takes counts notes same counted uncounted =
     let p = pieces_over old.source.left mid.source.left new.source.left w.pieces buffer w.takes takes in
     let size = taken_bytes old mid server taken most w in
@@ -232,8 +253,8 @@ input_ends old mid new server taken most buffer w fewer takes counts notes same 
     }
 
 -- a read fails
-pub read_fails : {ahead : Bool} {before now : ℕ} (old mid new : Streams) (server : Serving) (taken most : ℕ) (buffer : List ℕ) (w : Going ahead old mid server taken most) → taken < 1099511627776 → GotTakes mid.source.left new.source.left got.Failed buffer →
-    Fails mid.source.faults new.source.faults → new.source.reads ≡ mid.source.reads ++ [] ∷ [] → new.sink ≡ mid.sink → CountsAllBy ahead w.pieces before now → (AreQuiet w.bytes → now ≡ before) → ServesBy ahead old new before now ReadFailed
+pub read_fails : {looking : Looking} {before now : ℕ} (old mid new : Streams) (server : Serving) (taken most : ℕ) (buffer : List ℕ) (w : Going looking old mid server taken most) → taken < 1099511627776 → GotTakes mid.source.left new.source.left got.Failed buffer →
+    Fails mid.source.faults new.source.faults → new.source.reads ≡ mid.source.reads ++ [] ∷ [] → new.sink ≡ mid.sink → CountsAllBy looking w.pieces before now → (AreQuiet w.bytes → now ≡ before) → ServesBy looking old new before now ReadFailed
 read_fails old mid new server taken most buffer w fewer takes failed notes same counted uncounted =
     let size = taken_bytes old mid server taken most w in
     record {
@@ -248,8 +269,8 @@ read_fails old mid new server taken most buffer w fewer takes failed notes same 
     }
 
 -- a session has taken all that one may
-pub takes_most : {ahead : Bool} {before steps : ℕ} (old now : Streams) (server : Serving) (taken most : ℕ) (w : Going ahead old now server taken most) → taken ≡ 1099511627776 → CountsAllBy ahead w.pieces before steps → (AreQuiet w.bytes → steps ≡ before) →
-    ServesBy ahead old now before steps Endless
+pub takes_most : {looking : Looking} {before steps : ℕ} (old now : Streams) (server : Serving) (taken most : ℕ) (w : Going looking old now server taken most) → taken ≡ 1099511627776 → CountsAllBy looking w.pieces before steps → (AreQuiet w.bytes → steps ≡ before) →
+    ServesBy looking old now before steps Endless
 takes_most old now server taken most w all counted uncounted =
     record {
       ends = record { pieces = w.pieces; taken = w.takes; source = w.on; session = (taken_bytes old now server taken most w ∙ all, goes_on old now now.sink server taken most w refl) };

@@ -1,7 +1,7 @@
 -- Sessions over bodies that come one after another.
 use Rattle.std.proofs.Common.{◌≡◌, ℕ, List, [], ◌∷◌, ◌++◌, refl, sym, ap, ◌∙◌, append_assoc, append-nil, subst, Some, None, Option}
-use Rattle.std.specs.Prelude.{false}
 use Rattle.lookahead.specs.Looked.{Looked, looked}
+use Rattle.lookahead.specs.declared.looking.Looking.TheVariants.{OneByOne}
 use Rattle.scheme_model.specs.Session as model
 use Rattle.scheme_model.specs.Session.{Ending, Run, State, Stepped, after_replies, followed, step}
 use Rattle.session_core.specs.FromWire.{offsets}
@@ -86,10 +86,10 @@ same_steps : (end : Option Ending) (s : Stepped Question) (one other : State →
 same_steps None s one other same = ap (after_replies s.replies) (same s.state)
 same_steps (Some exit) s one other same = refl
 
-pub uncancelled_session : (bodies : List (List ℕ)) (state : State) → session_from state bodies ≡ looked_from state (looked false bodies)
+pub uncancelled_session : (bodies : List (List ℕ)) (state : State) → session_from state bodies ≡ looked_from state (looked OneByOne bodies)
 uncancelled_session [] state = refl
 uncancelled_session (body ∷ bodies) state =
-    same_steps (one_step state body).end (one_step state body) (λ next. session_from next bodies) (λ next. looked_from next (looked false bodies)) (uncancelled_session bodies)
+    same_steps (one_step state body).end (one_step state body) (λ next. session_from next bodies) (λ next. looked_from next (looked OneByOne bodies)) (uncancelled_session bodies)
 
 -- ---- replies
 

@@ -1,6 +1,5 @@
 -- Each stream has an output.
-use Rattle.std.proofs.Common.{ℕ, List, [], ◌∷◌, ◌++◌, refl, sym, subst, Bool, Option, None, Some}
-use Rattle.std.specs.Prelude.{false}
+use Rattle.std.proofs.Common.{ℕ, List, [], ◌∷◌, ◌++◌, refl, sym, subst, Option, None, Some}
 use Rattle.std.specs.FinMap.{empty}
 use Rattle.std.specs.List.{AllByRecursion}
 use Rattle.lsp_framing.proofs.EveryReading.{every_reading}
@@ -8,6 +7,8 @@ use Rattle.lsp_messages.specs.Messages.{message_of}
 use Rattle.lsp_messages.specs.declared.message.Id.{Id}
 use Rattle.lookahead.specs.Ahead.{cancelled_step}
 use Rattle.lookahead.specs.Looked.{Looked, looked}
+use Rattle.lookahead.specs.declared.looking.Looking.{Looking}
+use Rattle.lookahead.specs.declared.looking.Looking.TheVariants.{OneByOne}
 use Rattle.lookahead.proofs.OneCompletion.{some_completion}
 use Rattle.scheme_model.specs.Session as session
 use Rattle.scheme_model.specs.Session.{Ending, Mode, Run, State, Stepped, begin, followed, step}
@@ -45,16 +46,16 @@ session_asks (body ∷ bodies) state =
 pub some_output : (bytes : List ℕ) → (output : Output) × IsOutputOf bytes output
 some_output bytes =
     let read = every_reading bytes in
-    let asks = subst (λ (run : Run Question). AllByRecursion AsksThat run.replies) (sym (uncancelled_session read.0 (begin empty))) (session_asks (looked false read.0) (begin empty)) in
+    let asks = subst (λ (run : Run Question). AllByRecursion AsksThat run.replies) (sym (uncancelled_session read.0 (begin empty))) (session_asks (looked OneByOne read.0) (begin empty)) in
     let answers = some_replies (session_over read.0).replies asks in (
       record { messages = answers.0; exit = (session_over read.0).end; end = read.1 },
       record { bodies = read.0; frames = read.2; answered = answers.1; exits = refl },
     )
 
-pub some_output_by : (ahead : Bool) (pieces : List (List ℕ)) → (output : Output) × IsOutputBy ahead pieces output
-some_output_by ahead pieces =
+pub some_output_by : (looking : Looking) (pieces : List (List ℕ)) → (output : Output) × IsOutputBy looking pieces output
+some_output_by looking pieces =
     let read = some_completion pieces in
-    let answers = some_replies (looked_over ahead read.0).replies (session_asks (looked_in ahead read.0) (begin empty)) in (
-      record { messages = answers.0; exit = (looked_over ahead read.0).end; end = read.1 },
+    let answers = some_replies (looked_over looking read.0).replies (session_asks (looked_in looking read.0) (begin empty)) in (
+      record { messages = answers.0; exit = (looked_over looking read.0).end; end = read.1 },
       record { given = read.0; complete = read.2; answered = answers.1; exits = refl },
     )

@@ -1,6 +1,5 @@
 -- A session that doesn't look ahead is that of the bytes of its pieces.
 use Rattle.std.proofs.Common.{◌≡◌, inl, inr, ℕ, ◌<◌, List, [], ◌∷◌, ◌++◌, length, Option, Some, None, refl, sym, ap, ◌∙◌, subst, append_assoc, append-nil}
-use Rattle.std.specs.Prelude.{false}
 use Rattle.std.specs.FinMap.{empty}
 use Rattle.std.specs.List.{AllByRecursion}
 use Rattle.std.proofs.lemmas.List.{map-append}
@@ -10,6 +9,7 @@ use Rattle.ls_outside.specs.Sources.{bytes_of, left_over}
 use Rattle.ls_outside.proofs.CallLaws.{bytes_more}
 use Rattle.lookahead.specs.Completed.{Complete, Completes}
 use Rattle.lookahead.specs.Looked.{Looked, looked, uncancelled}
+use Rattle.lookahead.specs.declared.looking.Looking.TheVariants.{OneByOne}
 use Rattle.scheme_model.specs.Session.{Run, begin}
 use Rattle.session_core.specs.Asked.{Question}
 use Rattle.session_core.specs.Counted.{AreCounted}
@@ -40,16 +40,16 @@ completed_frames (p ∷ pieces) (g ∷ given) bytes bodies end frames =
 all_frames : (pieces : List (List ℕ)) (given : List (List (List ℕ))) (end : End) → Complete pieces given end → IsFrames (bytes_of pieces) (all_bodies given) end
 all_frames pieces given end complete = completed_frames pieces given [] [] end complete
 
-all_uncancelled : (given : List (List (List ℕ))) → looked_in false given ≡ looked false (all_bodies given)
+all_uncancelled : (given : List (List (List ℕ))) → looked_in OneByOne given ≡ looked OneByOne (all_bodies given)
 all_uncancelled [] = refl
-all_uncancelled (completed ∷ given) = ap (λ (rest : List Looked). looked false completed ++ rest) (all_uncancelled given) ∙ sym (map-append uncancelled completed (all_bodies given))
+all_uncancelled (completed ∷ given) = ap (λ (rest : List Looked). looked OneByOne completed ++ rest) (all_uncancelled given) ∙ sym (map-append uncancelled completed (all_bodies given))
 
-same_run : (given : List (List (List ℕ))) → looked_over false given ≡ session_over (all_bodies given)
+same_run : (given : List (List (List ℕ))) → looked_over OneByOne given ≡ session_over (all_bodies given)
 same_run given = ap (looked_from (begin empty)) (all_uncancelled given) ∙ sym (uncancelled_session (all_bodies given) (begin empty))
 
 -- ---- outputs
 
-pub output_as : (pieces : List (List ℕ)) (output : Output) → IsOutputBy false pieces output → IsOutputOf (bytes_of pieces) output
+pub output_as : (pieces : List (List ℕ)) (output : Output) → IsOutputBy OneByOne pieces output → IsOutputOf (bytes_of pieces) output
 output_as pieces output is = record {
   bodies = all_bodies is.given;
   frames = all_frames pieces is.given output.end is.complete;
@@ -68,24 +68,24 @@ record First (bodies : List (List ℕ)) (first : List Looked) : Type 0 where
   pub front : List (List ℕ)
   pub later : List (List ℕ)
   pub split : bodies ≡ front ++ later
-  pub are : first ≡ looked false front
+  pub are : first ≡ looked OneByOne front
 
-first_of : (bodies : List (List ℕ)) (first later : List Looked) → looked false bodies ≡ first ++ later → First bodies first
+first_of : (bodies : List (List ℕ)) (first later : List Looked) → looked OneByOne bodies ≡ first ++ later → First bodies first
 first_of bodies [] later same = record { front = []; later = bodies; split = refl; are = refl }
 first_of [] (body ∷ first) later same = absurd cc
 first_of (b ∷ bodies) (body ∷ first) later same =
-    let rest = first_of bodies first later (same_tails (uncancelled b) body (looked false bodies) (first ++ later) same) in
-    let head = same_heads (uncancelled b) body (looked false bodies) (first ++ later) same in
+    let rest = first_of bodies first later (same_tails (uncancelled b) body (looked OneByOne bodies) (first ++ later) same) in
+    let head = same_heads (uncancelled b) body (looked OneByOne bodies) (first ++ later) same in
     record { front = b ∷ rest.front; later = rest.later; split = ap (λ (more : List (List ℕ)). b ∷ more) rest.split; are = λ j. sym head j ∷ rest.are j }
 
 -- the first bodies of all pieces
-first_in : {pieces : List (List ℕ)} {messages : List Reply} (a : AnswerFirstBy false pieces messages) → First (all_bodies a.given) a.first
+first_in : {pieces : List (List ℕ)} {messages : List Reply} (a : AnswerFirstBy OneByOne pieces messages) → First (all_bodies a.given) a.first
 first_in a = first_of (all_bodies a.given) a.first a.later (sym (all_uncancelled a.given) ∙ a.split)
 
 first_run : {bodies : List (List ℕ)} {first : List Looked} (f : First bodies first) → looked_from (begin empty) first ≡ session_over f.front
 first_run f = ap (looked_from (begin empty)) f.are ∙ sym (uncancelled_session f.front (begin empty))
 
-abbrev first_as : (pieces : List (List ℕ)) (messages : List Reply) → AnswerFirstBy false pieces messages → AnswerFirst (bytes_of pieces) messages
+abbrev first_as : (pieces : List (List ℕ)) (messages : List Reply) → AnswerFirstBy OneByOne pieces messages → AnswerFirst (bytes_of pieces) messages
 first_as pieces messages a = record {
   bodies = (first_in a).front;
   later = (first_in a).later;
@@ -94,7 +94,7 @@ first_as pieces messages a = record {
   answered = subst (λ (run : Run Question). AreReplies run.replies messages) (first_run (first_in a)) a.answered;
 }
 
-begin_as : (pieces : List (List ℕ)) (messages : List Reply) → BeginBy false pieces messages → BeginOutput (bytes_of pieces) messages
+begin_as : (pieces : List (List ℕ)) (messages : List Reply) → BeginBy OneByOne pieces messages → BeginOutput (bytes_of pieces) messages
 begin_as pieces messages (inl first) = inl (first_as pieces messages first)
 begin_as pieces messages (inr whole) = inr (whole.0, output_as pieces whole.0 whole.1, whole.2)
 
@@ -103,16 +103,16 @@ begin_as pieces messages (inr whole) = inr (whole.0, output_as pieces whole.0 wh
 written_as : (IsOutput AsOutput : Output → Type 0) (old new : SinkSeen) → ((output : Output) → IsOutput output → AsOutput output) → WritesWhole IsOutput old new → WritesWhole AsOutput old new
 written_as IsOutput AsOutput old new carry w = record { output = w.output; is = carry w.output w.is; prints = w.prints }
 
-session_as : (pieces : List (List ℕ)) (old new : SinkSeen) (end : SessionEnd) → SessionEndsAs (length (bytes_of pieces)) (IsOutputBy false pieces) (BeginBy false pieces) old new end →
+session_as : (pieces : List (List ℕ)) (old new : SinkSeen) (end : SessionEnd) → SessionEndsAs (length (bytes_of pieces)) (IsOutputBy OneByOne pieces) (BeginBy OneByOne pieces) old new end →
     SessionEndsAs (length (bytes_of pieces)) (IsOutputOf (bytes_of pieces)) (BeginOutput (bytes_of pieces)) old new end
 unfolding written_as
-session_as pieces old new (Exited exit) h = (h.0, record { writes = written_as (IsOutputBy false pieces) (IsOutputOf (bytes_of pieces)) old new (output_as pieces) h.1.writes; exits = h.1.exits })
-session_as pieces old new InputEnded h = (h.0, record { writes = written_as (IsOutputBy false pieces) (IsOutputOf (bytes_of pieces)) old new (output_as pieces) h.1.writes; no_exit = h.1.no_exit; unfinished = h.1.unfinished })
-session_as pieces old new ReadFailed h = (h.0, record { writes = written_as (IsOutputBy false pieces) (IsOutputOf (bytes_of pieces)) old new (output_as pieces) h.1.writes; no_exit = h.1.no_exit; unfinished = h.1.unfinished })
+session_as pieces old new (Exited exit) h = (h.0, record { writes = written_as (IsOutputBy OneByOne pieces) (IsOutputOf (bytes_of pieces)) old new (output_as pieces) h.1.writes; exits = h.1.exits })
+session_as pieces old new InputEnded h = (h.0, record { writes = written_as (IsOutputBy OneByOne pieces) (IsOutputOf (bytes_of pieces)) old new (output_as pieces) h.1.writes; no_exit = h.1.no_exit; unfinished = h.1.unfinished })
+session_as pieces old new ReadFailed h = (h.0, record { writes = written_as (IsOutputBy OneByOne pieces) (IsOutputOf (bytes_of pieces)) old new (output_as pieces) h.1.writes; no_exit = h.1.no_exit; unfinished = h.1.unfinished })
 session_as pieces old new WriteFailed h = (h.0, record { messages = h.1.messages; begin = begin_as pieces h.1.messages h.1.begin; prints = h.1.prints })
 session_as pieces old new NoMemory h = (h.0, record { messages = h.1.messages; begin = begin_as pieces h.1.messages h.1.begin; prints = h.1.prints })
-session_as pieces old new FrameFault h = (h.0, record { writes = written_as (IsOutputBy false pieces) (IsOutputOf (bytes_of pieces)) old new (output_as pieces) h.1.writes; no_exit = h.1.no_exit; faulty = h.1.faulty })
-session_as pieces old new Endless h = (h.0, record { writes = written_as (IsOutputBy false pieces) (IsOutputOf (bytes_of pieces)) old new (output_as pieces) h.1.writes; no_exit = h.1.no_exit; unfinished = h.1.unfinished })
+session_as pieces old new FrameFault h = (h.0, record { writes = written_as (IsOutputBy OneByOne pieces) (IsOutputOf (bytes_of pieces)) old new (output_as pieces) h.1.writes; no_exit = h.1.no_exit; faulty = h.1.faulty })
+session_as pieces old new Endless h = (h.0, record { writes = written_as (IsOutputBy OneByOne pieces) (IsOutputOf (bytes_of pieces)) old new (output_as pieces) h.1.writes; no_exit = h.1.no_exit; unfinished = h.1.unfinished })
 
 -- ---- what is left of the source
 
@@ -181,7 +181,7 @@ last_as (Some old) (Some new) pieces before last (inr part) split some =
       some = some;
     }
 
-before_as : (old new : Streams) (pieces : List (List ℕ)) → TakesPieces old.source.left new.source.left pieces → ReadsPieces old.source new.source pieces → AnswersBeforeLast false old.sink new.sink pieces → AnswersPiecesBefore old new (bytes_of pieces)
+before_as : (old new : Streams) (pieces : List (List ℕ)) → TakesPieces old.source.left new.source.left pieces → ReadsPieces old.source new.source pieces → AnswersBeforeLast OneByOne old.sink new.sink pieces → AnswersPiecesBefore old new (bytes_of pieces)
 before_as old new pieces takes r a =
     let some = front_some a.before a.last (subst (AllByRecursion IsNonempty) a.split r.some) in
     record {
@@ -203,7 +203,7 @@ before_as old new pieces takes r a =
       writes = a.writes;
     }
 
-source_as : (old new : Streams) (pieces : List (List ℕ)) (end : SessionEnd) → TakesPieces old.source.left new.source.left pieces → PiecesEndAs false old new pieces end → SourceEndsAs old new (bytes_of pieces) end
+source_as : (old new : Streams) (pieces : List (List ℕ)) (end : SessionEnd) → TakesPieces old.source.left new.source.left pieces → PiecesEndAs OneByOne old new pieces end → SourceEndsAs old new (bytes_of pieces) end
 source_as old new pieces (Exited exit) takes h = (reads_as old.source new.source pieces h.0, before_as old new pieces takes h.0 h.1)
 source_as old new pieces InputEnded takes r = record {
   all = all_as old.source.left new.source.left pieces takes r.over;
@@ -229,7 +229,7 @@ source_as old new pieces Endless takes r = reads_as old.source new.source pieces
 
 -- ---- the macro uses that are counted
 
-counts_all_as : (pieces : List (List ℕ)) (before now : ℕ) → CountsAllBy false pieces before now → CountsAll (bytes_of pieces) before now
+counts_all_as : (pieces : List (List ℕ)) (before now : ℕ) → CountsAllBy OneByOne pieces before now → CountsAll (bytes_of pieces) before now
 counts_all_as pieces before now c = record {
   bodies = all_bodies c.given;
   end = c.end;
@@ -237,14 +237,14 @@ counts_all_as pieces before now c = record {
   counted = subst (λ (run : Run Question). AreCounted run.replies before now) (same_run c.given) c.counted;
 }
 
-counts_begin_as : (pieces : List (List ℕ)) (before now : ℕ) (messages : List Reply) → CountsBeginBy false pieces before now messages → CountsBegin (bytes_of pieces) before now messages
+counts_begin_as : (pieces : List (List ℕ)) (before now : ℕ) (messages : List Reply) → CountsBeginBy OneByOne pieces before now messages → CountsBegin (bytes_of pieces) before now messages
 counts_begin_as pieces before now messages (inl c) = inl (record {
   first = first_as pieces messages c.answers;
   counted = subst (λ (run : Run Question). AreCounted run.replies before now) (first_run (first_in c.answers)) c.counted;
 })
 counts_begin_as pieces before now messages (inr whole) = inr (whole.0, output_as pieces whole.0 whole.1, whole.2, counts_all_as pieces before now whole.3)
 
-counts_as : (old new : SinkSeen) (pieces : List (List ℕ)) (before now : ℕ) (end : SessionEnd) → CountsBy false old new pieces before now end → CountsAs old new (bytes_of pieces) before now end
+counts_as : (old new : SinkSeen) (pieces : List (List ℕ)) (before now : ℕ) (end : SessionEnd) → CountsBy OneByOne old new pieces before now end → CountsAs old new (bytes_of pieces) before now end
 counts_as old new pieces before now (Exited exit) c = counts_all_as pieces before now c
 counts_as old new pieces before now InputEnded c = counts_all_as pieces before now c
 counts_as old new pieces before now ReadFailed c = counts_all_as pieces before now c
@@ -253,7 +253,7 @@ counts_as old new pieces before now NoMemory c = tt
 counts_as old new pieces before now FrameFault c = counts_all_as pieces before now c
 counts_as old new pieces before now Endless c = counts_all_as pieces before now c
 
-pub serves_as : (old new : Streams) (before now : ℕ) (end : SessionEnd) → ServesBy false old new before now end → Serves old new before now end
+pub serves_as : (old new : Streams) (before now : ℕ) (end : SessionEnd) → ServesBy OneByOne old new before now end → Serves old new before now end
 serves_as old new before now end s = record {
   ends = record {
     bytes = bytes_of s.ends.pieces;

@@ -1,5 +1,5 @@
 -- How a session ends whose input comes in pieces, where the bodies of a piece are looked at ahead or not.
-use Rattle.std.specs.Prelude.{◌≡◌, ◌⊎◌, ℕ, ◌<◌, List, [], ◌∷◌, ◌++◌, length, Bool, true, Option, Some, None}
+use Rattle.std.specs.Prelude.{◌≡◌, ◌⊎◌, ℕ, ◌<◌, List, [], ◌∷◌, ◌++◌, length, Option, Some, None}
 use Rattle.std.specs.Io.KnownBytes.{Appends}
 use Rattle.std.specs.List.{AllByRecursion}
 use Rattle.ls_base.specs.Frames.{End}
@@ -8,6 +8,8 @@ use Rattle.ls_outside.specs.Calls.{CallsTake}
 use Rattle.ls_outside.specs.Counts.{Fails}
 use Rattle.ls_outside.specs.Sources.{bytes_of, left_over}
 use Rattle.lookahead.specs.Completed.{Complete}
+use Rattle.lookahead.specs.declared.looking.Looking.{Looking}
+use Rattle.lookahead.specs.declared.looking.Looking.TheVariants.{Ahead}
 use Rattle.scheme_model.specs.Session.{begin}
 use Rattle.session_core.specs.Counted.{AreCounted}
 use Rattle.std.specs.FinMap.{empty}
@@ -71,12 +73,12 @@ pub record FailsBehind (old new : SourceSeen) (pieces : List (List ℕ)) : Type 
   pub some : AllByRecursion IsNonempty pieces
 
 -- the session goes on up to the last piece, and what answers those before it was written
-pub record AnswersBeforeLast (ahead : Bool) (old new : SinkSeen) (pieces : List (List ℕ)) : Type 0 where
+pub record AnswersBeforeLast (looking : Looking) (old new : SinkSeen) (pieces : List (List ℕ)) : Type 0 where
   pub before : List (List ℕ)
   pub last : List ℕ
   pub split : pieces ≡ before ++ last ∷ []
   pub output : Output
-  pub is : IsOutputBy ahead before output
+  pub is : IsOutputBy looking before output
   pub no_exit : output.exit ≡ None
   pub unfinished : IsUnfinished output.end
   pub more : List ℕ
@@ -84,58 +86,58 @@ pub record AnswersBeforeLast (ahead : Bool) (old new : SinkSeen) (pieces : List 
   pub writes : CallsTake old.writes new.writes (frames_of output.messages ++ more)
 
 -- what became of the source of these pieces
-abbrev pub PiecesEndAs : (ahead : Bool) → Streams → Streams → (pieces : List (List ℕ)) → SessionEnd → Type 0
-PiecesEndAs ahead old new pieces (Exited exit) = ReadsPieces old.source new.source pieces × AnswersBeforeLast ahead old.sink new.sink pieces
-PiecesEndAs ahead old new pieces InputEnded = ReadsAllPieces old.source new.source pieces
-PiecesEndAs ahead old new pieces ReadFailed = FailsBehind old.source new.source pieces
-PiecesEndAs ahead old new pieces WriteFailed = ReadsPieces old.source new.source pieces × AnswersBeforeLast ahead old.sink new.sink pieces
-PiecesEndAs ahead old new pieces NoMemory = ReadsPieces old.source new.source pieces
-PiecesEndAs ahead old new pieces FrameFault = ReadsPieces old.source new.source pieces × AnswersBeforeLast ahead old.sink new.sink pieces
-PiecesEndAs ahead old new pieces Endless = ReadsPieces old.source new.source pieces
+abbrev pub PiecesEndAs : (looking : Looking) → Streams → Streams → (pieces : List (List ℕ)) → SessionEnd → Type 0
+PiecesEndAs looking old new pieces (Exited exit) = ReadsPieces old.source new.source pieces × AnswersBeforeLast looking old.sink new.sink pieces
+PiecesEndAs looking old new pieces InputEnded = ReadsAllPieces old.source new.source pieces
+PiecesEndAs looking old new pieces ReadFailed = FailsBehind old.source new.source pieces
+PiecesEndAs looking old new pieces WriteFailed = ReadsPieces old.source new.source pieces × AnswersBeforeLast looking old.sink new.sink pieces
+PiecesEndAs looking old new pieces NoMemory = ReadsPieces old.source new.source pieces
+PiecesEndAs looking old new pieces FrameFault = ReadsPieces old.source new.source pieces × AnswersBeforeLast looking old.sink new.sink pieces
+PiecesEndAs looking old new pieces Endless = ReadsPieces old.source new.source pieces
 
 -- how a session ends: pieces were taken of the source, and the session over them ended so
-pub record ServeEndsBy (ahead : Bool) (old new : Streams) (end : SessionEnd) : Type 0 where
+pub record ServeEndsBy (looking : Looking) (old new : Streams) (end : SessionEnd) : Type 0 where
   pub pieces : List (List ℕ)
   pub taken : TakesPieces old.source.left new.source.left pieces
-  pub source : PiecesEndAs ahead old new pieces end
-  pub session : SessionEndsAs (length (bytes_of pieces)) (IsOutputBy ahead pieces) (BeginBy ahead pieces) old.sink new.sink end
+  pub source : PiecesEndAs looking old new pieces end
+  pub session : SessionEndsAs (length (bytes_of pieces)) (IsOutputBy looking pieces) (BeginBy looking pieces) old.sink new.sink end
 
 -- ---- the macro uses that are counted
 
 -- those of all bodies, up to and with the first `exit`
-pub record CountsAllBy (ahead : Bool) (pieces : List (List ℕ)) (before now : ℕ) : Type 0 where
+pub record CountsAllBy (looking : Looking) (pieces : List (List ℕ)) (before now : ℕ) : Type 0 where
   pub given : List (List (List ℕ))
   pub end : End
   pub complete : Complete pieces given end
-  pub counted : AreCounted (looked_over ahead given).replies before now
+  pub counted : AreCounted (looked_over looking given).replies before now
 
 -- those of the first bodies, which messages answer
-pub record CountsFirstBy (ahead : Bool) (pieces : List (List ℕ)) (before now : ℕ) (messages : List Reply) : Type 0 where
-  pub answers : AnswerFirstBy ahead pieces messages
+pub record CountsFirstBy (looking : Looking) (pieces : List (List ℕ)) (before now : ℕ) (messages : List Reply) : Type 0 where
+  pub answers : AnswerFirstBy looking pieces messages
   pub counted : AreCounted (looked_from (begin empty) answers.first).replies before now
 
 -- those of the bodies that messages answer which begin the output
-abbrev pub CountsBeginBy : (ahead : Bool) → (pieces : List (List ℕ)) → (before now : ℕ) → List Reply → Type 0
-CountsBeginBy ahead pieces before now messages =
-    CountsFirstBy ahead pieces before now messages ⊎ ((output : Output) × IsOutputBy ahead pieces output × (messages ≡ written output) × CountsAllBy ahead pieces before now)
+abbrev pub CountsBeginBy : (looking : Looking) → (pieces : List (List ℕ)) → (before now : ℕ) → List Reply → Type 0
+CountsBeginBy looking pieces before now messages =
+    CountsFirstBy looking pieces before now messages ⊎ ((output : Output) × IsOutputBy looking pieces output × (messages ≡ written output) × CountsAllBy looking pieces before now)
 
 -- a session over these pieces that ends so counts from one number to another. Where a write failed, it counts the bodies that those
 -- messages answer within which it failed; where memory runs out nothing is told
-abbrev pub CountsBy : (ahead : Bool) → SinkSeen → SinkSeen → (pieces : List (List ℕ)) → (before now : ℕ) → SessionEnd → Type 0
-CountsBy ahead old new pieces before now (Exited exit) = CountsAllBy ahead pieces before now
-CountsBy ahead old new pieces before now InputEnded = CountsAllBy ahead pieces before now
-CountsBy ahead old new pieces before now ReadFailed = CountsAllBy ahead pieces before now
-CountsBy ahead old new pieces before now WriteFailed = WritesFront (CountsBeginBy ahead pieces before now) old new
-CountsBy ahead old new pieces before now NoMemory = Unit {0}
-CountsBy ahead old new pieces before now FrameFault = CountsAllBy ahead pieces before now
-CountsBy ahead old new pieces before now Endless = CountsAllBy ahead pieces before now
+abbrev pub CountsBy : (looking : Looking) → SinkSeen → SinkSeen → (pieces : List (List ℕ)) → (before now : ℕ) → SessionEnd → Type 0
+CountsBy looking old new pieces before now (Exited exit) = CountsAllBy looking pieces before now
+CountsBy looking old new pieces before now InputEnded = CountsAllBy looking pieces before now
+CountsBy looking old new pieces before now ReadFailed = CountsAllBy looking pieces before now
+CountsBy looking old new pieces before now WriteFailed = WritesFront (CountsBeginBy looking pieces before now) old new
+CountsBy looking old new pieces before now NoMemory = Unit {0}
+CountsBy looking old new pieces before now FrameFault = CountsAllBy looking pieces before now
+CountsBy looking old new pieces before now Endless = CountsAllBy looking pieces before now
 
 -- a session ended so, and counts the macro uses that the bodies lead to; none, where no body tells a document event or asks for a rename
-pub record ServesBy (ahead : Bool) (old new : Streams) (before now : ℕ) (end : SessionEnd) : Type 0 where
-  pub ends : ServeEndsBy ahead old new end
-  pub counted : CountsBy ahead old.sink new.sink ends.pieces before now end
+pub record ServesBy (looking : Looking) (old new : Streams) (before now : ℕ) (end : SessionEnd) : Type 0 where
+  pub ends : ServeEndsBy looking old new end
+  pub counted : CountsBy looking old.sink new.sink ends.pieces before now end
   pub uncounted : AreQuiet (bytes_of ends.pieces) → now ≡ before
 
 -- the same of `serve --ahead`
 abbrev pub ServesAhead : (old new : Streams) → (before now : ℕ) → SessionEnd → Type 0
-ServesAhead = ServesBy true
+ServesAhead = ServesBy Ahead

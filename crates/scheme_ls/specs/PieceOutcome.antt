@@ -1,11 +1,12 @@
 -- What a server makes of a piece of its input, whose bodies it looks at ahead or not.
-use Rattle.std.specs.Prelude.{◌≡◌, ◌⊎◌, ◌++◌, ℕ, List, Bool, Option, Some, None}
+use Rattle.std.specs.Prelude.{◌≡◌, ◌⊎◌, ◌++◌, ℕ, List, Option, Some, None}
 use Rattle.std.specs.List.{AllByRecursion}
 use Rattle.ls_base.specs.Frames.{End, Fault, IsFrames, fault_number, rest, fault}
 use Rattle.lsp_framing.specs.Deframed.{Deframed, After}
 use Rattle.lsp_framing.specs.Feeds.{Feeds}
 use Rattle.lsp_framing.specs.Taken.{contents}
 use Rattle.lookahead.specs.Looked.{looked}
+use Rattle.lookahead.specs.declared.looking.Looking.{Looking}
 use Rattle.scheme_model.specs.Session.{Ending, State}
 use Rattle.session_core.specs.Counted.{AreCounted}
 use Rattle.session_core.specs.Stepped.{IsQuiet}
@@ -45,31 +46,31 @@ pub record Cuts (old : Deframed) (piece : List ℕ) (cut : Cut) (new : Deframed)
   pub end : EndsCut cut.fault new.end
 
 -- the piece completes these bodies, which are all answered, and then its frames end so
-pub record TakesPiece (ahead : Bool) (old new : Serving) (piece : List ℕ) (Ends : Option End → Type 0) (seen now : SinkSeen) : Type 0 where
+pub record TakesPiece (looking : Looking) (old new : Serving) (piece : List ℕ) (Ends : Option End → Type 0) (seen now : SinkSeen) : Type 0 where
   pub given : List (List ℕ)
   pub feeds : Feeds old.frames piece given new.frames
   pub end : Ends new.frames.end
-  pub answers : AnswersBodies old.state (looked ahead given) new.state seen now
+  pub answers : AnswersBodies old.state (looked looking given) new.state seen now
 
 -- the piece completes these bodies, of which one ends the session
-pub record EndsInPiece (ahead : Bool) (old new : Serving) (piece : List ℕ) (exit : Ending) (seen now : SinkSeen) : Type 0 where
+pub record EndsInPiece (looking : Looking) (old new : Serving) (piece : List ℕ) (exit : Ending) (seen now : SinkSeen) : Type 0 where
   pub given : List (List ℕ)
   pub feeds : Feeds old.frames piece given new.frames
-  pub ends : EndsSession old.state (looked ahead given) exit seen now
+  pub ends : EndsSession old.state (looked looking given) exit seen now
 
 -- the piece completes these bodies, of which some are answered
-pub record AnswersInPiece (ahead : Bool) (old new : Serving) (piece : List ℕ) (IsPrinted : List ℕ → Type 0) : Type 0 where
+pub record AnswersInPiece (looking : Looking) (old new : Serving) (piece : List ℕ) (IsPrinted : List ℕ → Type 0) : Type 0 where
   pub given : List (List ℕ)
   pub feeds : Feeds old.frames piece given new.frames
-  pub answers : AnswersSome old.state (looked ahead given) IsPrinted
+  pub answers : AnswersSome old.state (looked looking given) IsPrinted
 
 -- how taking a piece ends
-abbrev pub PieceEndsAs : (ahead : Bool) → Serving → Serving → List ℕ → SinkSeen → SinkSeen → PieceEnd → Type 0
-PieceEndsAs ahead old new piece seen now Answered = TakesPiece ahead old new piece IsOpen seen now
-PieceEndsAs ahead old new piece seen now (Faulty at) = TakesPiece ahead old new piece (HasFault at) seen now
-PieceEndsAs ahead old new piece seen now (Exited exit) = EndsInPiece ahead old new piece (said_exit exit) seen now
-PieceEndsAs ahead old new piece seen now WriteFailed = AnswersInPiece ahead old new piece (PrintsFront seen now)
-PieceEndsAs ahead old new piece seen now NoMemory = AnswersInPiece ahead old new piece (PrintsPart seen now) ⊎ (now ≡ seen)
+abbrev pub PieceEndsAs : (looking : Looking) → Serving → Serving → List ℕ → SinkSeen → SinkSeen → PieceEnd → Type 0
+PieceEndsAs looking old new piece seen now Answered = TakesPiece looking old new piece IsOpen seen now
+PieceEndsAs looking old new piece seen now (Faulty at) = TakesPiece looking old new piece (HasFault at) seen now
+PieceEndsAs looking old new piece seen now (Exited exit) = EndsInPiece looking old new piece (said_exit exit) seen now
+PieceEndsAs looking old new piece seen now WriteFailed = AnswersInPiece looking old new piece (PrintsFront seen now)
+PieceEndsAs looking old new piece seen now NoMemory = AnswersInPiece looking old new piece (PrintsPart seen now) ⊎ (now ≡ seen)
 
 -- each body that the piece completes is quiet, so that no macro use is counted; those before were complete in the bytes that were taken
 pub record IsQuietPiece (taken : Deframed) (piece : List ℕ) : Type 0 where
@@ -84,21 +85,21 @@ pub record IsQuietPiece (taken : Deframed) (piece : List ℕ) : Type 0 where
 -- ---- the macro uses that are counted over a piece
 
 -- those of all bodies that the piece completes
-pub record CountsPiece (ahead : Bool) (old new : Serving) (piece : List ℕ) (before now : ℕ) : Type 0 where
+pub record CountsPiece (looking : Looking) (old new : Serving) (piece : List ℕ) (before now : ℕ) : Type 0 where
   pub given : List (List ℕ)
   pub feeds : Feeds old.frames piece given new.frames
-  pub counted : AreCounted (looked_from old.state (looked ahead given)).replies before now
+  pub counted : AreCounted (looked_from old.state (looked looking given)).replies before now
 
 -- those of the first of them, which are answered
-pub record CountsInPiece (ahead : Bool) (old new : Serving) (piece : List ℕ) (IsPrinted : List ℕ → Type 0) (before now : ℕ) : Type 0 where
+pub record CountsInPiece (looking : Looking) (old new : Serving) (piece : List ℕ) (IsPrinted : List ℕ → Type 0) (before now : ℕ) : Type 0 where
   pub given : List (List ℕ)
   pub feeds : Feeds old.frames piece given new.frames
-  pub counts : CountsSome old.state (looked ahead given) IsPrinted before now
+  pub counts : CountsSome old.state (looked looking given) IsPrinted before now
 
 -- taking a piece that ends so counts from one number to another. Where memory runs out nothing is told
-abbrev pub PieceCountsAs : (ahead : Bool) → Serving → Serving → List ℕ → SinkSeen → SinkSeen → (before now : ℕ) → PieceEnd → Type 0
-PieceCountsAs ahead old new piece seen sink before now Answered = CountsPiece ahead old new piece before now
-PieceCountsAs ahead old new piece seen sink before now (Faulty at) = CountsPiece ahead old new piece before now
-PieceCountsAs ahead old new piece seen sink before now (Exited exit) = CountsPiece ahead old new piece before now
-PieceCountsAs ahead old new piece seen sink before now WriteFailed = CountsInPiece ahead old new piece (PrintsFront seen sink) before now
-PieceCountsAs ahead old new piece seen sink before now NoMemory = Unit {0}
+abbrev pub PieceCountsAs : (looking : Looking) → Serving → Serving → List ℕ → SinkSeen → SinkSeen → (before now : ℕ) → PieceEnd → Type 0
+PieceCountsAs looking old new piece seen sink before now Answered = CountsPiece looking old new piece before now
+PieceCountsAs looking old new piece seen sink before now (Faulty at) = CountsPiece looking old new piece before now
+PieceCountsAs looking old new piece seen sink before now (Exited exit) = CountsPiece looking old new piece before now
+PieceCountsAs looking old new piece seen sink before now WriteFailed = CountsInPiece looking old new piece (PrintsFront seen sink) before now
+PieceCountsAs looking old new piece seen sink before now NoMemory = Unit {0}

@@ -1,5 +1,7 @@
 //! Laws of what is written in answer to pieces, each the contract of a function that does nothing.
-ghost use Rattle.std.specs.Prelude.{◌≡◌, ◌++◌, Bool, false, List, ℕ};
+ghost use Rattle.std.specs.Prelude.{◌≡◌, ◌++◌, List, ℕ};
+ghost use Rattle.lookahead.specs.declared.looking.Looking.{Looking};
+ghost use Rattle.lookahead.specs.declared.looking.Looking.TheVariants.{OneByOne};
 ghost use Rattle.lsp_messages.specs.declared.reply.Reply.{Reply};
 ghost use Rattle.ls_outside.specs.Sources.{bytes_of};
 ghost use Rattle.scheme_ls.specs.AheadOutput.{BeginBy, IsOutputBy};
@@ -7,14 +9,14 @@ ghost use Rattle.scheme_ls.specs.SessionOutput.{IsOutputOf, Output, written};
 
 /// Pieces have one output, looked at ahead or not: they have one, and don't have two. Messages that begin it are a front of what is written.
 pub fn one_output_of_pieces()
-    ensures some { (ahead : Bool) (pieces : List (List ℕ)) → (output : Output) × IsOutputBy ahead pieces output }
-    ensures only { (ahead : Bool) (pieces : List (List ℕ)) (one other : Output) → IsOutputBy ahead pieces one → IsOutputBy ahead pieces other
+    ensures some { (looking : Looking) (pieces : List (List ℕ)) → (output : Output) × IsOutputBy looking pieces output }
+    ensures only { (looking : Looking) (pieces : List (List ℕ)) (one other : Output) → IsOutputBy looking pieces one → IsOutputBy looking pieces other
         → one ≡ other }
-    ensures front { (ahead : Bool) (pieces : List (List ℕ)) (messages : List Reply) (output : Output) → BeginBy ahead pieces messages
-        → IsOutputBy ahead pieces output → (rest : List Reply) × (written output ≡ messages ++ rest) }
+    ensures front { (looking : Looking) (pieces : List (List ℕ)) (messages : List Reply) (output : Output) → BeginBy looking pieces messages
+        → IsOutputBy looking pieces output → (rest : List Reply) × (written output ≡ messages ++ rest) }
 {}
 
 /// Where nothing is looked at ahead, how the stream is cut doesn't matter.
 pub fn output_of_bytes()
-    ensures { (pieces : List (List ℕ)) (output : Output) → IsOutputBy false pieces output → IsOutputOf (bytes_of pieces) output }
+    ensures { (pieces : List (List ℕ)) (output : Output) → IsOutputBy OneByOne pieces output → IsOutputOf (bytes_of pieces) output }
 {}

@@ -15,6 +15,7 @@ use crate::answering::Exit;
 use crate::replies::WriteStop;
 use crate::server::{PieceEnd, Server, say_farewell};
 use crate::status::Status;
+use lookahead::Looking;
 use ls_base::Steps;
 use ls_outside::{Got, Sink, Source};
 use lsp_framing::Deframer;
@@ -78,7 +79,7 @@ pub fn serve<I: Source, O: Sink, L: Ledger>(
         (streams (source_seen (I.left input.new) (I.faults input.new) (I.reads input.new))
         (sink_seen (O.taken output.new) (O.faults output.new) (O.writes output.new))) steps.old steps.new result }
 {
-    serve_by(alloc, false, input, output, steps)
+    serve_by(alloc, Looking::OneByOne, input, output, steps)
 }
 
 /// The same, but the bodies that a piece completes are looked at ahead, so that one can cancel a request before it.
@@ -94,18 +95,18 @@ pub fn serve_ahead<I: Source, O: Sink, L: Ledger>(
         (streams (source_seen (I.left input.new) (I.faults input.new) (I.reads input.new))
         (sink_seen (O.taken output.new) (O.faults output.new) (O.writes output.new))) steps.old steps.new result }
 {
-    serve_by(alloc, true, input, output, steps)
+    serve_by(alloc, Looking::Ahead, input, output, steps)
 }
 
-/// A session that looks ahead or doesn't.
+/// A session that looks at the bodies of a piece so.
 fn serve_by<I: Source, O: Sink, L: Ledger>(
     alloc: Global,
-    ahead: bool,
+    looking: Looking,
     input: &mut I,
     output: &mut O,
     steps: &mut Steps<L>,
 ) -> SessionEnd
-    ensures { ServesBy ahead
+    ensures { ServesBy looking
         (streams (source_seen (I.left input.old) (I.faults input.old) (I.reads input.old))
         (sink_seen (O.taken output.old) (O.faults output.old) (O.writes output.old)))
         (streams (source_seen (I.left input.new) (I.faults input.new) (I.reads input.new))
@@ -119,13 +120,13 @@ fn serve_by<I: Source, O: Sink, L: Ledger>(
         session,
         alloc,
     };
-    answer_input(&mut server, ahead, input, output, steps)
+    answer_input(&mut server, looking, input, output, steps)
 }
 
 /// Takes the input piece by piece with a server that has taken nothing yet.
 fn answer_input<I: Source, O: Sink, L: Ledger>(
     server: &mut Server,
-    ahead: bool,
+    looking: Looking,
     input: &mut I,
     output: &mut O,
     steps: &mut Steps<L>,
@@ -133,7 +134,7 @@ fn answer_input<I: Source, O: Sink, L: Ledger>(
     requires start { After [] [] server.old.deframer }
     requires end { server.old.deframer.end ≡ Some (rest []) }
     requires state { server.old.session ≡ begin empty }
-    ensures { ServesBy ahead
+    ensures { ServesBy looking
         (streams (source_seen (I.left input.old) (I.faults input.old) (I.reads input.old))
         (sink_seen (O.taken output.old) (O.faults output.old) (O.writes output.old)))
         (streams (source_seen (I.left input.new) (I.faults input.new) (I.reads input.new))
@@ -146,7 +147,7 @@ fn answer_input<I: Source, O: Sink, L: Ledger>(
         match input.read(&mut buf[..room]) {
             Got::Some(count) => {
                 taken += count as u64;
-                match server.take(&buf[..count], ahead, output, steps) {
+                match server.take(&buf[..count], looking, output, steps) {
                     PieceEnd::Answered => {}
                     PieceEnd::Faulty(fault) => match say_farewell(server.alloc, fault, output) {
                         Ok(()) => return SessionEnd::FrameFault,

@@ -8,7 +8,7 @@ ghost use Rattle.scheme_ls.specs.SessionOutput.{fault_log};
 use crate::answering::{BodiesEnd, Exit, answer_bodies};
 use crate::replies::{WriteStop, write_reply};
 use crate::wording::fault_text;
-use lookahead::Bodies;
+use lookahead::{Bodies, Looking};
 use ls_base::{Items, Mem, Memory, Steps, Text};
 use ls_outside::Sink;
 use lsp_framing::{Deframer, FrameFault};
@@ -83,15 +83,15 @@ impl Server {
     pub fn take<O: Sink, L: Ledger>(
         &mut self,
         piece: &[u8],
-        ahead: bool,
+        looking: Looking,
         output: &mut O,
         steps: &mut Steps<L>,
     ) -> PieceEnd
         requires { self.old.deframer.taken + length piece.now < 2 ^ 64 }
-        ensures takes { PieceEndsAs ahead (serving self.old.deframer self.old.session) (serving self.new.deframer self.new.session)
+        ensures takes { PieceEndsAs looking (serving self.old.deframer self.old.session) (serving self.new.deframer self.new.session)
             piece.now (sink_seen (O.taken output.old) (O.faults output.old) (O.writes output.old))
             (sink_seen (O.taken output.new) (O.faults output.new) (O.writes output.new)) result }
-        ensures counted { PieceCountsAs ahead (serving self.old.deframer self.old.session) (serving self.new.deframer self.new.session)
+        ensures counted { PieceCountsAs looking (serving self.old.deframer self.old.session) (serving self.new.deframer self.new.session)
             piece.now (sink_seen (O.taken output.old) (O.faults output.old) (O.writes output.old))
             (sink_seen (O.taken output.new) (O.faults output.new) (O.writes output.new)) steps.old steps.new result }
         ensures steps { IsQuietPiece self.old.deframer piece.now → steps.new ≡ steps.old }
@@ -99,7 +99,7 @@ impl Server {
         let Ok(Cut { bodies, fault }) = cut_piece(&mut self.deframer, piece) else {
             return PieceEnd::NoMemory;
         };
-        let bodies = Bodies::new(self.alloc, bodies.into_vec(), ahead);
+        let bodies = Bodies::new(self.alloc, bodies.into_vec(), looking);
         match answer_bodies(self.alloc, &mut self.session, bodies, output, steps) {
             BodiesEnd::Answered => match fault {
                 None => PieceEnd::Answered,

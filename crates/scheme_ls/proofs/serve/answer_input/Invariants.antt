@@ -8,7 +8,7 @@ use Rattle.scheme_ls.proofs.serve.answer_input.Given as goal
 
 abbrev pub invariant-loop-taken : goal.invariant-loop-taken
 invariant-loop-taken g l = record {
-  going : GoesUncounted l.fn.ahead
+  going : GoesUncounted l.fn.looking
       (streams (source_seen (g.I.Source.left l.fn.input) (g.I.Source.faults l.fn.input) (g.I.Source.reads l.fn.input))
       (sink_seen (g.O.Sink.taken l.fn.output) (g.O.Sink.faults l.fn.output) (g.O.Sink.writes l.fn.output)))
       (streams (source_seen (g.I.Source.left l.input) (g.I.Source.faults l.input) (g.I.Source.reads l.input))
