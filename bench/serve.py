@@ -16,6 +16,8 @@ long. The peak is the most memory that the process ever had (VmHWM); it may have
   renames    a rename in these two documents that is accepted, beside opening one, and one that each condition refuses which they can
              fail; what the memory grows to by the renames
   many       64 documents of 64 KB: opened one after another, which takes minutes, a change, a question
+  files      `check` of 1, 2, 4, .. 64 files of 64 KB, each beside opening the last of as many documents with their texts, which takes
+             in all of them anew. The peak of `check` may be this script's own, which it begins with
   hostile    texts that are long, deep, at limits, or whose expansion is large: opening one, with its first diagnostic
 """
 import argparse
@@ -439,6 +441,30 @@ class Bench:
             taken, message = client.open(text, "file:///64.scm")
             show("a 65th document", size, seconds(taken), "", megabytes(client.peak()), found(message))
 
+    def files(self):
+        text = padded(procedures(DERIVED, how_many(DERIVED, 65_536)), 65_536)
+        with self.client() as client:
+            for count in range(1, 65):
+                opened = client.open(text, f"file:///{count - 1:02}.scm")[0]
+                if count & (count - 1) == 0:
+                    checked, peak = self.checked(text, count)
+                    beside = f"{checked / opened:.2f} of opening the last of as many documents, {seconds(opened)}"
+                    show(f"check of {count} files", f"{count} × {len(text):,}", seconds(checked), "", megabytes(peak), beside)
+
+    def checked(self, text, count):
+        """The seconds that `check` of so many files with this text takes, and its peak."""
+        with tempfile.TemporaryDirectory() as folder:
+            names = [f"{folder}/{k:02}.scm" for k in range(count)]
+            for name in names:
+                pathlib.Path(name).write_text(text, encoding="utf-8")
+            start = time.perf_counter()
+            with subprocess.Popen([self.program, "check", *names], stdout=subprocess.DEVNULL) as process:
+                _, status, used = os.wait4(process.pid, 0)
+                process.returncode = os.waitstatus_to_exitcode(status)
+            if process.returncode not in (0, 1):
+                raise NoAnswer(f"check ended with status {process.returncode}")
+            return time.perf_counter() - start, used.ru_maxrss / 1024
+
     def hostile(self):
         for name, make in HOSTILE:
             text = make()
@@ -487,7 +513,7 @@ def chez(text, runs):
     return seconds(statistics.median(taken)) if len(taken) == runs else "failed"
 
 
-GROUPS = ["start", "open", "questions", "renames", "many", "hostile"]
+GROUPS = ["start", "open", "questions", "renames", "many", "files", "hostile"]
 
 
 def main():
