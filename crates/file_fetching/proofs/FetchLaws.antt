@@ -4,10 +4,11 @@ use Rattle.std.proofs.lemmas.List.{map-append, take-append-drop, take_more}
 use Rattle.std.specs.List.{AllByRecursion}
 use Rattle.std.specs.declared.vec.Vec.{Vec}
 use Rattle.std.specs.declared.alloc.Global.{Global}
+use Rattle.ls_outside.specs.Calls.{LastTakesNone}
 use Rattle.ls_outside.specs.Files.{FetchTells, Gives}
 use Rattle.ls_outside.specs.declared.files.Fetch.TheVariants as fetch
 use Rattle.file_fetching.specs.FilesSeen.{AsksFor, FilesSeen}
-use Rattle.file_fetching.specs.Fetching.{AreHeld, AsksCalmly, AsksFirst, FetchStopsAs, Fetches, FetchesAll, FetchingEndsAs, IsHeld, IsOver, bytes_in}
+use Rattle.file_fetching.specs.Fetching.{AreHeld, AsksCalmly, AsksFirst, FetchStopsAs, Fetches, FetchesAll, FetchingEndsAs, IsHeld, IsOver, ReadEach, bytes_in}
 use Rattle.file_fetching.specs.declared.fetching.FetchStop.{FetchStop}
 use Rattle.file_fetching.specs.declared.fetching.FetchStop.TheVariants.{Failed, Long, Memory}
 
@@ -43,14 +44,20 @@ held_push (Some held) names contents name content are is =
     ∙ (λ j. are j ++ is j ∷ [])
     ∙ sym (map-append (λ (c : List ℕ). Some c) contents (content ∷ []))
 
+-- they are read one after another
+read_push : (contents : List (List ℕ)) (content : List ℕ) (old mid new : List (List ℕ)) → ReadEach old mid contents → LastTakesNone mid new content → ReadEach old new (contents ++ content ∷ [])
+read_push [] content old mid new all one = (new, subst (λ (from : List (List ℕ)). LastTakesNone from new content) all one, refl)
+read_push (c ∷ cs) content old mid new all one = (all.0, all.1, read_push cs content all.0 mid new all.2 one)
+
 pub fetched_none : (seen : FilesSeen) (max : ℕ) → FetchesAll seen seen [] max []
-fetched_none seen max = record { asks = asks_none seen; no_fault = refl; within_limit = tt; are = none_held seen.held }
+fetched_none seen max = record { asks = asks_none seen; no_fault = refl; reads = refl; within_limit = tt; are = none_held seen.held }
 
 pub fetched_more : (old mid new : FilesSeen) (names contents : List (List ℕ)) (name content : List ℕ) (max : ℕ) → FetchesAll old mid names max contents → Fetches mid new name max content
     → FetchesAll old new (names ++ name ∷ []) max (contents ++ content ∷ [])
 fetched_more old mid new names contents name content max all one = record {
   asks = asks_more old mid new names (name ∷ []) all.asks one.asks;
   no_fault = one.no_fault ∙ all.no_fault;
+  reads = read_push contents content old.reads mid.reads new.reads all.reads one.reads;
   within_limit = all_push (λ c. length c ≤ max) contents content all.within_limit one.within_limit;
   are = held_push old.held names contents name content all.are (let P : Held → Type 0 = λ held. IsHeld held name content in subst P all.asks.held one.is);
 }

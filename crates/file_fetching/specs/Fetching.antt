@@ -5,6 +5,7 @@ use Rattle.std.specs.declared.option.Option.{Option}
 use Rattle.std.specs.declared.result.Result.{Result}
 use Rattle.std.specs.declared.vec.Vec.{Vec}
 use Rattle.std.specs.declared.alloc.Global.{Global}
+use Rattle.ls_outside.specs.Calls.{AllTake, LastTakesNone}
 use Rattle.ls_outside.specs.Counts.{Fails}
 use Rattle.file_fetching.specs.FilesSeen.{AsksFor, FilesSeen}
 use Rattle.file_fetching.specs.declared.fetching.FetchStop.{FetchStop}
@@ -26,22 +27,28 @@ abbrev pub IsOver : Option (List ℕ → Option (List ℕ)) → (name : List ℕ
 IsOver None name max = Unit {0}
 IsOver (Some held) name max = (content : List ℕ) × (held name ≡ Some content) × (max < length content)
 
--- the content was fetched: the name was asked, and no fetch failed
+-- the content was fetched: the name was asked, the reads took this, up to the end, and no fetch failed
 pub record Fetches (old new : FilesSeen) (name : List ℕ) (max : ℕ) (content : List ℕ) : Type 0 where
   pub asks : AsksFor old new (name ∷ [])
   pub no_fault : new.faults ≡ old.faults
+  pub reads : LastTakesNone old.reads new.reads content
   pub within_limit : length content ≤ max
   pub is : IsHeld old.held name content
 
--- the name was asked, and no fetch failed: its content is too long
+-- the name was asked, and no fetch failed: its content is too long, and so much of it was read
 pub record PassesLimit (old new : FilesSeen) (name : List ℕ) (max : ℕ) : Type 0 where
   pub asks : AsksFor old new (name ∷ [])
   pub no_fault : new.faults ≡ old.faults
+  pub bytes : List ℕ
+  pub reads : AllTake old.reads new.reads bytes
+  pub longer : max < length bytes
   pub over : IsOver old.held name max
 
--- the name was asked, and the fetch failed
+-- the name was asked, and the fetch failed, perhaps after some reads
 pub record FailsToFetch (old new : FilesSeen) (name : List ℕ) : Type 0 where
   pub asks : AsksFor old new (name ∷ [])
+  pub bytes : List ℕ
+  pub reads : LastTakesNone old.reads new.reads bytes
   pub failed : Fails old.faults new.faults
 
 -- these names were asked, and no fetch failed
@@ -67,10 +74,16 @@ abbrev pub AreHeld : Option (List ℕ → Option (List ℕ)) → (names contents
 AreHeld None names contents = length contents ≡ length names
 AreHeld (Some held) names contents = map held names ≡ map Some contents
 
--- all contents were fetched: the names were asked, each once and in their order, and no fetch failed
+-- the reads took these contents, one after another, each up to its end
+abbrev pub ReadEach : (old new contents : List (List ℕ)) → Type 0
+ReadEach old new [] = new ≡ old
+ReadEach old new (content ∷ contents) = (mid : List (List ℕ)) × LastTakesNone old mid content × ReadEach mid new contents
+
+-- all contents were fetched: the names were asked, each once and in their order, the reads took these, and no fetch failed
 pub record FetchesAll (old new : FilesSeen) (names : List (List ℕ)) (max : ℕ) (contents : List (List ℕ)) : Type 0 where
   pub asks : AsksFor old new names
   pub no_fault : new.faults ≡ old.faults
+  pub reads : ReadEach old.reads new.reads contents
   pub within_limit : AllByRecursion (λ content. length content ≤ max) contents
   pub are : AreHeld old.held names contents
 

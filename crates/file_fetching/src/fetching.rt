@@ -43,8 +43,8 @@ pub fn fetch_texts<F: Files>(
     names: &[Text],
     files: &mut F,
 ) -> Result<Items<Vec<u8>>, FetchStop>
-    ensures { FetchingEndsAs (files_seen (F.held files.old) (F.asked files.old) (F.faults files.old))
-        (files_seen (F.held files.new) (F.asked files.new) (F.faults files.new)) names.now max_text result }
+    ensures { FetchingEndsAs (files_seen (F.held files.old) (F.asked files.old) (F.reads files.old) (F.faults files.old))
+        (files_seen (F.held files.new) (F.asked files.new) (F.reads files.new) (F.faults files.new)) names.now max_text result }
 {
     let mut contents = Items::new(alloc);
     for name in names {
@@ -56,8 +56,8 @@ pub fn fetch_texts<F: Files>(
 
 /// The content of a file of at most 1,048,576 bytes, which is fetched once.
 pub fn fetch_text<F: Files>(alloc: Global, name: &str, files: &mut F) -> Result<Vec<u8>, FetchStop>
-    ensures { FetchEndsAs (files_seen (F.held files.old) (F.asked files.old) (F.faults files.old))
-        (files_seen (F.held files.new) (F.asked files.new) (F.faults files.new)) name.now max_text result }
+    ensures { FetchEndsAs (files_seen (F.held files.old) (F.asked files.old) (F.reads files.old) (F.faults files.old))
+        (files_seen (F.held files.new) (F.asked files.new) (F.reads files.new) (F.faults files.new)) name.now max_text result }
 {
     fetch(alloc, name, MAX_TEXT, files)
 }
@@ -68,16 +68,16 @@ pub fn fetch_recording<F: Files>(
     name: &str,
     files: &mut F,
 ) -> Result<Vec<u8>, FetchStop>
-    ensures { FetchEndsAs (files_seen (F.held files.old) (F.asked files.old) (F.faults files.old))
-        (files_seen (F.held files.new) (F.asked files.new) (F.faults files.new)) name.now max_recording result }
+    ensures { FetchEndsAs (files_seen (F.held files.old) (F.asked files.old) (F.reads files.old) (F.faults files.old))
+        (files_seen (F.held files.new) (F.asked files.new) (F.reads files.new) (F.faults files.new)) name.now max_recording result }
 {
     fetch(alloc, name, MAX_RECORDING, files)
 }
 
 /// The content of a file of at most `max` bytes, which is fetched once.
 fn fetch<F: Files>(alloc: Global, name: &str, max: u32, files: &mut F) -> Result<Vec<u8>, FetchStop>
-    ensures { FetchEndsAs (files_seen (F.held files.old) (F.asked files.old) (F.faults files.old))
-        (files_seen (F.held files.new) (F.asked files.new) (F.faults files.new)) name.now max result }
+    ensures { FetchEndsAs (files_seen (F.held files.old) (F.asked files.old) (F.reads files.old) (F.faults files.old))
+        (files_seen (F.held files.new) (F.asked files.new) (F.reads files.new) (F.faults files.new)) name.now max result }
 {
     match files.fetch(alloc, name, max) {
         Fetch::Bytes(content) => Ok(content),

@@ -31,6 +31,9 @@ std_sink_writes sink = sink.writes.pieces
 abbrev pub std_files_asked : {R A B : Type 0} → StdFiles R A B → List (List ℕ)
 std_files_asked files = files.asked.pieces
 
+abbrev pub std_files_reads : {R A B : Type 0} → StdFiles R A B → List (List ℕ)
+std_files_reads files = files.reads.pieces
+
 abbrev pub std_files_faults : {R A B : Type 0} → StdFiles R A B → ℕ
 std_files_faults files = files.failed
 

@@ -25,3 +25,6 @@ sure_held files = Some (content_or_empty files.contents)
 
 abbrev pub sure_asked : SureFiles → List (List ℕ)
 sure_asked files = files.asked.pieces
+
+abbrev pub sure_files_reads : SureFiles → List (List ℕ)
+sure_files_reads files = files.reads.pieces

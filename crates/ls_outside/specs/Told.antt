@@ -65,6 +65,9 @@ files_held files = Some (content_of files.contents)
 abbrev pub files_asked : MemFiles → List (List ℕ)
 files_asked files = files.asked.pieces
 
+abbrev pub files_reads : MemFiles → List (List ℕ)
+files_reads files = files.reads.pieces
+
 abbrev pub files_plan : MemFiles → Plan
 files_plan files = files.plan
 

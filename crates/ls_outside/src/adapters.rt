@@ -13,6 +13,7 @@ use crate::{Fetch, Files, Got, Put, Record, Sink, Source};
 use std::alloc::Global;
 use std::fs;
 use std::io::{Read, Write};
+use std::mem;
 
 /// A reader as a source.
 #[derive(Drop)]
@@ -25,6 +26,19 @@ pub struct StdSource<R: Read> {
 impl<R: Read> StdSource<R> {
     ghost use Rattle.std.specs.Prelude.{[]};
     ghost use Rattle.ls_outside.specs.Adapters.{GotPasses, reader_of, std_source_faults, std_source_reads};
+
+    /// A source that goes on with notes of reads.
+    fn with(reader: R, reads: Record) -> StdSource<R>
+        ensures reader { reader_of result ≡ reader }
+        ensures calm { std_source_faults result ≡ 0 }
+        ensures reads { std_source_reads result ≡ reads.pieces }
+    {
+        StdSource {
+            reader,
+            failed: 0,
+            reads,
+        }
+    }
 
     pub fn new(reader: R) -> StdSource<R>
         ensures reader { reader_of result ≡ reader }
@@ -141,43 +155,65 @@ pub struct StdFiles<R: std::rt::Files> {
     runtime: R,
     failed: u64,
     asked: Record,
+    reads: Record,
 }
 
 impl<R: std::rt::Files> StdFiles<R> {
     ghost use Rattle.std.specs.Prelude.{[]};
-    ghost use Rattle.ls_outside.specs.Adapters.{std_files_asked, std_files_faults};
+    ghost use Rattle.ls_outside.specs.Adapters.{std_files_asked, std_files_faults, std_files_reads};
+    ghost use Rattle.ls_outside.specs.Files.{FetchCounts};
 
     pub fn new(runtime: R) -> StdFiles<R>
         ensures calm { std_files_faults result ≡ 0 }
         ensures unasked { std_files_asked result ≡ [] }
+        ensures unread { std_files_reads result ≡ [] }
     {
         StdFiles {
             runtime,
             failed: 0,
             asked: Record::new(),
+            reads: Record::new(),
         }
+    }
+
+    /// Fetches, and counts a fault.
+    fn attempt(&mut self, alloc: Global, name: &str, max: u32) -> Fetch
+        ensures within { FetchWithin result max }
+        ensures asked { std_files_asked self.new ≡ std_files_asked self.old }
+        ensures gives { GivesRead (std_files_reads self.old) (std_files_reads self.new) max result }
+        ensures counts { FetchCounts (std_files_faults self.old) (std_files_faults self.new) result }
+    {
+        let Ok(file) = fs::open(&self.runtime, name) else {
+            self.reads.note(&[]);
+            count_fault(&mut self.failed);
+            return Fetch::Failed;
+        };
+        let reads = mem::replace(&mut self.reads, Record::new());
+        let mut source = StdSource::with(file, reads);
+        let answer = read_whole(alloc, &mut source, max);
+        let StdSource { reads, .. } = source;
+        self.reads = reads;
+        if matches!(&answer, Fetch::Failed) {
+            count_fault(&mut self.failed);
+        }
+        answer
     }
 }
 
 impl<R: std::rt::Files> Files for StdFiles<R> {
-    ghost use Rattle.ls_outside.specs.Adapters.{std_files_asked, std_files_faults};
+    ghost use Rattle.ls_outside.specs.Adapters.{std_files_asked, std_files_faults, std_files_reads};
 
     ghost held = { λ _. None };
 
     ghost asked = { std_files_asked };
 
+    ghost reads = { std_files_reads };
+
     ghost faults = { std_files_faults };
 
     fn fetch(&mut self, alloc: Global, name: &str, max: u32) -> Fetch {
         self.asked.note(name.as_bytes());
-        if let Ok(file) = fs::open(&self.runtime, name) {
-            let answer = read_whole(alloc, &mut StdSource::new(file), max);
-            if !matches!(&answer, Fetch::Failed) {
-                return answer;
-            }
-        }
-        count_fault(&mut self.failed);
-        Fetch::Failed
+        self.attempt(alloc, name, max)
     }
 }
 

@@ -1,6 +1,6 @@
 //! The files that words name.
 ghost use Rattle.std.specs.Prelude.{◌≡◌, ◌++◌, ◌∷◌, [], Option, List, ℕ};
-ghost use Rattle.ls_outside.specs.Files.{FetchCounts, FetchTells, FetchWithin};
+ghost use Rattle.ls_outside.specs.Files.{FetchCounts, FetchTells, FetchWithin, GivesRead};
 
 use std::alloc::Global;
 
@@ -25,6 +25,9 @@ pub trait Files {
     /// The names asked so far, in their order.
     ghost asked: { Self → List (List ℕ) };
 
+    /// What each read of a file so far took: nothing where it ended or failed, or where there was no file to read.
+    ghost reads: { Self → List (List ℕ) };
+
     /// How often a fetch has failed.
     ghost faults: { Self → ℕ };
 
@@ -34,5 +37,6 @@ pub trait Files {
         ensures tells { FetchTells (held self.old) name.now max result }
         ensures stays { held self.new ≡ held self.old }
         ensures asks { asked self.new ≡ asked self.old ++ name.now ∷ [] }
+        ensures gives { GivesRead (reads self.old) (reads self.new) max result }
         ensures counts { FetchCounts (faults self.old) (faults self.new) result };
 }

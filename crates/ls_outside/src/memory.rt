@@ -2,7 +2,7 @@
 ghost use Rattle.std.specs.Prelude.{◌≡◌, ◌+◌, ◌<◌, ◌≤◌, ◌↔◌, Some, length, vec_capacity, vec_len};
 ghost use Rattle.ls_outside.specs.Sources.{GotCounts, GotNotes, GotTakes, GotWithin};
 ghost use Rattle.ls_outside.specs.Sinks.{PutCounts, PutNotes, PutTakes, PutWithin};
-ghost use Rattle.ls_outside.specs.Files.{FetchCounts, FetchTells, FetchWithin};
+ghost use Rattle.ls_outside.specs.Files.{FetchCounts, FetchTells, FetchWithin, GivesRead};
 
 use crate::faults::count_fault;
 use crate::held::copy_of;
@@ -155,6 +155,7 @@ impl Sink for MemSink {
 pub struct MemFiles {
     contents: Contents,
     asked: Record,
+    reads: Record,
     plan: Plan,
     failed: u64,
 }
@@ -162,17 +163,19 @@ pub struct MemFiles {
 impl MemFiles {
     ghost use Rattle.std.specs.Prelude.{[]};
     ghost use Rattle.ls_outside.specs.FilesInMemory.{content_of};
-    ghost use Rattle.ls_outside.specs.Told.{files_asked, files_faults, files_held, files_plan};
+    ghost use Rattle.ls_outside.specs.Told.{files_asked, files_faults, files_held, files_plan, files_reads};
 
     pub fn new(contents: Contents, plan: Plan) -> MemFiles
         ensures held { files_held result ≡ Some (content_of contents) }
         ensures asked { files_asked result ≡ [] }
+        ensures unread { files_reads result ≡ [] }
         ensures plan { files_plan result ≡ plan }
         ensures calm { files_faults result ≡ 0 }
     {
         MemFiles {
             contents,
             asked: Record::new(),
+            reads: Record::new(),
             plan,
             failed: 0,
         }
@@ -182,11 +185,13 @@ impl MemFiles {
 impl Files for MemFiles {
     ghost use Rattle.std.specs.Prelude.{◌++◌, ◌∷◌, []};
     ghost use Rattle.ls_outside.specs.Plans.{CountsCall};
-    ghost use Rattle.ls_outside.specs.Told.{FilesAnswer, files_asked, files_faults, files_held, files_plan};
+    ghost use Rattle.ls_outside.specs.Told.{FilesAnswer, files_asked, files_faults, files_held, files_plan, files_reads};
 
     ghost held = { files_held };
 
     ghost asked = { files_asked };
+
+    ghost reads = { files_reads };
 
     ghost faults = { files_faults };
 
@@ -195,18 +200,21 @@ impl Files for MemFiles {
         ensures tells { FetchTells (files_held self.old) name.now max result }
         ensures stays { files_held self.new ≡ files_held self.old }
         ensures asks { files_asked self.new ≡ files_asked self.old ++ name.now ∷ [] }
+        ensures gives { GivesRead (files_reads self.old) (files_reads self.new) max result }
         ensures counts { FetchCounts (files_faults self.old) (files_faults self.new) result }
         ensures planned { FilesAnswer self.old name.now result }
         ensures plan { CountsCall (files_plan self.old) (files_plan self.new) }
     {
         self.asked.note(name.as_bytes());
         if self.plan.next_fails() {
+            self.reads.note(&[]);
             count_fault(&mut self.failed);
             return Fetch::Failed;
         }
-        match copy_of(alloc, &self.contents, name, max) {
+        match copy_of(alloc, &self.contents, name, max, &mut self.reads) {
             Some(copy) => copy,
             None => {
+                self.reads.note(&[]);
                 count_fault(&mut self.failed);
                 Fetch::Failed
             }

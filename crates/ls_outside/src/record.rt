@@ -1,6 +1,7 @@
 //! Pieces of bytes that only clauses read.
 ghost use Rattle.std.specs.Prelude.{◌≡◌, ◌++◌, ◌∷◌, [], List, ℕ};
 ghost use Rattle.std.specs.Borrow.{ftrue};
+ghost use Rattle.ls_outside.specs.Calls.{AllTake, LastTakesNone};
 ghost use Rattle.ls_outside.specs.Sources.{GotNotes, GotWithin};
 ghost use Rattle.ls_outside.specs.Sinks.{PutNotes, PutWithin};
 
@@ -54,4 +55,21 @@ pub(crate) fn note_write(writes: &mut Record, put: Put, bytes: &[u8])
         Put::Some(count) => writes.note(&bytes[..count]),
         Put::Failed => writes.note(&[]),
     }
+}
+
+/// Notes that some bytes were taken, by one call if there are any.
+pub(crate) fn note_some(reads: &mut Record, bytes: &[u8])
+    ensures { AllTake reads.old.pieces reads.new.pieces bytes.now }
+{
+    if !bytes.is_empty() {
+        reads.note(bytes);
+    }
+}
+
+/// Notes that they were taken, and that the next call found the end.
+pub(crate) fn note_whole(reads: &mut Record, bytes: &[u8])
+    ensures { LastTakesNone reads.old.pieces reads.new.pieces bytes.now }
+{
+    note_some(reads, bytes);
+    reads.note(&[]);
 }

@@ -88,38 +88,46 @@ impl Sink for SureSink {
 pub struct SureFiles {
     contents: Contents,
     asked: Record,
+    reads: Record,
 }
 
 impl SureFiles {
     ghost use Rattle.std.specs.Prelude.{[]};
     ghost use Rattle.ls_outside.specs.FilesInMemory.{content_or_empty};
-    ghost use Rattle.ls_outside.specs.SureTold.{sure_asked, sure_held};
+    ghost use Rattle.ls_outside.specs.SureTold.{sure_asked, sure_files_reads, sure_held};
 
     pub fn new(contents: Contents) -> SureFiles
         ensures held { sure_held result ≡ Some (content_or_empty contents) }
         ensures asked { sure_asked result ≡ [] }
+        ensures unread { sure_files_reads result ≡ [] }
     {
         SureFiles {
             contents,
             asked: Record::new(),
+            reads: Record::new(),
         }
     }
 }
 
 impl Files for SureFiles {
-    ghost use Rattle.ls_outside.specs.SureTold.{sure_asked, sure_held};
+    ghost use Rattle.ls_outside.specs.SureTold.{sure_asked, sure_files_reads, sure_held};
 
     ghost held = { sure_held };
 
     ghost asked = { sure_asked };
 
+    ghost reads = { sure_files_reads };
+
     ghost faults = { λ _. 0 };
 
     fn fetch(&mut self, alloc: Global, name: &str, max: u32) -> Fetch {
         self.asked.note(name.as_bytes());
-        match copy_of(alloc, &self.contents, name, max) {
+        match copy_of(alloc, &self.contents, name, max, &mut self.reads) {
             Some(copy) => copy,
-            None => Fetch::Bytes(Vec::new(alloc)),
+            None => {
+                self.reads.note(&[]);
+                Fetch::Bytes(Vec::new(alloc))
+            }
         }
     }
 }

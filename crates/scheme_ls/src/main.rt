@@ -68,10 +68,10 @@ fn run_counted<I: Source, O: Sink, F: Files, L: Ledger>(
     ensures { (steps : ℕ) × RunEnds (texts (drop 1 arguments.now))
         (seen (source_seen (I.left input.old) (I.faults input.old) (I.reads input.old))
         (sink_seen (O.taken output.old) (O.faults output.old) (O.writes output.old))
-        (files_seen (F.held files.old) (F.asked files.old) (F.faults files.old)) 0)
+        (files_seen (F.held files.old) (F.asked files.old) (F.reads files.old) (F.faults files.old)) 0)
         (seen (source_seen (I.left input.new) (I.faults input.new) (I.reads input.new))
         (sink_seen (O.taken output.new) (O.faults output.new) (O.writes output.new))
-        (files_seen (F.held files.new) (F.asked files.new) (F.faults files.new)) steps) result }
+        (files_seen (F.held files.new) (F.asked files.new) (F.reads files.new) (F.faults files.new)) steps) result }
 {
     let mut steps = Steps::<L>::new(blank);
     run::run(alloc, words_of(arguments), input, output, files, &mut steps)

@@ -26,8 +26,8 @@ pub fn replay<O: Sink, F: Files, L: Ledger>(
     steps: &mut Steps<L>,
 ) -> Status
     ensures { ReplayEndsAs name.now
-        (work_seen (files_seen (F.held files.old) (F.asked files.old) (F.faults files.old)) (sink_seen (O.taken output.old) (O.faults output.old) (O.writes output.old)) steps.old)
-        (work_seen (files_seen (F.held files.new) (F.asked files.new) (F.faults files.new)) (sink_seen (O.taken output.new) (O.faults output.new) (O.writes output.new)) steps.new) result }
+        (work_seen (files_seen (F.held files.old) (F.asked files.old) (F.reads files.old) (F.faults files.old)) (sink_seen (O.taken output.old) (O.faults output.old) (O.writes output.old)) steps.old)
+        (work_seen (files_seen (F.held files.new) (F.asked files.new) (F.reads files.new) (F.faults files.new)) (sink_seen (O.taken output.new) (O.faults output.new) (O.writes output.new)) steps.new) result }
 {
     let recording = match fetch_recording(alloc, name.as_str(), files) {
         Ok(recording) => recording,

@@ -32,10 +32,10 @@ pub fn run<I: Source, O: Sink, F: Files, L: Ledger>(
     ensures { RunEnds (texts words.now)
         (seen (source_seen (I.left input.old) (I.faults input.old) (I.reads input.old))
         (sink_seen (O.taken output.old) (O.faults output.old) (O.writes output.old))
-        (files_seen (F.held files.old) (F.asked files.old) (F.faults files.old)) steps.old)
+        (files_seen (F.held files.old) (F.asked files.old) (F.reads files.old) (F.faults files.old)) steps.old)
         (seen (source_seen (I.left input.new) (I.faults input.new) (I.reads input.new))
         (sink_seen (O.taken output.new) (O.faults output.new) (O.writes output.new))
-        (files_seen (F.held files.new) (F.asked files.new) (F.faults files.new)) steps.new) result }
+        (files_seen (F.held files.new) (F.asked files.new) (F.reads files.new) (F.faults files.new)) steps.new) result }
 {
     let Ok(command) = command_of(alloc, words) else {
         return Status::NoMemory.code();
@@ -57,10 +57,10 @@ fn obey<I: Source, O: Sink, F: Files, L: Ledger>(
     ensures { CommandEndsAs command.now
         (seen (source_seen (I.left input.old) (I.faults input.old) (I.reads input.old))
         (sink_seen (O.taken output.old) (O.faults output.old) (O.writes output.old))
-        (files_seen (F.held files.old) (F.asked files.old) (F.faults files.old)) steps.old)
+        (files_seen (F.held files.old) (F.asked files.old) (F.reads files.old) (F.faults files.old)) steps.old)
         (seen (source_seen (I.left input.new) (I.faults input.new) (I.reads input.new))
         (sink_seen (O.taken output.new) (O.faults output.new) (O.writes output.new))
-        (files_seen (F.held files.new) (F.asked files.new) (F.faults files.new)) steps.new) result }
+        (files_seen (F.held files.new) (F.asked files.new) (F.reads files.new) (F.faults files.new)) steps.new) result }
 {
     match command {
         Command::Arrows => arrows(alloc, input, output, steps).status(),

@@ -25,8 +25,8 @@ pub fn check<O: Sink, F: Files, L: Ledger>(
 ) -> Status
     requires { length names.now ≤ max_documents }
     ensures { CheckEndsAs names.now
-        (work_seen (files_seen (F.held files.old) (F.asked files.old) (F.faults files.old)) (sink_seen (O.taken output.old) (O.faults output.old) (O.writes output.old)) steps.old)
-        (work_seen (files_seen (F.held files.new) (F.asked files.new) (F.faults files.new)) (sink_seen (O.taken output.new) (O.faults output.new) (O.writes output.new)) steps.new) result }
+        (work_seen (files_seen (F.held files.old) (F.asked files.old) (F.reads files.old) (F.faults files.old)) (sink_seen (O.taken output.old) (O.faults output.old) (O.writes output.old)) steps.old)
+        (work_seen (files_seen (F.held files.new) (F.asked files.new) (F.reads files.new) (F.faults files.new)) (sink_seen (O.taken output.new) (O.faults output.new) (O.writes output.new)) steps.new) result }
 {
     let contents = match fetch_texts(alloc, names, files) {
         Ok(contents) => contents,
@@ -49,8 +49,8 @@ pub fn rename<O: Sink, F: Files, L: Ledger>(
     steps: &mut Steps<L>,
 ) -> Status
     ensures { RenameEndsAs name.now position new_name.now
-        (work_seen (files_seen (F.held files.old) (F.asked files.old) (F.faults files.old)) (sink_seen (O.taken output.old) (O.faults output.old) (O.writes output.old)) steps.old)
-        (work_seen (files_seen (F.held files.new) (F.asked files.new) (F.faults files.new)) (sink_seen (O.taken output.new) (O.faults output.new) (O.writes output.new)) steps.new) result }
+        (work_seen (files_seen (F.held files.old) (F.asked files.old) (F.reads files.old) (F.faults files.old)) (sink_seen (O.taken output.old) (O.faults output.old) (O.writes output.old)) steps.old)
+        (work_seen (files_seen (F.held files.new) (F.asked files.new) (F.reads files.new) (F.faults files.new)) (sink_seen (O.taken output.new) (O.faults output.new) (O.writes output.new)) steps.new) result }
 {
     let content = match fetch_text(alloc, name.as_str(), files) {
         Ok(content) => content,
