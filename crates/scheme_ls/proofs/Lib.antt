@@ -16,4 +16,5 @@ pub mod SomeOutput  -- Each stream has an output
 pub mod AloneLaws  -- A text alone, opened where no document was open
 pub mod OneText  -- A text has one answer
 pub mod WorkLaws  -- How a command ends that works on files, or on a workspace made of a number, once its lines were printed or memory ran out
+pub mod Obeyed  -- A command ended, so it ended as that command does
 pub mod Causes  -- What the number of a run tells of its cause
