@@ -11,6 +11,6 @@ pub returns-clause-gives : goal.returns-clause-gives
 returns-clause-gives g c =
     let from = sym (c.with-source.ensures.reads ∙ ap (λ (r : Record). r.pieces) c.replace-reads.ensures.value) in
     elim c.if-matches.branch [
-      then-matches w ↦ rw (w.self-is, from) c.read_whole-answer.ensures.read
-    | else-matches w ↦ rw (w.self-is, from) c.read_whole-answer.ensures.read
+      | then-matches w ↦ rw (w.self-is, from) c.read_whole-answer.ensures.read
+      | else-matches w ↦ rw (w.self-is, from) c.read_whole-answer.ensures.read
     ]
