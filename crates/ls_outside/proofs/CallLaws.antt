@@ -43,6 +43,15 @@ take_then a b c x y first second = record {
 pub take_one : (a b : List (List ℕ)) (bytes : List ℕ) (n : ℕ) → b ≡ a ++ take n bytes ∷ [] → 1 ≤ n → n ≤ length bytes → AllTake a b (take n bytes)
 take_one a b bytes n noted some within = record { take = call_one a b (take n bytes) noted; some = (let l = length-take n bytes in omega arith, tt) }
 
+-- one call that takes some bytes
+pub take_all_of : (a b : List (List ℕ)) (bytes : List ℕ) → b ≡ a ++ bytes ∷ [] → 0 < length bytes → AllTake a b bytes
+take_all_of a b bytes noted some = record { take = call_one a b bytes noted; some = (some, tt) }
+
+-- no bytes, and no call
+pub take_no : (a : List (List ℕ)) (bytes : List ℕ) → length bytes ≡ 0 → AllTake a a bytes
+take_no a [] none = take_none a
+take_no a (byte ∷ bytes) none = absurd (omega (arith, none))
+
 -- ---- a last call
 
 pub last_then : (a b c : List (List ℕ)) (x y last : List ℕ) → AllTake a b x → LastTakes b c y last → LastTakes a c (x ++ y) last
@@ -65,3 +74,7 @@ last_is_made a b x last l same =
     let more = ap length l.earlier.take.more ∙ length-append a l.earlier.take.calls in
     let one = ap length l.call ∙ length-append l.mid (last ∷ []) in
     absurd (omega (arith, more, one, ap length same))
+
+-- the only call took nothing
+pub took_none : (a b : List (List ℕ)) → b ≡ a ++ [] ∷ [] → LastTakesNone a b []
+took_none a b noted = last_after a a b [] [] (take_none a) noted

@@ -11,9 +11,8 @@ use crate::record::{note_read, note_write};
 use crate::room::keep;
 use crate::{Fetch, Files, Got, Put, Record, Sink, Source};
 use std::alloc::Global;
-use std::fs;
 use std::io::{Read, Write};
-use std::mem;
+use std::{fs, mem};
 
 /// A reader as a source.
 #[derive(Drop)]
