@@ -11,6 +11,7 @@ use Rattle.file_fetching.specs.declared.fetching.FetchStop.{FetchStop}
 use Rattle.file_fetching.specs.declared.fetching.FetchStop.TheVariants as fetch
 use Rattle.file_commands.specs.declared.renaming.Renamed.{Renamed}
 use Rattle.file_commands.specs.declared.renaming.Renamed.TheVariants as renamed
+use Rattle.lookahead.specs.declared.looking.Looking.TheVariants.{Ahead}
 use Rattle.scheme_ls.specs.AheadOutcome.{PiecesEndAs, ServeEndsBy}
 use Rattle.scheme_ls.specs.ArrowsOutcome.{ArrowsEndsAs}
 use Rattle.scheme_ls.specs.Prints.{SinkSeen}
@@ -86,7 +87,7 @@ serve_read old new bytes serve.NoMemory ends is = absurd (omega (arith, is))
 serve_read old new bytes serve.FrameFault ends is = absurd (omega (arith, is))
 serve_read old new bytes serve.Endless ends is = absurd (omega (arith, is))
 
-ahead_read : (old new : Streams) (pieces : List (List ℕ)) (end : SessionEnd) → PiecesEndAs true old new pieces end → 3 ≡ code_of (session_status end) → Fails old.source.faults new.source.faults
+ahead_read : (old new : Streams) (pieces : List (List ℕ)) (end : SessionEnd) → PiecesEndAs Ahead old new pieces end → 3 ≡ code_of (session_status end) → Fails old.source.faults new.source.faults
 ahead_read old new pieces (serve.Exited exits.Clean) ends is = absurd (omega (arith, is))
 ahead_read old new pieces (serve.Exited exits.Early) ends is = absurd (omega (arith, is))
 ahead_read old new pieces serve.InputEnded ends is = absurd (omega (arith, is))
@@ -193,7 +194,7 @@ serve_fail old new serve.NoMemory ends is = absurd (omega (arith, is))
 serve_fail old new serve.FrameFault ends is = absurd (omega (arith, is))
 serve_fail old new serve.Endless ends is = absurd (omega (arith, is))
 
-ahead_fail : (old new : Streams) (end : SessionEnd) → ServeEndsBy true old new end → 5 ≡ code_of (session_status end) → Fails old.sink.faults new.sink.faults
+ahead_fail : (old new : Streams) (end : SessionEnd) → ServeEndsBy Ahead old new end → 5 ≡ code_of (session_status end) → Fails old.sink.faults new.sink.faults
 ahead_fail old new (serve.Exited exits.Clean) ends is = absurd (omega (arith, is))
 ahead_fail old new (serve.Exited exits.Early) ends is = absurd (omega (arith, is))
 ahead_fail old new serve.InputEnded ends is = absurd (omega (arith, is))
