@@ -79,9 +79,9 @@ fn open_file(store: &mut Store, name: &Text, content: &[u8]) -> Mem<()>
     match store.add(name.as_str(), VERSION, text) {
         Ok(()) => Ok(()),
         Err(StoreFault::Memory) => Err(Memory),
-        Err(StoreFault::NotOpen | StoreFault::BadRange | StoreFault::TooLong | StoreFault::TooMany) => {
-            unreachable!()
-        }
+        Err(
+            StoreFault::NotOpen | StoreFault::BadRange | StoreFault::TooLong | StoreFault::TooMany,
+        ) => { unreachable!() }
     }
 }
 

@@ -109,7 +109,7 @@ pub record RenamesFile (name : List ℕ) (position : Pos) (new_name : List ℕ) 
   pub r : Reader
   pub rules : IsReader r
   pub ends : let renamed = renamed_in r name content position new_name in
-    WorkEndsAs (renamed_lines renamed) (rename_status renamed) (renaming_uses r name content position new_name) old new status
+      WorkEndsAs (renamed_lines renamed) (rename_status renamed) (renaming_uses r name content position new_name) old new status
 
 abbrev pub RenameEndsAs : (name : List ℕ) → Pos → (new_name : List ℕ) → WorkSeen → WorkSeen → Status → Type 0
 RenameEndsAs name position new_name old new status = RenamesFile name position new_name old new status ⊎ StopsAtFile name max_text old new status

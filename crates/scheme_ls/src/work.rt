@@ -33,7 +33,11 @@ pub fn check<O: Sink, F: Files, L: Ledger>(
         Err(stop) => return Status::of_fetch(stop),
     };
     match check_files(alloc, names, contents.as_slice(), steps) {
-        Ok(checked) => print_lines(checked.lines.as_str(), status_of_check(checked.has_error), output),
+        Ok(checked) => print_lines(
+            checked.lines.as_str(),
+            status_of_check(checked.has_error),
+            output,
+        ),
         Err(Memory) => Status::NoMemory,
     }
 }
