@@ -6,6 +6,7 @@ use Rattle.lookahead.specs.Looked.{Looked, looked}
 use Rattle.lookahead.specs.declared.looking.Looking.{Looking}
 use Rattle.lsp_framing.specs.Feeds.{Feeds}
 use Rattle.lsp_framing.specs.Taken.{contents}
+use Rattle.scheme_model.specs.Session.{Ending}
 use Rattle.scheme_ls.specs.BodiesOutcome.{AnswersBodies, AnswersSome, EndsSession}
 use Rattle.scheme_ls.specs.PieceOutcome.{AnswersInPiece, EndsCut, EndsInPiece, Serving, TakesPiece}
 use Rattle.scheme_ls.specs.Prints.{SinkSeen}
@@ -33,6 +34,10 @@ answers_some : {looking : Looking} (old new : Serving) (piece : List ℕ) (bodie
     AnswersSome old.state bodies IsPrinted → AnswersInPiece looking old new piece IsPrinted
 answers_some old new piece bodies given IsPrinted feeds same answers = record { given = given; feeds = feeds; answers = subst (λ (all : List Looked). AnswersSome old.state all IsPrinted) same answers }
 
+ends_session : {looking : Looking} (old new : Serving) (piece : List ℕ) (bodies : List Looked) (given : List (List ℕ)) (exit : Ending) (seen now : SinkSeen) → Feeds old.frames piece given new.frames → bodies ≡ looked looking given →
+    EndsSession old.state bodies exit seen now → EndsInPiece looking old new piece exit seen now
+ends_session old new piece bodies given exit seen now feeds same ends = record { given = given; feeds = feeds; ends = subst (λ (all : List Looked). EndsSession old.state all exit seen now) same ends }
+
 pub returns-in_default-clause-takes : goal.returns-in_default-clause-takes
 returns-in_default-clause-takes g c = inr refl
 
@@ -47,11 +52,8 @@ returns-in-Some-clause-takes g c =
     (same g (goal.at.returns-in-Some-clause-takes g c).After-answer_bodies) c.in-Answered.ensures.answers
 
 pub returns-in-Exited-clause-takes : goal.returns-in-Exited-clause-takes
-returns-in-Exited-clause-takes g c = record {
-  given = contents c.in-Ok.field-0.bodies;
-  feeds = c.in-Ok.ensures.feeds;
-  ends = subst (λ (all : List Looked). EndsSession c.args.self.now.session all _ _ _) (same g (goal.at.returns-in-Exited-clause-takes g c).After-answer_bodies) c.in-Exited.ensures.answers;
-}
+returns-in-Exited-clause-takes g c =
+    ends_session _ _ _ _ _ _ _ _ c.in-Ok.ensures.feeds (same g (goal.at.returns-in-Exited-clause-takes g c).After-answer_bodies) c.in-Exited.ensures.answers
 
 pub returns-in-WriteFailed-clause-takes : goal.returns-in-WriteFailed-clause-takes
 returns-in-WriteFailed-clause-takes g c = answers_some _ _ _ _ _ _ c.in-Ok.ensures.feeds (same g (goal.at.returns-in-WriteFailed-clause-takes g c).After-answer_bodies) c.in-WriteFailed.ensures.answers
