@@ -15,8 +15,8 @@ returns g c = λ files bytes cut.
     let old = work_seen files (sink_seen (g.O.Sink.taken a.output.now) (g.O.Sink.faults a.output.now) (g.O.Sink.writes a.output.now)) a.steps.now in
     let o = c.serve.new.output in
     let new = work_seen files (sink_seen (g.O.Sink.taken o) (g.O.Sink.faults o) (g.O.Sink.writes o)) c.serve.new.steps in
-    let before = c.new.result in
+    let before = c.new-source.result in
     let after = c.serve.new.input in
     subst (λ (s : Status). Replays bytes old new s) (sym c.status.ensures)
     (replays bytes (pieces_left a.pieces) old new (source_seen (sure_left before) 0 (sure_reads before)) (source_seen (sure_left after) 0 (sure_reads after)) c.serve.result cut
-    (λ j. source_seen (c.new.ensures.left j) 0 (c.new.ensures.unread j)) refl c.serve.ensures)
+    (λ j. source_seen (c.new-source.ensures.left j) 0 (c.new-source.ensures.unread j)) refl c.serve.ensures)
