@@ -18,6 +18,7 @@ import scripts  # noqa: E402
 
 USAGE = b"""\
 usage: scheme_ls serve
+       scheme_ls serve --ahead
        scheme_ls replay FILE
        scheme_ls arrows
        scheme_ls check FILE...
