@@ -1,11 +1,12 @@
 //! Laws of the definitions. Each is the contract of a function that does nothing.
-ghost use Rattle.std.specs.Prelude.{◌≡◌, ℕ, Ok};
-ghost use Rattle.scheme_model.specs.Ident.{Ident as Identifier};
-ghost use Rattle.scheme_model.specs.Trees.{Tree};
+ghost use Rattle.std.specs.Prelude.{◌≡◌, ℕ, List, [], Ok};
+ghost use Rattle.scheme_model.specs.Ident.{Ident as Identifier, Written};
+ghost use Rattle.scheme_model.specs.Trees.{Tree, map_tree};
 ghost use Rattle.scheme_model.specs.Order.{Left};
+ghost use Rattle.scheme_model.specs.ScopedExpansion.{ScopedState};
 ghost use Rattle.scheme_model.specs.Questions.{Around, SameAnswer};
 ghost use Rattle.scheme_model.specs.FormsAlike.{bound_moved, left_with, parts_with, or_fault, moved_by, set_aside, finish, set_aside_asking, finish_asking, questions_of_pass, questions_of_left, IsSetAside, IsFinished, SameAside, SameFinish};
-ghost use Rattle.form_laws.specs.Begins.{Each, FormBegins, LeftBegins, SameForm};
+ghost use Rattle.form_laws.specs.Begins.{Each, TreeWith, IsRooted, IsEntry, Begins, FormBegins, LeftBegins, SameForm};
 
 /// A form of a unit comes to the same in two surroundings in which its questions have the same answers (R7RS 4.3, 5.3): going through it sets
 /// the same aside, up to the numbers of the unit's definitions, which move with how many the unit has before the form, and notes,
@@ -28,4 +29,11 @@ pub fn forms_are_told_by_questions()
         let p = set_aside_asking w turns t in IsSetAside v p (or_fault (left_with (moved_by w v)) p.0.left) (set_aside v turns t) }
     ensures finished_there { (w v : Around) (turns from to : ℕ) (l : Left Identifier) → SameForm w v → LeftBegins w l → LeftBegins v (left_with (bound_moved from to) l) → Each (SameAnswer w v) (questions_of_left w turns (Ok l)) →
         let p = finish_asking w turns (Ok l) in IsFinished v p (or_fault (parts_with (bound_moved from to)) p.0) (finish v turns (Ok (left_with (bound_moved from to) l))) }
+{}
+
+/// A form as it is written may begin in a state in which nothing was made or found yet, whatever its unit imports that isn't local (R7RS 5.1):
+/// each of its identifiers stands there.
+pub fn forms_may_begin()
+    ensures fresh { (s : ScopedState) → s.table ≡ [] → s.macros ≡ [] → s.places ≡ [] → s.definitions ≡ [] → ((u : ℕ) (x : List ℕ) → IsEntry (s.entry u x)) → Begins s }
+    ensures written { (s : ScopedState) (u : ℕ) (t : Tree (List ℕ)) → TreeWith (IsRooted s) (map_tree (Written u) t) }
 {}
