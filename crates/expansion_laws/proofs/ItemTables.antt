@@ -7,7 +7,6 @@ use Rattle.scheme_model.specs.Requirements.{Known}
 use Rattle.scheme_model.specs.RulesShape.{Rules}
 use Rattle.scheme_model.specs.Order.{Item, WaitingUse, Pending, Renamed}
 use Rattle.scheme_model.specs.UnitExpansion.{max_depth}
-use Rattle.scheme_model.specs.Expression.{expand}
 use Rattle.scheme_model.specs.Program.{enough_turns}
 use Rattle.scheme_model.specs.Substitution.{unchanged}
 use Rattle.scheme_model.specs.ScopedExpansion.{Frames, FramedIdent, ScopedState, next_number, body_around, definition_added, is_defined}
@@ -15,8 +14,8 @@ use Rattle.syntax_tree.proofs.Places.{none_some}
 use Rattle.unit_scopes.specs.Searched.{define_searched, searched}
 use Rattle.unit_scopes.specs.Stepped.{turned}
 use Rattle.unit_scopes.specs.Units.{uses_met, expanded}
-use Rattle.expansion_laws.proofs.AlikeSteps.{Likeness, other, goes_after, all_met_after}
-use Rattle.expansion_laws.proofs.AlikeExpressions.{expand_alike, item_alike}
+use Rattle.expansion_laws.proofs.AlikeSteps.{Likeness, all_met_after}
+use Rattle.expansion_laws.proofs.AlikeSides.{item_alike}
 use Rattle.expansion_laws.proofs.OtherForms.{any_macro, notes_left, is_refused_here}
 
 abbrev IsBodyPlace : Frames → Type 0
@@ -43,6 +42,7 @@ same_tables known = record {
   noted_later = λ s t le l h. tt;
   placed = λ s fs h i. tt;
   spend = λ s g n. (tt, refl);
+  spend_means = λ s n fs i. refl;
   meet = λ s g t. (tt, refl);
   meet_use = λ s g u. (tt, refl);
   begin_use = λ s g fs h. (tt, refl);
@@ -59,8 +59,7 @@ same_tables known = record {
 
 pub expanded_table : (known : Known) (form : ℕ) (i : Item Ident) (s : ScopedState) → (expanded known form i s).1.table ≡ s.table
 expanded_table known form i s =
-    (goes_after (searched known) (same_tables known)
-    (item_alike (searched known) (same_tables known) (expand (searched known) enough_turns) (expand (other (searched known) (same_tables known)) enough_turns) (expand_alike (searched known) (same_tables known) enough_turns) max_depth [] i (turned form s) (tt, tt))).1
+    (item_alike (searched known) (same_tables known) enough_turns max_depth [] i (turned form s) (tt, tt)).after.1
 
 pub met_table : (known : Known) (form : ℕ) (us : List (WaitingUse Ident)) (s : ScopedState) → (uses_met known form us s).table ≡ s.table
 met_table known form us s = (all_met_after (searched known) (same_tables known) [] us (turned form s) tt).1

@@ -1,6 +1,5 @@
-pub mod AlikeSteps  -- Two expansions that differ in definitions alone, step by step
-pub mod AlikeRuns  -- The forms of a body or a unit, gone through by two expansions that differ in definitions alone
-pub mod AlikeExpressions  -- Expressions, expanded by two expansions that differ in definitions alone
+pub mod AlikeSteps  -- Two expansions that differ in definitions alone
+pub mod AlikeSides  -- Two expansions that differ in definitions alone, as two sides
 pub mod AlikeUnits  -- What is left of a form of a unit, met and expanded by two expansions that differ in definitions alone, until work ends
 pub mod BoundedNotes  -- A note that doesn't speak of an identifier is told nothing of its definition
 pub mod SearchedStates  -- Expansion by scopes, where a definition asks the notes that speak of its identifier

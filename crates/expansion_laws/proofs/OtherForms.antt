@@ -13,7 +13,6 @@ use Rattle.scheme_model.specs.Cores.{Target, MacroUse}
 use Rattle.scheme_model.specs.RulesShape.{Rules}
 use Rattle.scheme_model.specs.Order.{Item, WaitingUse, Note, LookedUp, Compared, Pending, Renamed, Transformer, is_some}
 use Rattle.scheme_model.specs.UnitExpansion.{max_depth, one_form}
-use Rattle.scheme_model.specs.Expression.{expand}
 use Rattle.scheme_model.specs.Program.{enough_turns}
 use Rattle.scheme_model.specs.Substitution.{at_form, any, unchanged}
 use Rattle.scheme_model.specs.ScopedExpansion.{Frames, FramedIdent, ScopedState, next_number, macro_added, body_around, definition_added, meaning_next, is_defined}
@@ -26,9 +25,8 @@ use Rattle.unit_scopes.specs.Others.{Each, InFront, CountsStay, IsOf, IsOwn, IsO
 use Rattle.unit_scopes.specs.Searched.{speaks_of, define_searched, searched}
 use Rattle.unit_scopes.specs.Stepped.{turned}
 use Rattle.unit_scopes.specs.Units.{declared, uses_met, expanded}
-use Rattle.expansion_laws.proofs.AlikeSteps.{Likeness, other, ran_after, goes_after, all_met_after}
-use Rattle.expansion_laws.proofs.AlikeRuns.{run_alike}
-use Rattle.expansion_laws.proofs.AlikeExpressions.{expand_alike, item_alike}
+use Rattle.expansion_laws.proofs.AlikeSteps.{Likeness, all_met_after}
+use Rattle.expansion_laws.proofs.AlikeSides.{run_alike, item_alike}
 
 -- ---- what is put in front
 
@@ -189,6 +187,7 @@ module _ (form : ℕ) where
     noted_later = λ s t le l h. tt;
     placed = λ s fs h i. tt;
     spend = λ s g n. (g, spent_on s g n);
+    spend_means = λ s n fs i. refl;
     meet = λ s g t. (g, met_on s g t);
     meet_use = λ s g u. (g, use_met_on s g u);
     begin_use = λ s g fs h. (g, begun_on s g fs);
@@ -216,13 +215,12 @@ module _ (form : ℕ) where
   pub declared_stays : (known : Known) (t : Tree Ident) (notes : List (Note FramedIdent)) (s : ScopedState) → OthersStay form s (declared known form t notes s).1
   declared_stays known t notes s =
       of_turned s (declared known form t notes s).1
-      (ran_after (searched known) (staying known) (run_alike (searched known) (staying known) [] tt enough_turns (one_form t notes) (turned form s) (refl, tt) (any_notes notes))).1
+      (run_alike (searched known) (staying known) [] tt enough_turns (one_form t notes) (turned form s) (refl, tt) (any_notes notes)).after.1
 
   pub expanded_stays : (known : Known) (i : Item Ident) (s : ScopedState) → OthersStay form s (expanded known form i s).1
   expanded_stays known i s =
       of_turned s (expanded known form i s).1
-      (goes_after (searched known) (staying known)
-      (item_alike (searched known) (staying known) (expand (searched known) enough_turns) (expand (other (searched known) (staying known)) enough_turns) (expand_alike (searched known) (staying known) enough_turns) max_depth [] i (turned form s) (refl, tt))).1
+      (item_alike (searched known) (staying known) enough_turns max_depth [] i (turned form s) (refl, tt)).after.1
 
   pub met_stays : (known : Known) (us : List (WaitingUse Ident)) (s : ScopedState) → OthersStay form s (uses_met known form us s)
   met_stays known us s = of_turned s (uses_met known form us s) (all_met_after (searched known) (staying known) [] us (turned form s) refl).1

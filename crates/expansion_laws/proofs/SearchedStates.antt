@@ -109,6 +109,7 @@ module _ (w : Era) where
     noted_later = λ s t le l h. binders_more w s.locals t.locals le l.frames h;
     placed = λ s fs h i. h;
     spend = λ s g n. (still s g (at_form s.form (λ m. m + n) s.nodes) s.keywords s.met s.bodies, leq_itself s.locals);
+    spend_means = λ s n fs i. refl;
     meet = λ s g t. (still s g s.nodes (at_form s.form (λ ts. t ∷ ts) s.keywords) s.met s.bodies, leq_itself s.locals);
     meet_use = λ s g u. (still s g s.nodes s.keywords (at_form s.form (λ us. u ∷ us) s.met) s.bodies, leq_itself s.locals);
     begin_use = λ s g fs h. (begun s g fs h, leq_itself s.locals);

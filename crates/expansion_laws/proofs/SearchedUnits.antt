@@ -23,9 +23,7 @@ use Rattle.scheme_model.proofs.UnitEnds.{Both, both_end, both_go}
 use Rattle.scheme_model.proofs.FrameUnits.{Aside, FormHeld, passed, turned, forms_later}
 use Rattle.scheme_model.proofs.CountedStates.{Formed, LocalsKept, Holds, locals_later, form_begins}
 use Rattle.scheme_model.proofs.CountedUnits.{every, run_same, left_same, SetStands, sets_later, EndedSame, SetsSame, passes_same, KeptSame, aside_same}
-use Rattle.expansion_laws.proofs.AlikeSteps.{other, ran_is, ran_after}
-use Rattle.expansion_laws.proofs.AlikeRuns.{run_alike}
-use Rattle.expansion_laws.proofs.AlikeExpressions.{expand_alike}
+use Rattle.expansion_laws.proofs.AlikeSides.{run_alike}
 use Rattle.expansion_laws.proofs.AlikeUnits.{form_work}
 use Rattle.expansion_laws.proofs.BoundedNotes.{Bounded}
 use Rattle.expansion_laws.proofs.SearchedStates.{turned_bounded, searching}
@@ -79,11 +77,11 @@ module _ (w : Era) (known : Known) where
         let one = run_same w known every s1 begins turns t.1 h.0 ns hn in
         let sought = run_same w known speaks_of s1 begins turns t.1 h.0 ns hn in
         let walked = run_alike (scoped known) (searching w known) [] tt turns p s1 (turned_bounded w s g t.0, tt) (notes_more (UnitPlace w known s1) (λ (l : FramedIdent). BindersCounted w s1.locals l.frames) (λ l q. subst (BindersCounted w s1.locals) (sym q.0) tt) ns hn) in
-        let after = (ran_after (scoped known) (searching w known) walked).0 in
+        let after = walked.after.0 in
         let rest = passes_searched ts r.0.notes r.1 done.unit_state one.holds.formed (locals_later w s1 s1.form r.1 one.holds) (forms_later w known turns fs s1 r.1 done.grows ts h.1) done.stood after in
         let over = nat_lt max_total (nodes_in (scoped known) fs r.1) in
         record {
-          same = ap (λ (q : Pass Ident FramedIdent × ScopedState). unless_over (searched known) fs q then λ x. first_then t.0 x (passes (searched known) turns [] fs ts)) (sought.same ∙ ran_is (scoped known) (searching w known) walked)
+          same = ap (λ (q : Pass Ident FramedIdent × ScopedState). unless_over (searched known) fs q then λ x. first_then t.0 x (passes (searched known) turns [] fs ts)) (sought.same ∙ walked.same)
               ∙ (first_same t.0 r.0 r.1 (passes (searched known) turns [] fs ts) (passes (counted known) turns [] fs ts) rest.same over
               ∙ sym (ap (λ (q : Pass Ident FramedIdent × ScopedState). unless_over (counted known) fs q then λ x. first_then t.0 x (passes (counted known) turns [] fs ts)) one.same));
           bounded = first_bounded t.0 r.0 r.1 (passes (scoped known) turns [] fs ts) after rest.bounded over;
@@ -106,7 +104,7 @@ module _ (w : Era) (known : Known) where
 
     aside_searched : (s : ScopedState) → Holds w s s.form s → (r : Aside Ident) → SetStands w known s (s.form, r) → Bounded w s → AsideSearched s r
     aside_searched s h (Ok l) k g =
-        let walked = form_work (scoped known) (searching w known) (expand (scoped known) turns) (expand (other (scoped known) (searching w known)) turns) (expand_alike (scoped known) (searching w known) turns) fs [] (Ok l) s (g, tt) in
+        let walked = form_work (scoped known) (searching w known) turns fs [] (Ok l) s (g, tt) in
         record { same = both_same (λ v t q. q.0) (λ v t x y q. (q.0, q.1)) (left_same w known speaks_of s h turns fs l k.0 k.1) ∙ walked.0; bounded = walked.1.0 }
     aside_searched s h (Err e) k g = record { same = refl; bounded = g }
 

@@ -18,8 +18,12 @@ use Rattle.core_tree.specs.Levels.{BindsAs, AllBind, AllMacrosBind, BindsLocals,
 use Rattle.expansion_laws.specs.Tops.{OfOk, ItemBinds, ItemsBind}
 use Rattle.expansion_laws.proofs.TopRuns.{then_on, any_of, run_on}
 
-module _ {E A L S : Type 0} (ops : Ops E A L S) (left : (n : Named A) (r : Option (Rules A)) (e : E) (p : Pending A L) (s : S) → OfOk (λ (d : Renamed A L). d.pending.aside ≡ p.aside) (ops.define n r e p s).0)
-    (inside : (e : E) (ts : Trees A) (s t : S) → BindsAs true (ops.next_bound (ops.enter e ts s).env t)) where
+module _ {E A L S : Type 0} (loud : Ops E A L S) (left : (n : Named A) (r : Option (Rules A)) (e : E) (p : Pending A L) (s : S) → OfOk (λ (d : Renamed A L). d.pending.aside ≡ p.aside) (loud.define n r e p s).0)
+    (inside : (e : E) (ts : Trees A) (s t : S) → BindsAs true (loud.next_bound (loud.enter e ts s).env t)) where
+  -- nothing is asked
+  abbrev ops : Ops E A L S
+  ops = record loud { ask = λ qs s. s }
+
   node_on : {B : Type 0} (P : B → Type 0) (here : Here) (n depth : ℕ) (next : ℕ → Step S B) (s : S) → ((below : ℕ) (t : S) → OfOk P (next below t).0) → OfOk P (node ops here n depth next s).0
   node_on P here n zero next s h = tt
   node_on P here n (suc depth) next s h = then_on (λ (u : Unit {0}). Unit {0}) P (counting ops here n s) (λ u. next depth) (any_of (counting ops here n s).0) (λ u t x. h depth t)
@@ -124,7 +128,7 @@ module _ {E A L S : Type 0} (ops : Ops E A L S) (left : (n : Named A) (r : Optio
     body_in_on turns depth here r next =
         let p : Pending A L = record { todo = forms_at here r.trees; aside = []; uses = []; notes = [] } in
         let more : Left A → Step S Core = λ l t. parts (item_part f ops depth r.env) l.items (meet_all ops r.env l.uses t) >>= λ ps. done (Body ps) in
-        then_on (λ (l : Left A). ItemsBind true l.items) BindsLocals (left_of (run ops turns r.env p r.state)) more (run_on ops left true r.env next turns p r.state tt)
+        then_on (λ (l : Left A). ItemsBind true l.items) BindsLocals (left_of (run ops turns r.env p r.state)) more (run_on loud left true r.env next turns p r.state tt)
         (λ l t h. then_on (PartsBind true) BindsLocals (parts (item_part f ops depth r.env) l.items (meet_all ops r.env l.uses t)) (λ ps. done (Body ps)) (parts_on true depth r.env l.items (meet_all ops r.env l.uses t) h) (λ ps u x. x))
 
     body_on : (turns depth : ℕ) (here : Here) (e : E) (ts : Trees A) (s : S) → OfOk BindsLocals (body_core f ops turns depth here e ts s).0

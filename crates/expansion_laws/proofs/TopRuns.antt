@@ -38,8 +38,12 @@ put_on : {A : Type 0} (local : Bool) (is : List (Item A)) (i : Item A) → Items
 put_on local [] i h one = (one, tt)
 put_on local (x ∷ is) i h one = (h.0, put_on local is i h.1 one)
 
-module _ {E A L S : Type 0} (ops : Ops E A L S) (left : (n : Named A) (r : Option (Rules A)) (e : E) (p : Pending A L) (s : S) → OfOk (λ (d : Renamed A L). d.pending.aside ≡ p.aside) (ops.define n r e p s).0)
-    (local : Bool) (e : E) (next : (s : S) → BindsAs local (ops.next_bound e s)) where
+module _ {E A L S : Type 0} (loud : Ops E A L S) (left : (n : Named A) (r : Option (Rules A)) (e : E) (p : Pending A L) (s : S) → OfOk (λ (d : Renamed A L). d.pending.aside ≡ p.aside) (loud.define n r e p s).0)
+    (local : Bool) (e : E) (next : (s : S) → BindsAs local (loud.next_bound e s)) where
+  -- nothing is asked
+  abbrev ops : Ops E A L S
+  ops = record loud { ask = λ qs s. s }
+
   abbrev Binds : Left A → Type 0
   Binds l = ItemsBind local l.items
 

@@ -8,7 +8,6 @@ use Rattle.scheme_model.specs.RulesShape.{Rules}
 use Rattle.scheme_model.specs.Order.{Item, Note, Pending, Renamed, WaitingUse}
 use Rattle.scheme_model.specs.Substitution.{unchanged}
 use Rattle.scheme_model.specs.UnitExpansion.{max_depth}
-use Rattle.scheme_model.specs.Expression.{expand}
 use Rattle.scheme_model.specs.Program.{enough_turns}
 use Rattle.scheme_model.specs.ScopedExpansion.{Frames, FramedIdent, ScopedState, body_around, definition_added, is_defined}
 use Rattle.syntax_tree.specs.declared.trees.Work.{Work}
@@ -17,8 +16,8 @@ use Rattle.unit_scopes.specs.Stepped.{turned}
 use Rattle.unit_scopes.specs.Units.{UnitStands, uses_met, expanded}
 use Rattle.unit_scopes.specs.declared.scope.FormAtWork as code_work
 use Rattle.unit_scopes.specs.declared.scope.UnitScope.{UnitScope}
-use Rattle.expansion_laws.proofs.AlikeSteps.{Likeness, other, goes_after, all_met_after}
-use Rattle.expansion_laws.proofs.AlikeExpressions.{expand_alike, item_alike}
+use Rattle.expansion_laws.proofs.AlikeSteps.{Likeness, all_met_after}
+use Rattle.expansion_laws.proofs.AlikeSides.{item_alike}
 use Rattle.expansion_laws.proofs.OtherForms.{any_macro, notes_left, is_refused_here}
 
 module _ (form : ℕ) where
@@ -47,6 +46,7 @@ module _ (form : ℕ) where
     noted_later = λ s t le l h. tt;
     placed = λ s fs h i. tt;
     spend = λ s g n. (g, tt);
+    spend_means = λ s n fs i. refl;
     meet = λ s g t. (g, tt);
     meet_use = λ s g u. (g, tt);
     begin_use = λ s g fs h. (g, tt);
@@ -63,8 +63,7 @@ module _ (form : ℕ) where
 
   pub item_form : (known : Known) (i : Item Ident) (s : ScopedState) → (expanded known form i s).1.form ≡ form
   item_form known i s =
-      (goes_after (searched known) (at_work known)
-      (item_alike (searched known) (at_work known) (expand (searched known) enough_turns) (expand (other (searched known) (at_work known)) enough_turns) (expand_alike (searched known) (at_work known) enough_turns) max_depth [] i (turned form s) (refl, tt))).0
+      (item_alike (searched known) (at_work known) enough_turns max_depth [] i (turned form s) (refl, tt)).after.0
 
   pub met_form : (known : Known) (us : List (WaitingUse Ident)) (s : ScopedState) → (uses_met known form us s).form ≡ form
   met_form known us s = (all_met_after (searched known) (at_work known) [] us (turned form s) refl).0

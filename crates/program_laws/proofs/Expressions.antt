@@ -22,7 +22,11 @@ use Rattle.program_laws.proofs.Steps.{ItemWithin, ItemsWithin, Keeps, Has, Ends,
 use Rattle.program_laws.proofs.Runs.{forms_total, forms_within, parts_end, rules_end, run_ends}
 
 -- trees have at most n nodes, and `need` turns suffice for the forms of a body
-module _ {E A L S : Type 0} (ops : Ops E A L S) (keeps : Keeps ops) (n need : ℕ) (large : max_nodes ≤ n) (enough : n + max_uses * max_nodes < need) where
+module _ {E A L S : Type 0} (loud : Ops E A L S) (keeps : Keeps loud) (n need : ℕ) (large : max_nodes ≤ n) (enough : n + max_uses * max_nodes < need) where
+  -- nothing is asked
+  abbrev ops : Ops E A L S
+  ops = record loud { ask = λ qs s. s }
+
   -- turns for what stands at a depth, or inside of it, while so many uses are left
   abbrev pub At : ℕ → ℕ → ℕ → Type 0
   At turns depth m = (m ≤ max_uses) × (depth + (m + need) ≤ turns)
@@ -35,38 +39,38 @@ module _ {E A L S : Type 0} (ops : Ops E A L S) (keeps : Keeps ops) (n need : �
   TaskWithin (body ts) = trees_size ts ≤ n
 
   abbrev Works : {V : Type 0} → ℕ → Step S V → Type 0
-  Works m f = (s : S) → Has ops keeps m s → Ends ops keeps m Any (f s)
+  Works m f = (s : S) → Has loud keeps m s → Ends loud keeps m Any (f s)
 
   abbrev pub Expands : ℕ → Expander E A S → Type 0
-  Expands turns F = (depth m : ℕ) (here : Here) (e : E) (task : Task A) (s : S) → Below turns depth m → TaskWithin task → Has ops keeps m s → Ends ops keeps m Any (F depth here e task s)
+  Expands turns F = (depth m : ℕ) (here : Here) (e : E) (task : Task A) (s : S) → Below turns depth m → TaskWithin task → Has loud keeps m s → Ends loud keeps m Any (F depth here e task s)
 
   -- a value is made of what was expanded
-  made : {V W : Type 0} (m : ℕ) (q : Result V Broken × S) (f : V → W) → Ends ops keeps m Any q → Ends ops keeps m Any (q >>= λ v. done (f v))
-  made m q f h = then_ends ops keeps m Any Any q (λ v. done (f v)) h (λ v t k x. (k, tt))
+  made : {V W : Type 0} (m : ℕ) (q : Result V Broken × S) (f : V → W) → Ends loud keeps m Any q → Ends loud keeps m Any (q >>= λ v. done (f v))
+  made m q f h = then_ends loud keeps m Any Any q (λ v. done (f v)) h (λ v t k x. (k, tt))
 
-  node_ends : {V : Type 0} (turns m : ℕ) (here : Here) (k depth : ℕ) (f : ℕ → Step S V) (s : S) → At turns depth m → Has ops keeps m s → ((below : ℕ) → Below turns below m → Works m (f below)) → Ends ops keeps m Any (node ops here k depth f s)
+  node_ends : {V : Type 0} (turns m : ℕ) (here : Here) (k depth : ℕ) (f : ℕ → Step S V) (s : S) → At turns depth m → Has loud keeps m s → ((below : ℕ) → Below turns below m → Works m (f below)) → Ends loud keeps m Any (node ops here k depth f s)
   node_ends turns m here k zero f s at h g = (h, tt)
-  node_ends turns m here k (suc depth) f s at h g = then_ends ops keeps m Any Any (counting ops here k s) (λ u. f depth) (counting_ends ops keeps m here k s h) (λ u t l x. g depth (omega (arith, at)) t l)
+  node_ends turns m here k (suc depth) f s at h g = then_ends loud keeps m Any Any (counting ops here k s) (λ u. f depth) (counting_ends loud keeps m here k s h) (λ u t l x. g depth (omega (arith, at)) t l)
 
   -- something is read, and then it goes on
-  read_ends : {X V : Type 0} (m : ℕ) (P : X → Type 0) (here : Here) (r : Result X (Fault A)) (f : X → Step S V) (s : S) → Has ops keeps m s → Gives P r → ((x : X) → P x → Works m (f x)) → Ends ops keeps m Any (given ops.plain here r s >>= f)
-  read_ends m P here r f s h k g = then_ends ops keeps m P Any (given ops.plain here r s) f (given_ends ops keeps m P here r s h k) (λ x t l y. g x y t l)
+  read_ends : {X V : Type 0} (m : ℕ) (P : X → Type 0) (here : Here) (r : Result X (Fault A)) (f : X → Step S V) (s : S) → Has loud keeps m s → Gives P r → ((x : X) → P x → Works m (f x)) → Ends loud keeps m Any (given ops.plain here r s >>= f)
+  read_ends m P here r f s h k g = then_ends loud keeps m P Any (given ops.plain here r s) f (given_ends loud keeps m P here r s h k) (λ x t l y. g x y t l)
 
   -- ---- tree by tree
 
   module _ (m : ℕ) (f : Tree A → Step S Core) (law : (t : Tree A) → tree_size t ≤ n → Works m (f t)) where
     each_ends : (ts : Trees A) → trees_size ts ≤ n → Works m (each f ts)
     each_ends no_trees le s h = (h, tt)
-    each_ends (tree t ts) le s h = then_ends ops keeps m Any Any (f t s) (λ c t1. each f ts t1 >>= λ cs. done (core c cs)) (law t (omega (arith, le)) s h) (λ c t1 k x. made m (each f ts t1) (core c) (each_ends ts (omega (arith, le)) t1 k))
+    each_ends (tree t ts) le s h = then_ends loud keeps m Any Any (f t s) (λ c t1. each f ts t1 >>= λ cs. done (core c cs)) (law t (omega (arith, le)) s h) (λ c t1 k x. made m (each f ts t1) (core c) (each_ends ts (omega (arith, le)) t1 k))
 
     each_of_ends : (ts : List (Tree A)) → AllWithin n ts → Works m (each_of f ts)
     each_of_ends [] w s h = (h, tt)
-    each_of_ends (t ∷ ts) w s h = then_ends ops keeps m Any Any (f t s) (λ c t1. each_of f ts t1 >>= λ cs. done (core c cs)) (law t w.0 s h) (λ c t1 k x. made m (each_of f ts t1) (core c) (each_of_ends ts w.1 t1 k))
+    each_of_ends (t ∷ ts) w s h = then_ends loud keeps m Any Any (f t s) (λ c t1. each_of f ts t1 >>= λ cs. done (core c cs)) (law t w.0 s h) (λ c t1 k x. made m (each_of f ts t1) (core c) (each_of_ends ts w.1 t1 k))
 
     expressions_ends : (ts : Trees A) → trees_size ts ≤ n → Works m (expressions f ts)
     expressions_ends no_trees le s h = (h, tt)
     expressions_ends (tree t ts) le s h =
-        then_ends ops keeps m Any Any (f t s) (λ c t1. expressions f ts t1 >>= λ ps. done (part (expression_part c) ps)) (law t (omega (arith, le)) s h) (λ c t1 k x. made m (expressions f ts t1) (part (expression_part c)) (expressions_ends ts (omega (arith, le)) t1 k))
+        then_ends loud keeps m Any Any (f t s) (λ c t1. expressions f ts t1 >>= λ ps. done (part (expression_part c) ps)) (law t (omega (arith, le)) s h) (λ c t1 k x. made m (expressions f ts t1) (part (expression_part c)) (expressions_ends ts (omega (arith, le)) t1 k))
 
   -- ---- binders
 
@@ -76,7 +80,7 @@ module _ {E A L S : Type 0} (ops : Ops E A L S) (keeps : Keeps ops) (n need : �
       let r = ops.bind i.name e ts s in
       let a = keeps.bound i.name e ts s in
       made m (bound ops f is r.env r.trees r.state) (λ (q : List Binder × V). (record { bound = LocalNumber (ops.next_local s); ident = ops.plain i.name; occ = i.occ } ∷ q.0, q.1))
-      (bound_ends m f law is r.env r.trees (omega (arith, a, le)) r.state (has_same ops keeps m s r.state (keeps.bind i.name e ts s) h))
+      (bound_ends m f law is r.env r.trees (omega (arith, a, le)) r.state (has_same loud keeps m s r.state (keeps.bind i.name e ts s) h))
 
   unless_ends : {V : Type 0} (m : ℕ) (here : Here) (c : Head) (i : Named A) (f : Step S V) → Works m f → Works m (unless_keyword ops here c i f)
   unless_ends m here (IsCore k) i f law s h = (h, tt)
@@ -89,7 +93,7 @@ module _ {E A L S : Type 0} (ops : Ops E A L S) (keeps : Keeps ops) (n need : �
   heads_end : (m : ℕ) (here : Here) (e : E) (ts : Trees A) → Works m (heads ops here e ts)
   heads_end m here e no_trees s h = (h, tt)
   heads_end m here e (tree t ts) s h =
-      then_ends ops keeps m Any Any (rules_parts ops here e (rules_parts_of t) s) (λ r t1. heads ops here e ts t1 >>= λ rs. done (r ∷ rs)) (parts_end ops keeps m here e (rules_parts_of t) s h)
+      then_ends loud keeps m Any Any (rules_parts ops here e (rules_parts_of t) s) (λ r t1. heads ops here e ts t1 >>= λ rs. done (r ∷ rs)) (parts_end loud keeps m here e (rules_parts_of t) s h)
       (λ r t1 k x. made m (heads ops here e ts t1) (λ (rs : List (RulesParts A)). r ∷ rs) (heads_end m here e ts t1 k))
 
   keep_ends : (m : ℕ) (here : Here) (e : E) (vs : List Number) (ts : Trees A) (rs : List (RulesParts A)) → Works m (keep_all ops here e vs ts rs)
@@ -97,8 +101,8 @@ module _ {E A L S : Type 0} (ops : Ops E A L S) (keeps : Keeps ops) (n need : �
   keep_ends m here e (v ∷ vs) no_trees rs s h = (h, tt)
   keep_ends m here e (v ∷ vs) (tree t ts) [] s h = (h, tt)
   keep_ends m here e (v ∷ vs) (tree t ts) (r ∷ rs) s h =
-      then_ends ops keeps m Any Any (rules_at ops here t r s) (λ rules t1. keep_all ops here e vs ts rs (ops.keep v rules e t1)) (rules_end ops keeps m here t r s h)
-      (λ rules t1 k x. keep_ends m here e vs ts rs (ops.keep v rules e t1) (has_same ops keeps m t1 (ops.keep v rules e t1) (keeps.keep v rules e t1) k))
+      then_ends loud keeps m Any Any (rules_at ops here t r s) (λ rules t1. keep_all ops here e vs ts rs (ops.keep v rules e t1)) (rules_end loud keeps m here t r s h)
+      (λ rules t1 k x. keep_ends m here e vs ts rs (ops.keep v rules e t1) (has_same loud keeps m t1 (ops.keep v rules e t1) (keeps.keep v rules e t1) k))
 
   -- ---- what an expander does of parts
 
@@ -119,7 +123,7 @@ module _ {E A L S : Type 0} (ops : Ops E A L S) (keeps : Keeps ops) (n need : �
     clauses_ends : (m depth : ℕ) (here : Here) (e : E) (cs : List (Clause A)) → Below turns depth m → ClausesWithin n cs → Works m (clauses F ops depth here e cs)
     clauses_ends m depth here e [] at w s h = (h, tt)
     clauses_ends m depth here e (c ∷ cs) at w s h =
-        then_ends ops keeps m Any Any (procedure F ops depth here e c s) (λ q t. clauses F ops depth here e cs t >>= λ more. done (clause q.0 q.1 more)) (procedure_ends m depth here e c at w.0 s h)
+        then_ends loud keeps m Any Any (procedure F ops depth here e c s) (λ q t. clauses F ops depth here e cs t >>= λ more. done (clause q.0 q.1 more)) (procedure_ends m depth here e c at w.0 s h)
         (λ q t k x. made m (clauses F ops depth here e cs t) (clause q.0 q.1) (clauses_ends m depth here e cs at w.1 t k))
 
     -- ---- what was set aside
@@ -143,25 +147,25 @@ module _ {E A L S : Type 0} (ops : Ops E A L S) (keeps : Keeps ops) (n need : �
     all_items_end : (m depth : ℕ) (e : E) (is : List (Item A)) → Below turns depth m → ItemsWithin n is → Works m (parts (item_part F ops depth e) is)
     all_items_end m depth e [] at w s h = (h, tt)
     all_items_end m depth e (i ∷ is) at w s h =
-        then_ends ops keeps m Any Any (item_part F ops depth e i s) (λ p t. parts (item_part F ops depth e) is t >>= λ ps. done (part p ps)) (item_ends m depth e i at w.0 s h)
+        then_ends loud keeps m Any Any (item_part F ops depth e i s) (λ p t. parts (item_part F ops depth e) is t >>= λ ps. done (part p ps)) (item_ends m depth e i at w.0 s h)
         (λ p t k x. made m (parts (item_part F ops depth e) is t) (part p) (all_items_end m depth e is at w.1 t k))
 
     -- ---- bodies
 
-    body_in_ends : (m depth : ℕ) (here : Here) (r : Region E A S) → Below turns depth m → trees_size r.trees ≤ n → Has ops keeps m r.state → (k : ℕ) → need ≤ k → Ends ops keeps m Any (body_in ops k (item_part F ops depth) here r)
+    body_in_ends : (m depth : ℕ) (here : Here) (r : Region E A S) → Below turns depth m → trees_size r.trees ≤ n → Has loud keeps m r.state → (k : ℕ) → need ≤ k → Ends loud keeps m Any (body_in ops k (item_part F ops depth) here r)
     body_in_ends m depth here r at le h k more =
         let forms = forms_total here r.trees in
         let few = at.0 in
         let p : Pending A L = record { todo = forms_at here r.trees; aside = []; uses = []; notes = [] } in
         let f : Left A → Step S Core = λ l t. parts (item_part F ops depth r.env) l.items (meet_all ops r.env l.uses t) >>= λ ps. done (Body ps) in
-        then_ends ops keeps m (λ (l : Left A). ItemsWithin n l.items) Any (left_of (run ops k r.env p r.state)) f
-        (run_ends ops keeps n large r.env k m p r.state h (omega (arith, forms, le, few, more, enough)) (record { todo = forms_within n here r.trees le; aside = tt }))
-        (λ l t x y. made m (parts (item_part F ops depth r.env) l.items (meet_all ops r.env l.uses t)) Body (all_items_end m depth r.env l.items at y (meet_all ops r.env l.uses t) (all_met_has ops keeps m r.env l.uses t x)))
+        then_ends loud keeps m (λ (l : Left A). ItemsWithin n l.items) Any (left_of (run ops k r.env p r.state)) f
+        (run_ends loud keeps n large r.env k m p r.state h (omega (arith, forms, le, few, more, enough)) (record { todo = forms_within n here r.trees le; aside = tt }))
+        (λ l t x y. made m (parts (item_part F ops depth r.env) l.items (meet_all ops r.env l.uses t)) Body (all_items_end m depth r.env l.items at y (meet_all ops r.env l.uses t) (all_met_has loud keeps m r.env l.uses t x)))
 
     body_ends : (m depth : ℕ) (here : Here) (e : E) (ts : Trees A) (k : ℕ) → need ≤ k → At turns depth m → trees_size ts ≤ n → Works m (body_core F ops k depth here e ts)
     body_ends m depth here e ts k more at le s h =
         node_ends turns m here 1 depth (λ below t. body_in ops k (item_part F ops below) here (ops.enter e ts t)) s at h
-        (λ below b t x. let a = keeps.entered e ts t in body_in_ends m below here (ops.enter e ts t) b (omega (arith, a, le)) (has_same ops keeps m t ((ops.enter e ts t).state) (keeps.enter e ts t) x) k more)
+        (λ below b t x. let a = keeps.entered e ts t in body_in_ends m below here (ops.enter e ts t) b (omega (arith, a, le)) (has_same loud keeps m t ((ops.enter e ts t).state) (keeps.enter e ts t) x) k more)
 
     sequence_ends : (m depth : ℕ) (here : Here) (e : E) (ts : Trees A) → At turns depth m → trees_size ts ≤ n → Works m (sequence F ops depth here e ts)
     sequence_ends m depth here e ts at le s h =
@@ -173,9 +177,9 @@ module _ {E A L S : Type 0} (ops : Ops E A L S) (keeps : Keeps ops) (n need : �
     macros_end : (m depth : ℕ) (here : Here) (vs : List Number) (is : List (Named A)) (d : E) (rules : Trees A) (e : E) (ts : Trees A) → At turns depth m → trees_size ts ≤ n → Works m (local_macros F ops depth here vs is d rules e ts)
     macros_end m depth here vs is d rules e ts at le s h =
         let inside : List (RulesParts A) → ℕ → Step S Core = λ rs below t. keep_all ops here d vs rules rs t >>= λ u t1. F below here e (body ts) t1 >>= λ c. done (LetSyntax (local_defs ops t1 vs is) c) in
-        then_ends ops keeps m Any Any (heads ops here d rules s) (λ rs. node ops here 1 depth (inside rs)) (heads_end m here d rules s h)
+        then_ends loud keeps m Any Any (heads ops here d rules s) (λ rs. node ops here 1 depth (inside rs)) (heads_end m here d rules s h)
         (λ rs t0 k x. node_ends turns m here 1 depth (inside rs) t0 at k
-        (λ below b t l. then_ends ops keeps m Any Any (keep_all ops here d vs rules rs t) (λ u t1. F below here e (body ts) t1 >>= λ c. done (LetSyntax (local_defs ops t1 vs is) c)) (keep_ends m here d vs rules rs t l)
+        (λ below b t l. then_ends loud keeps m Any Any (keep_all ops here d vs rules rs t) (λ u t1. F below here e (body ts) t1 >>= λ c. done (LetSyntax (local_defs ops t1 vs is) c)) (keep_ends m here d vs rules rs t l)
         (λ u t1 w y. made m (F below here e (body ts) t1) (LetSyntax (local_defs ops t1 vs is)) (law below m here e (body ts) t1 b le w))))
 
     recursive_ends : (m depth : ℕ) (here : Here) (vs : List Number) (is : List (Named A)) (e : E) (ts : Trees A) → At turns depth m → trees_size ts ≤ n → Works m (recursive F ops depth here vs is e ts)
@@ -260,20 +264,20 @@ module _ {E A L S : Type 0} (ops : Ops E A L S) (keeps : Keeps ops) (n need : �
     core_ends m depth here e IsSyntaxError ts tail at le s h = read_ends m Any here (error_text_of ts tail) (λ text. fails here (SyntaxError text)) s h (error_text_any ts tail) (λ text x t k. (k, tt))
     core_ends m depth here e IsInclude ts tail at le s h = (h, tt)
 
-    instance_ends : (m depth : ℕ) (here : Here) (e : E) (i : Instance A) (t : S) → At turns depth m → Began ops keeps m i t → Ends ops keeps m Any (F depth here e (whole i.tree) (meet_waiting ops e i.met t))
+    instance_ends : (m depth : ℕ) (here : Here) (e : E) (i : Instance A) (t : S) → At turns depth m → Began loud keeps m i t → Ends loud keeps m Any (F depth here e (whole i.tree) (meet_waiting ops e i.met t))
     instance_ends m depth here e i t at b =
         let a = b.one_less in let c = b.within in
-        let z = law depth b.left here e (whole i.tree) (meet_waiting ops e i.met t) (omega (arith, a, at)) (omega (arith, c, large)) (met_has ops keeps b.left e i.met t b.has) in
+        let z = law depth b.left here e (whole i.tree) (meet_waiting ops e i.met t) (omega (arith, a, at)) (omega (arith, c, large)) (met_has loud keeps b.left e i.met t b.has) in
         let x = z.0 in (omega (arith, x, a), z.1)
 
     use_ended : (m depth : ℕ) (here : Here) (e : E) (k : Target) (o : Option (Transformer E A)) (ts : Trees A) (tail : Tail A) → At turns depth m → Works m (macro_use F ops depth here e k o ts tail)
     use_ended m depth here e k None ts tail at s h = (h, tt)
     use_ended m depth here e k (Some x) ts tail at s h =
-        used_then ops keeps m Any (use_of ops here e k x ts tail s) (λ i t. F depth here e (whole i.tree) (meet_waiting ops e i.met t)) (use_ends ops keeps m here e k x ts tail s h) (λ i t b. instance_ends m depth here e i t at b)
+        used_then loud keeps m Any (use_of ops here e k x ts tail s) (λ i t. F depth here e (whole i.tree) (meet_waiting ops e i.met t)) (use_ends loud keeps m here e k x ts tail s h) (λ i t b. instance_ends m depth here e i t at b)
 
     head_ends : (m depth : ℕ) (here : Here) (e : E) (d : Head) (i : Named A) (ts : Trees A) (tail : Tail A) → At turns depth m → suc (trees_size ts) ≤ n → Works m (by_head F ops depth here e d i ts tail)
     head_ends m depth here e (IsCore c) i ts tail at le s h =
-        let t = ops.meet (target_of ops e s i.name i.occ) s in core_ends m depth here e c ts tail at (omega (arith, le)) t (has_same ops keeps m s t (keeps.meet (target_of ops e s i.name i.occ) s) h)
+        let t = ops.meet (target_of ops e s i.name i.occ) s in core_ends m depth here e c ts tail at (omega (arith, le)) t (has_same loud keeps m s t (keeps.meet (target_of ops e s i.name i.occ) s) h)
     head_ends m depth here e (IsAuxiliary a) i ts tail at le s h = call_ends m depth here e (tree (name i.name i.occ) ts) tail at (omega (arith, le)) s h
     head_ends m depth here e (IsMacro x) i ts tail at le s h = use_ended m depth here e (target_of ops e s i.name i.occ) (ops.transformer s x) ts tail at s h
     head_ends m depth here e IsNone i ts tail at le s h = call_ends m depth here e (tree (name i.name i.occ) ts) tail at (omega (arith, le)) s h

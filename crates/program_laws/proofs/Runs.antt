@@ -43,44 +43,52 @@ forms_within n here (tree t ts) le = (omega arith, forms_within n here ts (omega
 
 -- ---- rules
 
-module _ {E A L S : Type 0} (ops : Ops E A L S) (keeps : Keeps ops) where
-  ruled_by : (m : ℕ) (here : Here) (r : RulesParts A) (s : S) (b : Bool) → Has ops keeps m s → Ends ops keeps {V = RulesParts A} m Any (if b then done r s else fails here BadForm s)
+module _ {E A L S : Type 0} (loud : Ops E A L S) (keeps : Keeps loud) where
+  -- nothing is asked
+  abbrev quiet : Ops E A L S
+  quiet = record loud { ask = λ qs s. s }
+
+  ruled_by : (m : ℕ) (here : Here) (r : RulesParts A) (s : S) (b : Bool) → Has loud keeps m s → Ends loud keeps {V = RulesParts A} m Any (if b then done r s else fails here BadForm s)
   ruled_by m here r s true h = (h, tt)
   ruled_by m here r s false h = (h, tt)
 
-  pub parts_end : (m : ℕ) (here : Here) (e : E) (o : Option (RulesParts A)) (s : S) → Has ops keeps m s → Ends ops keeps m Any (rules_parts ops here e o s)
+  pub parts_end : (m : ℕ) (here : Here) (e : E) (o : Option (RulesParts A)) (s : S) → Has loud keeps m s → Ends loud keeps m Any (rules_parts quiet here e o s)
   parts_end m here e None s h = (h, tt)
-  parts_end m here e (Some r) s h = ruled_by m here r s (is_rules (head_of ops e s r.head)) h
+  parts_end m here e (Some r) s h = ruled_by m here r s (is_rules (head_of quiet e s r.head)) h
 
-  pub rules_end : (m : ℕ) (here : Here) (t : Tree A) (r : RulesParts A) (s : S) → Has ops keeps m s → Ends ops keeps m Any (rules_at ops here t r s)
+  pub rules_end : (m : ℕ) (here : Here) (t : Tree A) (r : RulesParts A) (s : S) → Has loud keeps m s → Ends loud keeps m Any (rules_at quiet here t r s)
   rules_end m here t r s h =
-      then_ends ops keeps m Any Any (counting ops here (tree_size t) s) (λ u. given ops.plain here (rules_of ops.names r.parts r.tail)) (counting_ends ops keeps m here (tree_size t) s h)
-      (λ u t1 k x. given_ends ops keeps m Any here (rules_of ops.names r.parts r.tail) t1 k (rules_any ops.names r.parts r.tail))
+      then_ends loud keeps m Any Any (counting quiet here (tree_size t) s) (λ u. given quiet.plain here (rules_of quiet.names r.parts r.tail)) (counting_ends loud keeps m here (tree_size t) s h)
+      (λ u t1 k x. given_ends loud keeps m Any here (rules_of quiet.names r.parts r.tail) t1 k (rules_any quiet.names r.parts r.tail))
 
 -- trees have at most so many nodes, as instances have
-module _ {E A L S : Type 0} (ops : Ops E A L S) (keeps : Keeps ops) (n : ℕ) (large : max_nodes ≤ n) (e : E) where
+module _ {E A L S : Type 0} (loud : Ops E A L S) (keeps : Keeps loud) (n : ℕ) (large : max_nodes ≤ n) (e : E) where
+  -- nothing is asked
+  abbrev ops : Ops E A L S
+  ops = record loud { ask = λ qs s. s }
+
   abbrev LeftWithin : Left A → Type 0
   LeftWithin l = ItemsWithin n l.items
 
   -- the forms that are left came to their items, or to a fault within the turns
   abbrev pub PassEnds : ℕ → Pass A L × S → Type 0
-  PassEnds m q = Has ops keeps m q.1 × Ended LeftWithin q.0.left
+  PassEnds m q = Has loud keeps m q.1 × Ended LeftWithin q.0.left
 
   -- so many turns suffice for what is pending
   abbrev Fit : ℕ → ℕ → Pending A L → Type 0
   Fit turns m p = total p.todo + m * max_nodes < turns
 
   abbrev GoesOn : ℕ → Going A L S → Type 0
-  GoesOn turns go = (m : ℕ) (p : Pending A L) (s : S) → Has ops keeps m s → Fit turns m p → PendingWithin n p → PassEnds m (go p s)
+  GoesOn turns go = (m : ℕ) (p : Pending A L) (s : S) → Has loud keeps m s → Fit turns m p → PendingWithin n p → PassEnds m (go p s)
 
-  caught_ends : {B : Type 0} (m : ℕ) (P : B → Type 0) (ns : List (Note L)) (q : Result B Broken × S) (go : B → S → Pass A L × S) → Ends ops keeps m P q → ((b : B) (t : S) → Has ops keeps m t → P b → PassEnds m (go b t)) → PassEnds m (caught ns q go)
+  caught_ends : {B : Type 0} (m : ℕ) (P : B → Type 0) (ns : List (Note L)) (q : Result B Broken × S) (go : B → S → Pass A L × S) → Ends loud keeps m P q → ((b : B) (t : S) → Has loud keeps m t → P b → PassEnds m (go b t)) → PassEnds m (caught ns q go)
   caught_ends m P ns (Ok b, t) go h g = g b t h.0 h.1
   caught_ends m P ns (Err x, t) go h g = h
 
   -- ---- names
 
-  define_ends : (m : ℕ) (here : Here) (i : Named A) (r : Option (Rules A)) (p : Pending A L) (s : S) → Has ops keeps m s → Ends ops keeps m (AsLarge p) (told here (ops.define i r e p s))
-  define_ends m here i r p s h = told_ends ops keeps m (AsLarge p) here (ops.define i r e p s) (has_same ops keeps m s ((ops.define i r e p s).1) (keeps.define i r e p s) h) (keeps.defined i r e p s)
+  define_ends : (m : ℕ) (here : Here) (i : Named A) (r : Option (Rules A)) (p : Pending A L) (s : S) → Has loud keeps m s → Ends loud keeps m (AsLarge p) (told here (ops.define i r e p s))
+  define_ends m here i r p s h = told_ends loud keeps m (AsLarge p) here (ops.define i r e p s) (has_same loud keeps m s ((ops.define i r e p s).1) (keeps.define i r e p s) h) (keeps.defined i r e p s)
 
   abbrev AllAsLarge : Pending A L → List Binder × Renamed A L → Type 0
   AllAsLarge p q = AsLarge p q.1
@@ -88,30 +96,30 @@ module _ {E A L S : Type 0} (ops : Ops E A L S) (keeps : Keeps ops) (n : ℕ) (l
   as_large_then : (p : Pending A L) (d d' : Renamed A L) → AsLarge p d → AsLarge d.pending d' → AsLarge p d'
   as_large_then p d d' h k = record { todo = k.todo ∙ h.todo; within = λ n x. k.within n (h.within n x) }
 
-  define_all_ends : (m : ℕ) (here : Here) (f : A → A) (is : List (Named A)) (p : Pending A L) (s : S) → Has ops keeps m s → Ends ops keeps m (AllAsLarge p) (define_all ops here e f is p s)
+  define_all_ends : (m : ℕ) (here : Here) (f : A → A) (is : List (Named A)) (p : Pending A L) (s : S) → Has loud keeps m s → Ends loud keeps m (AllAsLarge p) (define_all ops here e f is p s)
   define_all_ends m here f [] p s h = (h, record { todo = refl; within = λ n x. x })
   define_all_ends m here f (i ∷ is) p s h =
       let x = named_map f i in
       let more : Renamed A L → Step S (List Binder × Renamed A L) = λ d. define_all ops here e (λ j. d.rename (f j)) is d.pending in
-      then_ends ops keeps m (AsLarge p) (AllAsLarge p) (told here (ops.define x None e p s)) (λ d t. more d t >>= λ q. done (binder_at ops e s x ∷ q.0, q.1)) (define_ends m here x None p s h)
-      (λ d t k same. then_ends ops keeps m (AllAsLarge d.pending) (AllAsLarge p) (more d t) (λ q. done (binder_at ops e s x ∷ q.0, q.1)) (define_all_ends m here (λ j. d.rename (f j)) is d.pending t k) (λ q u l y. (l, as_large_then p d q.1 same y)))
+      then_ends loud keeps m (AsLarge p) (AllAsLarge p) (told here (ops.define x None e p s)) (λ d t. more d t >>= λ q. done (binder_at ops e s x ∷ q.0, q.1)) (define_ends m here x None p s h)
+      (λ d t k same. then_ends loud keeps m (AllAsLarge d.pending) (AllAsLarge p) (more d t) (λ q. done (binder_at ops e s x ∷ q.0, q.1)) (define_all_ends m here (λ j. d.rename (f j)) is d.pending t k) (λ q u l y. (l, as_large_then p d q.1 same y)))
 
-  fields_ends : (m : ℕ) (is : List (Named A)) (s : S) → Has ops keeps m s → Ends ops keeps m Any (fields_bound ops is s)
+  fields_ends : (m : ℕ) (is : List (Named A)) (s : S) → Has loud keeps m s → Ends loud keeps m Any (fields_bound ops is s)
   fields_ends m [] s h = (h, tt)
   fields_ends m (i ∷ is) s h =
-      then_ends ops keeps m Any Any (fields_bound ops is (ops.take_local s)) (λ bs. done (record { bound = LocalNumber (ops.next_local s); ident = ops.plain i.name; occ = i.occ } ∷ bs))
-      (fields_ends m is (ops.take_local s) (has_same ops keeps m s (ops.take_local s) (keeps.take_local s) h)) (λ bs t k x. (k, tt))
+      then_ends loud keeps m Any Any (fields_bound ops is (ops.take_local s)) (λ bs. done (record { bound = LocalNumber (ops.next_local s); ident = ops.plain i.name; occ = i.occ } ∷ bs))
+      (fields_ends m is (ops.take_local s) (has_same loud keeps m s (ops.take_local s) (keeps.take_local s) h)) (λ bs t k x. (k, tt))
 
   -- ---- forms
 
   module _ (turns : ℕ) (go : Going A L S) (on : GoesOn turns go) where
     abbrev Pends : ℕ → Pending A L → S → Type 0
-    Pends m p s = Has ops keeps m s × Fit turns m p × PendingWithin n p
+    Pends m p s = Has loud keeps m s × Fit turns m p × PendingWithin n p
 
     expression_ends : (m : ℕ) (form : Form A) (p : Pending A L) (s : S) → tree_size form.tree ≤ n → Pends m p s → PassEnds m (go (put (Expression form) p) s)
     expression_ends m form p s le h = on m (put (Expression form) p) s h.0 h.1 (put_within n (Expression form) p h.2 le)
 
-    as_large_on : (m : ℕ) (p : Pending A L) (d : Renamed A L) (t : S) → AsLarge p d → Has ops keeps m t → Fit turns m p → PendingWithin n p → PassEnds m (go d.pending t)
+    as_large_on : (m : ℕ) (p : Pending A L) (d : Renamed A L) (t : S) → AsLarge p d → Has loud keeps m t → Fit turns m p → PendingWithin n p → PassEnds m (go d.pending t)
     as_large_on m p d t same h k l = on m d.pending t h (let e = same.todo in omega (arith, e, k)) (same.within n l)
 
     defined_ends : (m : ℕ) (here : Here) (x : Named A) (i : Item A) (p : Pending A L) (s : S) → ItemWithin n i → Pends m p s → PassEnds m (caught p.notes (told here (ops.define x None e (put i p) s)) (λ d. go d.pending))
@@ -147,20 +155,20 @@ module _ {E A L S : Type 0} (ops : Ops E A L S) (keeps : Keeps ops) (n : ℕ) (l
     record_ends m here p r s h =
         caught_ends m (Recorded p) p.notes (fields_bound ops (map (λ f. f.field) r.fields) s >>= λ bs t. define_names ops here e (record_names r) p t >>= λ q. done (bs, q))
         (λ q. go (put (Record (record_part ops.names.same r q.1.0 q.0)) q.1.1.pending))
-        (then_ends ops keeps m Any (Recorded p) (fields_bound ops (map (λ f. f.field) r.fields) s) (λ bs t. define_names ops here e (record_names r) p t >>= λ q. done (bs, q)) (fields_ends m (map (λ f. f.field) r.fields) s h.0)
-        (λ bs t k x. then_ends ops keeps m (AllAsLarge p) (Recorded p) (define_names ops here e (record_names r) p t) (λ q. done (bs, q)) (define_all_ends m here (λ i. i) (record_names r) p t k) (λ q u l y. (l, y))))
+        (then_ends loud keeps m Any (Recorded p) (fields_bound ops (map (λ f. f.field) r.fields) s) (λ bs t. define_names ops here e (record_names r) p t >>= λ q. done (bs, q)) (fields_ends m (map (λ f. f.field) r.fields) s h.0)
+        (λ bs t k x. then_ends loud keeps m (AllAsLarge p) (Recorded p) (define_names ops here e (record_names r) p t) (λ q. done (bs, q)) (define_all_ends m here (λ i. i) (record_names r) p t k) (λ q u l y. (l, y))))
         (λ q t k same. let y = same.todo in on m (put (Record (record_part ops.names.same r q.1.0 q.0)) q.1.1.pending) t k (omega (arith, y, h.1)) (put_within n (Record (record_part ops.names.same r q.1.0 q.0)) q.1.1.pending (same.within n h.2) tt))
 
     -- ---- macros
 
-    splice_ends : (m k : ℕ) (here : Here) (p : Pending A L) (ts : Trees A) (s : S) → k ≤ n → trees_size ts ≤ k → Has ops keeps m s → k + total p.todo + m * max_nodes < turns → PendingWithin n p → PassEnds m (splice ops go here p ts s)
+    splice_ends : (m k : ℕ) (here : Here) (p : Pending A L) (ts : Trees A) (s : S) → k ≤ n → trees_size ts ≤ k → Has loud keeps m s → k + total p.todo + m * max_nodes < turns → PendingWithin n p → PassEnds m (splice ops go here p ts s)
     splice_ends m k here p ts s le small h fit l =
-        caught_ends m Any p.notes (counting ops here 1 s) (λ u. go (first (forms_at here ts) p)) (counting_ends ops keeps m here 1 s h)
+        caught_ends m Any p.notes (counting ops here 1 s) (λ u. go (first (forms_at here ts) p)) (counting_ends loud keeps m here 1 s h)
         (λ u t x y. let a = both_total (forms_at here ts) p.todo in let b = forms_total here ts in
         on m (first (forms_at here ts) p) t x (omega (arith, a, b, fit, small)) (record { todo = both_within n (forms_at here ts) p.todo (forms_within n here ts (omega (arith, le, small))) l.todo; aside = l.aside }))
 
-    read_ends : {B : Type 0} (m : ℕ) (P : B → Type 0) (here : Here) (p : Pending A L) (r : Result B (Fault A)) (f : B → S → Pass A L × S) (s : S) → Has ops keeps m s → Gives P r → ((b : B) (t : S) → Has ops keeps m t → P b → PassEnds m (f b t)) → PassEnds m (read_then ops here p r f s)
-    read_ends m P here p r f s h k g = caught_ends m P p.notes (given ops.plain here r s) f (given_ends ops keeps m P here r s h k) g
+    read_ends : {B : Type 0} (m : ℕ) (P : B → Type 0) (here : Here) (p : Pending A L) (r : Result B (Fault A)) (f : B → S → Pass A L × S) (s : S) → Has loud keeps m s → Gives P r → ((b : B) (t : S) → Has loud keeps m t → P b → PassEnds m (f b t)) → PassEnds m (read_then ops here p r f s)
+    read_ends m P here p r f s h k g = caught_ends m P p.notes (given ops.plain here r s) f (given_ends loud keeps m P here r s h k) g
 
     abbrev Ruled : Pending A L → Binder × Pending A L → Type 0
     Ruled q r = (total r.1.todo ≡ total q.todo) × PendingWithin n r.1
@@ -172,10 +180,10 @@ module _ {E A L S : Type 0} (ops : Ops E A L S) (keeps : Keeps ops) (n : ℕ) (l
         caught_ends m (Ruled q) q.notes
         (rules_parts ops here e (rules_parts_of d.1) s >>= λ r t0. rules_at ops here d.1 r t0 >>= λ rules t. told here (ops.define d.0 (Some rules) e q t) >>= λ made. done (binder_at ops e t d.0, made.pending))
         (λ r. go (put (Macro r.0 here) r.1))
-        (then_ends ops keeps m Any (Ruled q) (rules_parts ops here e (rules_parts_of d.1) s) (λ r t0. rules_at ops here d.1 r t0 >>= λ rules t. told here (ops.define d.0 (Some rules) e q t) >>= λ made. done (binder_at ops e t d.0, made.pending))
-        (parts_end ops keeps m here e (rules_parts_of d.1) s h.0)
-        (λ r t0 k x. then_ends ops keeps m Any (Ruled q) (rules_at ops here d.1 r t0) (λ rules t. told here (ops.define d.0 (Some rules) e q t) >>= λ made. done (binder_at ops e t d.0, made.pending)) (rules_end ops keeps m here d.1 r t0 k)
-        (λ rules t l y. then_ends ops keeps m (AsLarge q) (Ruled q) (told here (ops.define d.0 (Some rules) e q t)) (λ made. done (binder_at ops e t d.0, made.pending)) (define_ends m here d.0 (Some rules) q t l)
+        (then_ends loud keeps m Any (Ruled q) (rules_parts ops here e (rules_parts_of d.1) s) (λ r t0. rules_at ops here d.1 r t0 >>= λ rules t. told here (ops.define d.0 (Some rules) e q t) >>= λ made. done (binder_at ops e t d.0, made.pending))
+        (parts_end loud keeps m here e (rules_parts_of d.1) s h.0)
+        (λ r t0 k x. then_ends loud keeps m Any (Ruled q) (rules_at ops here d.1 r t0) (λ rules t. told here (ops.define d.0 (Some rules) e q t) >>= λ made. done (binder_at ops e t d.0, made.pending)) (rules_end loud keeps m here d.1 r t0 k)
+        (λ rules t l y. then_ends loud keeps m (AsLarge q) (Ruled q) (told here (ops.define d.0 (Some rules) e q t)) (λ made. done (binder_at ops e t d.0, made.pending)) (define_ends m here d.0 (Some rules) q t l)
         (λ made u z same. (z, (same.todo, same.within n w))))))
         (λ r t k same. let y = same.0 in on m (put (Macro r.0 here) r.1) t k (omega (arith, y, h.1)) (put_within n (Macro r.0 here) r.1 same.1 tt))
 
@@ -184,16 +192,16 @@ module _ {E A L S : Type 0} (ops : Ops E A L S) (keeps : Keeps ops) (n : ℕ) (l
       pub smaller : suc (trees_size ts) ≤ tree_size form.tree
       pub small : tree_size form.tree ≤ n
       pub fit : tree_size form.tree + total p.todo + m * max_nodes ≤ turns
-      pub has : Has ops keeps m s
+      pub has : Has loud keeps m s
       pub within : PendingWithin n p
 
-    pends_behind : (m : ℕ) (form : Form A) (ts : Trees A) (p : Pending A L) (s t : S) → Front m form ts p s → Has ops keeps m t → Pends m p t
+    pends_behind : (m : ℕ) (form : Form A) (ts : Trees A) (p : Pending A L) (s t : S) → Front m form ts p s → Has loud keeps m t → Pends m p t
     pends_behind m form ts p s t f h = let a = f.smaller in let b = f.fit in (h, omega (arith, a, b), f.within)
 
     front_expression : (m : ℕ) (form : Form A) (ts : Trees A) (p : Pending A L) (s : S) → Front m form ts p s → PassEnds m (go (put (Expression form) p) s)
     front_expression m form ts p s f = expression_ends m form p s f.small (pends_behind m form ts p s s f f.has)
 
-    chosen_ends : (m : ℕ) (here : Here) (form : Form A) (ts : Trees A) (p : Pending A L) (s t : S) (o : Option (Trees A)) → Front m form ts p s → Has ops keeps m t → ChosenWithin ops.names.strip ops.known (trees_size ts) o → PassEnds m (splice ops go here p (or_none o) t)
+    chosen_ends : (m : ℕ) (here : Here) (form : Form A) (ts : Trees A) (p : Pending A L) (s t : S) (o : Option (Trees A)) → Front m form ts p s → Has loud keeps m t → ChosenWithin ops.names.strip ops.known (trees_size ts) o → PassEnds m (splice ops go here p (or_none o) t)
     chosen_ends m here form ts p s t None f h k = let a = f.smaller in let b = f.fit in let c = f.small in splice_ends m (trees_size ts) here p no_trees t (omega (arith, a, c)) (omega arith) h (omega (arith, a, b)) f.within
     chosen_ends m here form ts p s t (Some us) f h k = let a = f.smaller in let b = f.fit in let c = f.small in splice_ends m (trees_size ts) here p us t (omega (arith, a, c)) k h (omega (arith, a, b)) f.within
 
@@ -206,32 +214,32 @@ module _ {E A L S : Type 0} (ops : Ops E A L S) (keeps : Keeps ops) (n : ℕ) (l
     core_ends m here IsSet k form ts tail p s f = front_expression m form ts p s f
     core_ends m here IsBegin k form ts tail p s f =
         let a = f.smaller in let b = f.fit in let c = f.small in
-        read_ends m (TreesWithin (trees_size ts)) here p (proper_of ts tail) (splice ops go here p) (ops.meet k s) (has_same ops keeps m s (ops.meet k s) (keeps.meet k s) f.has) (proper_within ts tail)
+        read_ends m (TreesWithin (trees_size ts)) here p (proper_of ts tail) (splice ops go here p) (ops.meet k s) (has_same loud keeps m s (ops.meet k s) (keeps.meet k s) f.has) (proper_within ts tail)
         (λ us t h x. splice_ends m (trees_size ts) here p us t (omega (arith, a, c)) x h (omega (arith, a, b)) f.within)
     core_ends m here IsDefine k form ts tail p s f =
         let a = f.smaller in let c = f.small in
-        read_ends m (DefinitionWithin (trees_size ts)) here p (definition_of ops.names.same ts tail) (run_define ops go here e p) (ops.meet k s) (has_same ops keeps m s (ops.meet k s) (keeps.meet k s) f.has) (definition_within ops.names.same ts tail)
+        read_ends m (DefinitionWithin (trees_size ts)) here p (definition_of ops.names.same ts tail) (run_define ops go here e p) (ops.meet k s) (has_same loud keeps m s (ops.meet k s) (keeps.meet k s) f.has) (definition_within ops.names.same ts tail)
         (λ d t h x. definition_ends m here (trees_size ts) p d t (omega (arith, a, c)) x (pends_behind m form ts p s t f h))
     core_ends m here IsDefineValues k form ts tail p s f =
         let a = f.smaller in let c = f.small in
-        read_ends m (ValuesWithin (trees_size ts)) here p (values_of ops.names.same ts tail) (run_values ops go here e p) (ops.meet k s) (has_same ops keeps m s (ops.meet k s) (keeps.meet k s) f.has) (values_within ops.names.same ts tail)
+        read_ends m (ValuesWithin (trees_size ts)) here p (values_of ops.names.same ts tail) (run_values ops go here e p) (ops.meet k s) (has_same loud keeps m s (ops.meet k s) (keeps.meet k s) f.has) (values_within ops.names.same ts tail)
         (λ d t h x. values_ends m here p d t (omega (arith, a, c, x)) (pends_behind m form ts p s t f h))
     core_ends m here IsDefineRecordType k form ts tail p s f =
-        read_ends m Any here p (record_of ops.names.same ts tail) (run_record ops go here e p) (ops.meet k s) (has_same ops keeps m s (ops.meet k s) (keeps.meet k s) f.has) (record_any ops.names.same ts tail)
+        read_ends m Any here p (record_of ops.names.same ts tail) (run_record ops go here e p) (ops.meet k s) (has_same loud keeps m s (ops.meet k s) (keeps.meet k s) f.has) (record_any ops.names.same ts tail)
         (λ r t h x. record_ends m here p r t (pends_behind m form ts p s t f h))
     core_ends m here IsDefineSyntax k form ts tail p s f =
-        read_ends m (NamedWithin (trees_size ts)) here p (syntax_of ts tail) (run_syntax ops go here e p) (ops.meet k s) (has_same ops keeps m s (ops.meet k s) (keeps.meet k s) f.has) (syntax_within ts tail)
+        read_ends m (NamedWithin (trees_size ts)) here p (syntax_of ts tail) (run_syntax ops go here e p) (ops.meet k s) (has_same loud keeps m s (ops.meet k s) (keeps.meet k s) f.has) (syntax_within ts tail)
         (λ d t h x. syntax_ends m here p d t (pends_behind m form ts p s t f h))
     core_ends m here IsLetSyntax k form ts tail p s f = front_expression m form ts p s f
     core_ends m here IsLetrecSyntax k form ts tail p s f = front_expression m form ts p s f
     core_ends m here IsCondExpand k form ts tail p s f =
-        read_ends m (ChosenWithin ops.names.strip ops.known (trees_size ts)) here p (chosen_of ops.names.strip ops.known ts tail) (λ c. splice ops go here p (or_none c)) (ops.meet k s) (has_same ops keeps m s (ops.meet k s) (keeps.meet k s) f.has) (chosen_within ops.names.strip ops.known ts tail)
+        read_ends m (ChosenWithin ops.names.strip ops.known (trees_size ts)) here p (chosen_of ops.names.strip ops.known ts tail) (λ c. splice ops go here p (or_none c)) (ops.meet k s) (has_same loud keeps m s (ops.meet k s) (keeps.meet k s) f.has) (chosen_within ops.names.strip ops.known ts tail)
         (λ o t h x. chosen_ends m here form ts p s t o f h x)
     core_ends m here IsSyntaxError k form ts tail p s f = front_expression m form ts p s f
     core_ends m here IsInclude k form ts tail p s f = front_expression m form ts p s f
 
     -- an instance is gone through with a use less
-    used_ends : (m : ℕ) (here : Here) (q : Pending A L) (r : Result (Instance A) Broken × S) → Used ops keeps m r → total q.todo + m * max_nodes < turns → PendingWithin n q
+    used_ends : (m : ℕ) (here : Here) (q : Pending A L) (r : Result (Instance A) Broken × S) → Used loud keeps m r → total q.todo + m * max_nodes < turns → PendingWithin n q
         → PassEnds m (caught q.notes r (λ i. go (first (record { here = here; tree = i.tree } ∷ []) (waiting i.met q))))
     used_ends m here q (Ok i, t) b fit w =
         let a = b.one_less in let c = b.within in
@@ -245,7 +253,7 @@ module _ {E A L S : Type 0} (ops : Ops E A L S) (keeps : Keeps ops) (n : ℕ) (l
     use_ended m here k (Some x) form ts tail p s f =
         let ns : List (Note L) = comparisons ops e x ts tail s in
         let a = f.smaller in let b = f.fit in
-        used_ends m here (noted ns p) (use_of ops here e k x ts tail s) (use_ends ops keeps m here e k x ts tail s f.has) (omega (arith, a, b)) (noted_within n ns p f.within)
+        used_ends m here (noted ns p) (use_of ops here e k x ts tail s) (use_ends loud keeps m here e k x ts tail s f.has) (omega (arith, a, b)) (noted_within n ns p f.within)
 
     head_ends : (m : ℕ) (here : Here) (d : Head) (k : Target) (form : Form A) (ts : Trees A) (tail : Tail A) (p : Pending A L) (s : S) → Front m form ts p s → PassEnds m (run_head ops go here e d k form ts tail p s)
     head_ends m here (IsCore c) k form ts tail p s f = core_ends m here c k form ts tail p s f
@@ -254,7 +262,7 @@ module _ {E A L S : Type 0} (ops : Ops E A L S) (keeps : Keeps ops) (n : ℕ) (l
     head_ends m here IsNone k form ts tail p s f = front_expression m form ts p s f
 
     -- what a form may be: its tree, and turns for it
-    form_ends : (m : ℕ) (here : Here) (form : Form A) (t : Tree A) (p : Pending A L) (s : S) → tree_size form.tree ≡ tree_size t → tree_size t ≤ n → tree_size t + total p.todo + m * max_nodes ≤ turns → Has ops keeps m s → PendingWithin n p → PassEnds m (run_form ops go e here form t p s)
+    form_ends : (m : ℕ) (here : Here) (form : Form A) (t : Tree A) (p : Pending A L) (s : S) → tree_size form.tree ≡ tree_size t → tree_size t ≤ n → tree_size t + total p.todo + m * max_nodes ≤ turns → Has loud keeps m s → PendingWithin n p → PassEnds m (run_form ops go e here form t p s)
     form_ends m here form (name i o) p s same small fit h w = expression_ends m form p s (omega (arith, same, small)) (h, omega (arith, fit), w)
     form_ends m here form (atom a o) p s same small fit h w = expression_ends m form p s (omega (arith, same, small)) (h, omega (arith, fit), w)
     form_ends m here form (vector ts o) p s same small fit h w = expression_ends m form p s (omega (arith, same, small)) (h, omega (arith, fit), w)
@@ -267,13 +275,13 @@ module _ {E A L S : Type 0} (ops : Ops E A L S) (keeps : Keeps ops) (n : ℕ) (l
     form_ends m here form (list (tree (list us end q) ts) tail o) p s same small fit h w = expression_ends m form p s (omega (arith, same, small)) (h, omega (arith, fit), w)
     form_ends m here form (list (tree (vector us q) ts) tail o) p s same small fit h w = expression_ends m form p s (omega (arith, same, small)) (h, omega (arith, fit), w)
 
-    next_ends : (m : ℕ) (fs : List (Form A)) (p : Pending A L) (s : S) → Has ops keeps m s → total fs + m * max_nodes ≤ turns → FormsWithin n fs → ItemsWithin n p.aside → PassEnds m (run_next ops go e fs p s)
+    next_ends : (m : ℕ) (fs : List (Form A)) (p : Pending A L) (s : S) → Has loud keeps m s → total fs + m * max_nodes ≤ turns → FormsWithin n fs → ItemsWithin n p.aside → PassEnds m (run_next ops go e fs p s)
     next_ends m [] p s h fit w a = (h, a)
     next_ends m (f ∷ fs) p s h fit w a = form_ends m (here_at ops.plain f.tree f.here) f f.tree (record p { todo = fs }) s refl w.0 (omega (arith, fit)) h (record { todo = w.1; aside = a })
 
   nothing : (k : ℕ) → k < 0 → ⊥
   nothing k h = omega arith
 
-  pub run_ends : (turns m : ℕ) (p : Pending A L) (s : S) → Has ops keeps m s → Fit turns m p → PendingWithin n p → PassEnds m (run ops turns e p s)
+  pub run_ends : (turns m : ℕ) (p : Pending A L) (s : S) → Has loud keeps m s → Fit turns m p → PendingWithin n p → PassEnds m (run ops turns e p s)
   run_ends zero m p s h fit w = (h, nothing (total p.todo + m * max_nodes) fit)
   run_ends (suc turns) m p s h fit w = next_ends turns (run ops turns e) (run_ends turns) m p.todo p s h (omega (arith, fit)) w.todo w.aside

@@ -106,7 +106,11 @@ abbrev pub Ended : {V : Type 0} → (V → Type 0) → Result V Broken → Type 
 Ended P (Ok v) = P v
 Ended P (Err b) = InTurns b.fault
 
-module _ {E A L S : Type 0} (ops : Ops E A L S) (keeps : Keeps ops) where
+module _ {E A L S : Type 0} (loud : Ops E A L S) (keeps : Keeps loud) where
+  -- nothing is asked
+  abbrev ops : Ops E A L S
+  ops = record loud { ask = λ qs s. s }
+
   -- so many macro uses are left, at the most
   abbrev pub Has : ℕ → S → Type 0
   Has m s = max_uses ≤ m + uses_in ops s

@@ -28,7 +28,11 @@ then_comes P Q (Some x, s) f h g = g x s h
 abbrev pub NumberedWithin : {A : Type 0} → ℕ → ℕ × Tree A → Type 0
 NumberedWithin n t = tree_size t.1 ≤ n
 
-module _ {E A L S : Type 0} (ops : Ops E A L S) (keeps : Keeps ops) (n need turns : ℕ) (large : max_nodes ≤ n) (enough : n + max_uses * max_nodes < need) (many : max_depth + (max_uses + need) < turns) (e : E) where
+module _ {E A L S : Type 0} (loud : Ops E A L S) (keeps : Keeps loud) (n need turns : ℕ) (large : max_nodes ≤ n) (enough : n + max_uses * max_nodes < need) (many : max_depth + (max_uses + need) < turns) (e : E) where
+  -- nothing is asked
+  abbrev ops : Ops E A L S
+  ops = record loud { ask = λ qs s. s }
+
   over_by : {X : Type 0} (P : X → Type 0) (b : Bool) (q : X × S) → P q.0 → Comes P (if b then (None, q.1) else (Some q.0, q.1))
   over_by P true q h = tt
   over_by P false q h = h
@@ -53,7 +57,7 @@ module _ {E A L S : Type 0} (ops : Ops E A L S) (keeps : Keeps ops) (n need turn
   passes_come fs (t ∷ ts) notes s w =
       let p : Pending A L = one_form t.1 notes in
       let small = w.0 in
-      let passed = run_ends ops keeps n large e turns max_uses p (ops.turn t.0 s) (omega arith) (omega (arith, small, enough, many)) (record { todo = (small, tt); aside = tt }) in
+      let passed = run_ends loud keeps n large e turns max_uses p (ops.turn t.0 s) (omega arith) (omega (arith, small, enough, many)) (record { todo = (small, tt); aside = tt }) in
       then_comes PassFits (Each LeftFits) (unless_over ops fs (run ops turns e p (ops.turn t.0 s))) (λ q t1. passes ops turns e fs ts q.notes t1 then λ rest. going ((t.0, q.left) ∷ rest))
       (unless_comes PassFits fs (run ops turns e p (ops.turn t.0 s)) passed.1)
       (λ q t1 h. then_comes (Each LeftFits) (Each LeftFits) (passes ops turns e fs ts q.notes t1) (λ rest. going ((t.0, q.left) ∷ rest)) (passes_come fs ts q.notes t1 w.1) (λ rest u k. (h, k)))
@@ -70,7 +74,7 @@ module _ {E A L S : Type 0} (ops : Ops E A L S) (keeps : Keeps ops) (n need turn
   before_come more (Ok p) s h g = then_comes (Ended Any) (Ended Any) (more s) (λ r. going (with_part p r)) (g s) (λ r t k. with_fine p r k)
 
   one_item : (i : Item A) (s : S) → ItemWithin n i → Ended Any (item_part F ops max_depth e i s).0
-  one_item i s w = (item_ends ops keeps n need large enough turns F (expand_ends ops keeps n need large enough turns) max_uses max_depth e i (omega arith, many) w s (omega arith)).1
+  one_item i s w = (item_ends loud keeps n need large enough turns F (expand_ends loud keeps n need large enough turns) max_uses max_depth e i (omega arith, many) w s (omega arith)).1
 
   items_come : (fs : List ℕ) (is : List (Item A)) (s : S) → ItemsWithin n is → Comes (Ended Any) (items_parts ops fs (item_part F ops max_depth e) is s)
   items_come fs [] s w = tt

@@ -1,5 +1,5 @@
 -- Expressions on the third side of counted expansion, and on each other side alike: they come to the same cores.
-use Rattle.std.proofs.Common.{◌≡◌, ℕ, zero, suc, ◌+◌, List, [], ◌∷◌, map, Bool, true, false, Option, Some, None, Result, Ok, refl, sym, ap, ◌∙◌}
+use Rattle.std.proofs.Common.{arith, ◌≡◌, ℕ, zero, suc, ◌+◌, ◌≤◌, List, [], ◌∷◌, map, Bool, true, false, Option, Some, None, Result, Ok, refl, sym, ap, ◌∙◌}
 use Rattle.scheme_model.specs.Identifiers.{Number}
 use Rattle.scheme_model.specs.Ident.{Ident, same_ident, symbol_of}
 use Rattle.scheme_model.specs.Keywords.{CoreKeyword, IsQuote, IsQuasiquote, IsLambda, IsCaseLambda, IsIf, IsSet, IsBegin, IsDefine, IsDefineValues, IsDefineRecordType, IsDefineSyntax, IsLetSyntax, IsLetrecSyntax, IsCondExpand, IsSyntaxError, IsInclude}
@@ -102,9 +102,9 @@ module _ (c : Setting) (x : Side c) where
   local_defs_same s (v ∷ vs) (n ∷ ns) h =
       let a = macro_def_same s (record { bound = LocalNumber v; ident = n.name.0; occ = n.occ }) h.0 in let b = local_defs_same s vs ns h.1 in λ j. a j ∷ b j
 
-  numbers_told : (s : T c) (n : ℕ) (ns : List (Named (B c))) → ToldNumbers (numbers (record { unit = s.0.unit; form = s.0.form; count = n }) ns)
-  numbers_told s n [] = tt
-  numbers_told s n (y ∷ ys) = (c.local s.0 s.1 n, numbers_told s (suc n) ys)
+  numbers_told : (s : T c) (n : ℕ) → s.0.locals s.0.form ≤ n → (ns : List (Named (B c))) → ToldNumbers (numbers (record { unit = s.0.unit; form = s.0.form; count = n }) ns)
+  numbers_told s n l [] = tt
+  numbers_told s n l (y ∷ ys) = (c.local s.0 s.1 n l, numbers_told s (suc n) (omega (arith, l)) ys)
 
   numbers_same : (v : Number) (ns : List (Named (B c))) → numbers v (map (named_map (ident c)) ns) ≡ numbers v ns
   numbers_same v [] = refl
@@ -237,14 +237,14 @@ module _ (c : Setting) (x : Side c) where
         let v = next_number s.0 s.0.locals in
         goes_at c (ap (λ vs. bound (side c x) (λ d ts. local_macros G (side c x) depth here vs (map (named_map (ident c)) m.names) e.0 (map_trees (ident c) m.rules) d ts) (map (named_map (ident c)) m.names) e.0 (map_trees (ident c) m.body) s.0 >>= λ q. done q.1) (numbers_same v m.names))
         (goes_bind c _ _ (bound_goes (λ d ts. local_macros F (over c) depth here (numbers v m.names) m.names e m.rules d ts) (λ d ts. local_macros G (side c x) depth here (numbers v m.names) (map (named_map (ident c)) m.names) e.0 (map_trees (ident c) m.rules) d ts)
-        (λ d ts u. local_macros_goes depth here (numbers v m.names) (numbers_told s (s.0.locals s.0.form) m.names) m.names e m.rules d ts u) m.names e m.body s) (λ q u. goes refl))
+        (λ d ts u. local_macros_goes depth here (numbers v m.names) (numbers_told s (s.0.locals s.0.form) (omega arith) m.names) m.names e m.rules d ts u) m.names e m.body s) (λ q u. goes refl))
 
     letrec_goes : (depth : ℕ) (here : Here) (e : D c) (m : LocalMacros (B c)) (s : T c) → Same (letrec_syntax F (over c) depth here e m s) (letrec_syntax G (side c x) depth here e.0 (local_macros_map (ident c) m) s.0)
     letrec_goes depth here e m s =
         let v = next_number s.0 s.0.locals in let ts = tree (list m.rules proper None) m.body in
         goes_at c (ap (λ vs. bound (side c x) (recursive G (side c x) depth here vs (map (named_map (ident c)) m.names)) (map (named_map (ident c)) m.names) e.0 (map_trees (ident c) ts) s.0 >>= λ q. done q.1) (numbers_same v m.names))
         (goes_bind c _ _ (bound_goes (recursive F (over c) depth here (numbers v m.names) m.names) (recursive G (side c x) depth here (numbers v m.names) (map (named_map (ident c)) m.names))
-        (λ d us u. recursive_goes depth here (numbers v m.names) (numbers_told s (s.0.locals s.0.form) m.names) m.names d us u) m.names e ts s) (λ q u. goes refl))
+        (λ d us u. recursive_goes depth here (numbers v m.names) (numbers_told s (s.0.locals s.0.form) (omega arith) m.names) m.names d us u) m.names e ts s) (λ q u. goes refl))
 
     -- ---- other core forms
 

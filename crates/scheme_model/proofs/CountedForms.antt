@@ -1,5 +1,5 @@
 -- The forms of a body or a unit, gone through on the third side of counted expansion and on each other side alike.
-use Rattle.std.proofs.Common.{◌≡◌, List, [], ◌∷◌, ◌++◌, map, Bool, true, false, cond, Option, Some, None, Result, Ok, Err, refl, sym, ap, ◌∙◌, subst}
+use Rattle.std.proofs.Common.{arith, ◌≡◌, List, [], ◌∷◌, ◌++◌, map, Bool, true, false, cond, Option, Some, None, Result, Ok, Err, refl, sym, ap, ◌∙◌, subst}
 use Rattle.scheme_model.specs.Identifiers.{Number}
 use Rattle.scheme_model.specs.Ident.{Ident, same_ident}
 use Rattle.scheme_model.specs.Trees.{Tree, name, atom, list, vector, Trees, no_trees, tree, map_tree, map_trees, map_tail}
@@ -148,7 +148,7 @@ module _ (c : Setting) where
     where
       go : (b : Option Number) → ToldBound c.told (bound_next s.0 b)
       go None = tt
-      go (Some b) = c.local s.0 s.1 (s.0.locals s.0.form)
+      go (Some b) = c.local s.0 s.1 (s.0.locals s.0.form) (omega arith)
 
 module _ (c : Setting) (x : Side c) where
   -- ---- a definition

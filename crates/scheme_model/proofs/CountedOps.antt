@@ -1,6 +1,6 @@
 -- Expansion of one form over identifiers, frames and states that hold what is said of the form: a third side, of which both that by
 -- counts and that by whole numbers are the image. So the two are one.
-use Rattle.std.proofs.Common.{◌≡◌, ℕ, suc, ◌+◌, List, ◌∷◌, map, Bool, true, false, Option, Some, None, Result, Ok, Err, refl, ap, ◌∙◌}
+use Rattle.std.proofs.Common.{◌≡◌, ℕ, suc, ◌+◌, ◌≤◌, List, ◌∷◌, map, Bool, true, false, Option, Some, None, Result, Ok, Err, refl, ap, ◌∙◌}
 use Rattle.std.specs.Prelude.{◌&&◌, if◌then◌else◌}
 use Rattle.scheme_model.specs.Identifiers.{Number}
 use Rattle.scheme_model.specs.Ident.{Ident, Inserted, same_ident, symbol_of}
@@ -46,7 +46,7 @@ pub record Setting : Type 1 where
   pub macro : (s : ScopedState) → holds s → (m : Meaning) → told m ≡ true → IfMacro (λ (x : Transformer Frames Ident). around x.env × Held rules_kind stands x.rules) (macro_at s.macros m)
   pub means : (s : ScopedState) → holds s → (fs : Frames) → around fs → (i : Ident) → stands i → told (means_at s fs i) ≡ true
   pub global : (u : ℕ) (i : Ident) → told (Global u i) ≡ true
-  pub local : (s : ScopedState) → holds s → (n : ℕ) → told (Local (record { unit = s.unit; form = s.form; count = n })) ≡ true
+  pub local : (s : ScopedState) → holds s → (n : ℕ) → s.locals s.form ≤ n → told (Local (record { unit = s.unit; form = s.form; count = n })) ≡ true
 
 -- what is done of a value, where there is one
 abbrev pub seen : {V W X : Type 0} → (V → W) → Result V X → Result W X
@@ -130,6 +130,7 @@ module _ (c : Setting) where
     means = λ e s i. means_at s.0 e.0 i.0;
     transformer = λ s m. transformer_if s m (c.told m) refl;
     known = c.known;
+    ask = λ qs s. s;
     is_assigned = λ e s i. assigned s.0 (body_around e.0) i.0;
     counted = λ s. record { locals = s.0.locals s.0.form; uses = s.0.uses s.0.form; nodes = s.0.nodes s.0.form; keywords = s.0.keywords s.0.form; met = s.0.met s.0.form };
     turn = λ f s. s;
@@ -157,12 +158,14 @@ module _ (c : Setting) where
   -- a side that means and defines as the third does
   pub record Side : Type 0 where
     pub means : Frames → ScopedState → Ident → Meaning
+    pub transformer : ScopedState → Meaning → Option (Transformer Frames Ident)
     pub define : Named Ident → Option (Rules Ident) → Frames → Pending Ident FramedIdent → ScopedState → Result (Renamed Ident FramedIdent) (Fault Ident) × ScopedState
     pub same_means : (e : D) (s : T) (i : B) → means e.0 s.0 i.0 ≡ means_at s.0 e.0 i.0
+    pub same_transformer : (s : T) (m : Meaning) → c.told m ≡ true → transformer s.0 m ≡ macro_at s.0.macros m
     pub same_define : (n : Named B) (r : Option (Rules B)) (e : D) (p : Pending B M) (s : T) → define (named_map ident n) (option_map (rules_map ident) r) e.0 (pending_map ident at p) s.0 ≡ defined_seen (define_over n r e p s)
 
   abbrev pub side : Side → Ops Frames Ident FramedIdent ScopedState
-  side x = record (scoped c.known) { means = x.means; define = x.define }
+  side x = record (scoped c.known) { means = x.means; transformer = x.transformer; define = x.define }
 
   -- ---- steps
 

@@ -283,7 +283,7 @@ module _ (w : Era) (s0 : ScopedState) where
     macro = λ s h m t. among_told f s h s.macros h.macros m t;
     means = λ s h fs e i l. means_told f s h fs e i l;
     global = λ u i. refl;
-    local = λ s h n. is_same w.unit f (record { unit = s.unit; form = s.form; count = n }) h.unit h.form;
+    local = λ s h n l. is_same w.unit f (record { unit = s.unit; form = s.form; count = n }) h.unit h.form;
   }
 
 -- ---- from one form to the next

@@ -14,7 +14,7 @@ use Rattle.scheme_model.specs.Order.{Item, Expression, Value, Function, Assigned
 use Rattle.scheme_model.specs.Expression.{expand, item_part}
 use Rattle.scheme_model.specs.UnitExpansion.{Formed as FormResult, max_depth, Work, ◌then◌, going, unless_over, one_form, passes, with_part, before_parts, items_parts, form_parts, finished, unit}
 use Rattle.scheme_model.specs.Substitution.{State, item_map, use_map, note_map, any, differ, unchanged}
-use Rattle.scheme_model.specs.ScopedExpansion.{Frames, FramedIdent, ScopedState, means_at, body_around, definition_added, meaning_next, is_defined, refused_now, scoped}
+use Rattle.scheme_model.specs.ScopedExpansion.{Frames, FramedIdent, ScopedState, means_at, macro_at, body_around, definition_added, meaning_next, is_defined, refused_now, scoped}
 use Rattle.scheme_model.specs.CountedExpansion.{means_here, refused_here, counted}
 use Rattle.scheme_model.proofs.IdentKinds.{item_kind, use_kind}
 use Rattle.scheme_model.proofs.FrameEras.{Era, Below}
@@ -38,7 +38,7 @@ use Rattle.scheme_model.proofs.CountedStates.{of_is, OfForm, Formed, told_by, St
 -- ---- both sides are the third side's image
 
 -- a local that is told is what its count tells
-of_form_told : (u f u' f' : ℕ) → u' ≡ u → f' ≡ f → (m : Meaning) → told_by u f m ≡ true → of_form u' f' m ≡ m
+pub of_form_told : (u f u' f' : ℕ) → u' ≡ u → f' ≡ f → (m : Meaning) → told_by u f m ≡ true → of_form u' f' m ≡ m
 of_form_told u f u' f' a b (Local v) h = let q = of_is u f v h in let x = a ∙ sym q.0 in let y = b ∙ sym q.1 in λ j. Local (record { unit = x j; form = y j; count = v.count })
 of_form_told u f u' f' a b (Global z i) h = refl
 of_form_told u f u' f' a b (Standard s) h = refl
@@ -101,6 +101,8 @@ module _ (w : Era) (known : Known) (asks : Asks) (s0 : ScopedState) where
   abbrev by_number : Side c
   by_number = record {
     means = λ fs s i. means_at s fs i;
+    transformer = λ s m. macro_at s.macros m;
+    same_transformer = λ s m h. refl;
     define = (numbered_asking asks known).define;
     same_means = λ e s i. refl;
     same_define = λ n r e p s. cases_seen n r e p s (any (asked n r e s) (map (note_map (at c)) p.notes)) (is_defined s.0 (body_around e.0) n.name.0);
@@ -109,6 +111,8 @@ module _ (w : Era) (known : Known) (asks : Asks) (s0 : ScopedState) where
   abbrev by_count : Side c
   by_count = record {
     means = λ fs s i. means_here s fs i;
+    transformer = λ s m. macro_at s.macros m;
+    same_transformer = λ s m h. refl;
     define = (counted_asking asks known).define;
     same_means = here_told;
     same_define = λ n r e p s.

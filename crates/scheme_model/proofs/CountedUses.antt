@@ -44,8 +44,8 @@ module _ (c : Setting) (x : Side c) where
   lifted None h = refl
   lifted (Some y) h = ap (λ r. Some (record { env = y.env; rules = r })) (sym h.1.same)
 
-  pub transformer_same : (s : T c) (m : Meaning) → c.told m ≡ true → macro_at s.0.macros m ≡ option_map (transformer_map c) ((over c).transformer s m)
-  transformer_same s m told = go (c.told m) refl told
+  pub transformer_same : (s : T c) (m : Meaning) → c.told m ≡ true → x.transformer s.0 m ≡ option_map (transformer_map c) ((over c).transformer s m)
+  transformer_same s m told = x.same_transformer s m told ∙ go (c.told m) refl told
     where
       go : (t : Bool) (e : c.told m ≡ t) → t ≡ true → macro_at s.0.macros m ≡ option_map (transformer_map c) (transformer_if c s m t e)
       go true e d = lifted (macro_at s.0.macros m) (c.macro s.0 s.1 m e)
@@ -56,8 +56,8 @@ module _ (c : Setting) (x : Side c) where
 
   pub head_goes : (e : D c) (s : T c) (i : B c) → head_of (side c x) e.0 s.0 i.0 ≡ head_of (over c) e s i
   head_goes e s i =
-      ap (head_as (λ m. is_some (macro_at s.0.macros m))) (x.same_means e s i)
-      ∙ head_same (λ m. is_some (macro_at s.0.macros m)) (λ m. is_some ((over c).transformer s m)) (means_at s.0 e.0 i.0)
+      ap (head_as (λ m. is_some (x.transformer s.0 m))) (x.same_means e s i)
+      ∙ head_same (λ m. is_some (x.transformer s.0 m)) (λ m. is_some ((over c).transformer s m)) (means_at s.0 e.0 i.0)
       (ap is_some (transformer_same s (means_at s.0 e.0 i.0) (means_told e s i)) ∙ some_mapped (transformer_map c) ((over c).transformer s (means_at s.0 e.0 i.0)))
 
   -- a macro that a head tells

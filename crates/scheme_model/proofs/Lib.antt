@@ -9,6 +9,7 @@ pub mod PatternLaws  -- What rules tell of their patterns and templates, once ea
 pub mod RulesLaws  -- Reading and checking the rules of a macro commutes with a renaming that tells identifiers apart
 pub mod CompareLaws  -- Which literals of rules are compared with which identifiers of a use, once both sides are renamed
 pub mod MatchLaws  -- Matching commutes with renamings of the rules and of the form under which rules tell their identifiers alike, and literals mean the same
+pub mod MatchedLaws  -- Which rule a use matches, and with what, depends on the sameness of literals at the pairs that are compared alone
 pub mod BuildLaws  -- Building an instance of a template commutes with renamings of the template and of what its variables stand for
 pub mod LeafLaws  -- The leaves of rules that mean something where their macro is defined, once each identifier is renamed
 pub mod IdentKinds  -- Kinds of structures over identifiers

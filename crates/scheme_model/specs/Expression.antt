@@ -1,6 +1,6 @@
 -- The core of an expression (R7RS 4.1, 4.2, 4.3), by the operations of a side. A core node tests its depth as it begins,
 -- and then adds its count. The depth is what is left of the budget; the turns bound the recursion alone.
-use Rattle.std.specs.Prelude.{ℕ, zero, suc, ◌+◌, List, [], ◌∷◌, map, Option, Some, None, Result}
+use Rattle.std.specs.Prelude.{ℕ, zero, suc, ◌+◌, List, [], ◌∷◌, ◌++◌, map, Option, Some, None, Result}
 use Rattle.scheme_model.specs.Identifiers.{Number}
 use Rattle.scheme_model.specs.Ident.{Ident}
 use Rattle.scheme_model.specs.Keywords.{CoreKeyword, IsQuote, IsQuasiquote, IsLambda, IsCaseLambda, IsIf, IsSet, IsBegin, IsDefine, IsDefineValues, IsDefineRecordType, IsDefineSyntax, IsLetSyntax, IsLetrecSyntax, IsCondExpand, IsSyntaxError, IsInclude, IsSyntaxRules, IsUnquote, IsUnquoteSplicing, IsOther}
@@ -9,13 +9,13 @@ use Rattle.scheme_model.specs.Measures.{tree_size}
 use Rattle.scheme_model.specs.ExpansionFaults.{Named, named, BadForm, BadPlace, KeywordAsValue, DepthBudget, SyntaxError, IncludeRefused, OutOfTurns, ◌>>◌}
 use Rattle.scheme_model.specs.Meaning.{Meaning, Local, Global, Head, IsCore, IsAuxiliary, IsMacro, IsNone}
 use Rattle.scheme_model.specs.Shapes.{Clause, lambda_of, case_lambda_of, if_of, named_tree_of, syntax_of, some_of, one_of, error_text_of, definition_of, values_of, LocalMacros, local_macros_of}
-use Rattle.scheme_model.specs.Requirements.{chosen_of}
-use Rattle.scheme_model.specs.Quasiquote.{Mark, Nested, Unquoted, Spliced, quasi_of, Pieces}
+use Rattle.scheme_model.specs.Requirements.{chosen_of, libraries_in}
+use Rattle.scheme_model.specs.Quasiquote.{Mark, Nested, Unquoted, Spliced, quasi_of, marks_in, Pieces}
 use Rattle.scheme_model.specs.RulesShape.{Rules, rules_map}
 use Rattle.scheme_model.specs.Leaves.{leaves_of}
 use Rattle.scheme_model.specs.Cores.{Target, Bound, LocalNumber, Definition, Binder, Binders, MacroDef, Core, Ref, Const, Quote, Quasi, Lambda, CaseLambda, If, Set, Call, Body, LetSyntax, Cores, no_cores, core, Clauses, no_clauses, clause, Parts, no_parts, part, Part, Expression as expression_part, Define as define_part, Values as values_part, Fields as fields_part, Syntax as syntax_part, outside}
 use Rattle.scheme_model.specs.Steps.{Broken, Step, ◌>>=◌, done, fails}
-use Rattle.scheme_model.specs.Order.{Here, Item, Expression, Value, Function, Assigned, AssignedFunction, ValuesOf, Record, Macro, Left, Pass, Region, Transformer, Ops, target_of, head_of, here_at, forms_at, counting, given, use_of, meet_waiting, meet_all, RulesParts, rules_parts_of, rules_parts, rules_at, run}
+use Rattle.scheme_model.specs.Order.{Here, Item, Expression, Value, Function, Assigned, AssignedFunction, ValuesOf, Record, Macro, Left, Pass, Region, Transformer, Asked, Meant, Headed, RulesOf, Library, Ops, target_of, head_of, here_at, forms_at, counting, given, use_of, meet_waiting, meet_all, RulesParts, rules_parts_of, rules_parts, rules_at, run}
 
 -- what is expanded: an expression, or the forms of a body
 pub data Task (A : Type 0) : Type 0 where
@@ -81,11 +81,19 @@ macro_with ops s b (Some m) = record {
 abbrev pub macro_def : {E A L S : Type 0} → Ops E A L S → S → Binder → MacroDef
 macro_def ops s b = macro_with ops s b (ops.transformer s (meaning_of b.bound b.ident))
 
+-- what it asks
+abbrev pub leaves_asked : {E A L S : Type 0} → Ops E A L S → Option (Transformer E A) → List (Asked E A)
+leaves_asked ops None = []
+leaves_asked ops (Some m) = map (λ l. Meant m.env l.leaf.name) (leaves_of ops.names m.rules)
+
+abbrev pub macro_asked : {E A L S : Type 0} → Ops E A L S → S → Binder → List (Asked E A)
+macro_asked ops s b = RulesOf (meaning_of b.bound b.ident) ∷ leaves_asked ops (ops.transformer s (meaning_of b.bound b.ident))
+
 -- ---- bodies (R7RS 5.3.2)
 
 -- a later definition of a program's variable, read as an assignment
 abbrev pub assignment : {E A L S : Type 0} → Ops E A L S → ℕ → Here → E → Named A → (ℕ → Step S Core) → Step S Core
-assignment ops depth here e n value s = node ops here 1 depth (λ below t. value below t >>= λ c. done (Set (target_of ops e t n.name n.occ) c)) s
+assignment ops depth here e n value s = node ops here 1 depth (λ below t. value below (ops.ask (Meant e n.name ∷ []) t) >>= λ c. done (Set (target_of ops e t n.name n.occ) c)) s
 
 -- what was set aside, expanded
 abbrev pub item_part : {E A L S : Type 0} → Expander E A S → Ops E A L S → ℕ → E → Item A → Step S Part
@@ -96,7 +104,7 @@ item_part f ops depth e (Assigned n form) s = assignment ops depth form.here e n
 item_part f ops depth e (AssignedFunction n here c) s = assignment ops depth here e n (λ below. lambda f ops below here e c) s >>= λ l. done (expression_part l)
 item_part f ops depth e (ValuesOf bs form) s = f depth form.here e (whole form.tree) s >>= λ c. done (values_part bs c)
 item_part f ops depth e (Record r) s = done (fields_part r) s
-item_part f ops depth e (Macro b here) s = done (syntax_part (macro_def ops s b)) s
+item_part f ops depth e (Macro b here) s = done (syntax_part (macro_def ops s b)) (ops.ask (macro_asked ops s b) s)
 
 abbrev pub parts : {A S : Type 0} → (Item A → Step S Part) → List (Item A) → Step S Parts
 parts f [] s = done no_parts s
@@ -147,11 +155,17 @@ local_defs ops s [] ns = []
 local_defs ops s (v ∷ vs) [] = []
 local_defs ops s (v ∷ vs) (n ∷ ns) = macro_def ops s (record { bound = LocalNumber v; ident = ops.plain n.name; occ = n.occ }) ∷ local_defs ops s vs ns
 
+-- what they ask
+abbrev pub locals_asked : {E A L S : Type 0} → Ops E A L S → S → List Number → List (Named A) → List (Asked E A)
+locals_asked ops s [] ns = []
+locals_asked ops s (v ∷ vs) [] = []
+locals_asked ops s (v ∷ vs) (n ∷ ns) = macro_asked ops s (record { bound = LocalNumber v; ident = ops.plain n.name; occ = n.occ }) ++ locals_asked ops s vs ns
+
 -- the macros are kept and their leaves found, and then the body is worked; the rules are read in an environment of their own
 abbrev pub local_macros : {E A L S : Type 0} → Expander E A S → Ops E A L S → ℕ → Here → List Number → List (Named A) → E → Trees A → E → Trees A → Step S Core
 local_macros f ops depth here vs ns d rules e ts s =
     heads ops here d rules s >>= λ rs.
-    node ops here 1 depth (λ below t. keep_all ops here d vs rules rs t >>= λ u t1. f below here e (body ts) t1 >>= λ c. done (LetSyntax (local_defs ops t1 vs ns) c))
+    node ops here 1 depth (λ below t. keep_all ops here d vs rules rs t >>= λ u t1. f below here e (body ts) (ops.ask (locals_asked ops t1 vs ns) t1) >>= λ c. done (LetSyntax (local_defs ops t1 vs ns) c))
 
 -- the rules are the first tree of the region
 abbrev pub recursive : {E A L S : Type 0} → Expander E A S → Ops E A L S → ℕ → Here → List Number → List (Named A) → E → Trees A → Step S Core
@@ -216,10 +230,10 @@ unless_keyword ops here IsNone n go s = go s
 
 abbrev pub set : {E A L S : Type 0} → Expander E A S → Ops E A L S → ℕ → Here → E → Named A × Tree A → Step S Core
 set f ops depth here e p s =
-    unless_keyword ops here (head_of ops e s p.0.name) p.0 (node ops here 1 depth (λ below t. f below here e (whole p.1) t >>= λ c. done (Set (target_of ops e t p.0.name p.0.occ) c))) s
+    unless_keyword ops here (head_of ops e s p.0.name) p.0 (node ops here 1 depth (λ below t. f below here e (whole p.1) t >>= λ c. done (Set (target_of ops e t p.0.name p.0.occ) c))) (ops.ask (Headed e p.0.name ∷ []) s)
 
 abbrev pub reference : {E A L S : Type 0} → Ops E A L S → ℕ → Here → E → Named A → Step S Core
-reference ops depth here e n s = unless_keyword ops here (head_of ops e s n.name) n (node ops here 1 depth (λ below t. done (Ref (target_of ops e t n.name n.occ)) t)) s
+reference ops depth here e n s = unless_keyword ops here (head_of ops e s n.name) n (node ops here 1 depth (λ below t. done (Ref (target_of ops e t n.name n.occ)) t)) (ops.ask (Headed e n.name ∷ []) s)
 
 abbrev pub call : {E A L S : Type 0} → Expander E A S → Ops E A L S → ℕ → Here → E → Trees A → Tail A → Step S Core
 call f ops depth here e ts (dotted u) s = fails here BadForm s
@@ -239,7 +253,7 @@ chosen_sequence f ops depth here e (Some (tree t ts)) s = sequence f ops depth h
 abbrev pub core_form : {E A L S : Type 0} → Expander E A S → Ops E A L S → ℕ → Here → E → CoreKeyword → Trees A → Tail A → Step S Core
 core_form f ops depth here e IsQuote ts tail s = given ops.plain here (one_of ts tail) s >>= quote ops depth here
 core_form f ops depth here e IsQuasiquote ts tail s =
-    given ops.plain here (one_of ts tail >> quasi_of (λ i. mark_of (head_of ops e s i))) s >>= quasi f ops depth here e
+    given ops.plain here (one_of ts tail >> quasi_of (λ i. mark_of (head_of ops e s i))) (ops.ask (map (Headed e) (marks_in (λ i. mark_of (head_of ops e s i)) ts tail)) s) >>= quasi f ops depth here e
 core_form f ops depth here e IsLambda ts tail s = given ops.plain here (lambda_of ops.names.same ts tail) s >>= lambda f ops depth here e
 core_form f ops depth here e IsCaseLambda ts tail s =
     given ops.plain here (case_lambda_of ops.names.same ts tail) s >>= λ cs. node ops here 1 depth (λ below t. clauses f ops below here e cs t >>= λ more. done (CaseLambda more))
@@ -253,7 +267,7 @@ core_form f ops depth here e IsDefineRecordType ts tail s = fails here BadPlace 
 core_form f ops depth here e IsDefineSyntax ts tail s = given ops.plain here (syntax_of ts tail) s >>= misplaced here
 core_form f ops depth here e IsLetSyntax ts tail s = given ops.plain here (local_macros_of ops.names.same ts tail) s >>= let_syntax f ops depth here e
 core_form f ops depth here e IsLetrecSyntax ts tail s = given ops.plain here (local_macros_of ops.names.same ts tail) s >>= letrec_syntax f ops depth here e
-core_form f ops depth here e IsCondExpand ts tail s = given ops.plain here (chosen_of ops.names.strip ops.known ts tail) s >>= chosen_sequence f ops depth here e
+core_form f ops depth here e IsCondExpand ts tail s = given ops.plain here (chosen_of ops.names.strip ops.known ts tail) (ops.ask (map Library (libraries_in ops.names.strip ts tail)) s) >>= chosen_sequence f ops depth here e
 core_form f ops depth here e IsSyntaxError ts tail s = given ops.plain here (error_text_of ts tail) s >>= λ text. fails here (SyntaxError text)
 core_form f ops depth here e IsInclude ts tail s = fails here IncludeRefused s
 
@@ -262,10 +276,10 @@ macro_use f ops depth here e k None ts tail s = fails here BadForm s
 macro_use f ops depth here e k (Some m) ts tail s = use_of ops here e k m ts tail s >>= λ i t. f depth here e (whole i.tree) (meet_waiting ops e i.met t)
 
 abbrev pub by_head : {E A L S : Type 0} → Expander E A S → Ops E A L S → ℕ → Here → E → Head → Named A → Trees A → Tail A → Step S Core
-by_head f ops depth here e (IsCore c) n ts tail s = core_form f ops depth here e c ts tail (ops.meet (target_of ops e s n.name n.occ) s)
-by_head f ops depth here e (IsAuxiliary a) n ts tail s = call f ops depth here e (tree (name n.name n.occ) ts) tail s
-by_head f ops depth here e (IsMacro m) n ts tail s = macro_use f ops depth here e (target_of ops e s n.name n.occ) (ops.transformer s m) ts tail s
-by_head f ops depth here e IsNone n ts tail s = call f ops depth here e (tree (name n.name n.occ) ts) tail s
+by_head f ops depth here e (IsCore c) n ts tail s = core_form f ops depth here e c ts tail (ops.meet (target_of ops e s n.name n.occ) (ops.ask (Headed e n.name ∷ []) s))
+by_head f ops depth here e (IsAuxiliary a) n ts tail s = call f ops depth here e (tree (name n.name n.occ) ts) tail (ops.ask (Headed e n.name ∷ []) s)
+by_head f ops depth here e (IsMacro m) n ts tail s = macro_use f ops depth here e (target_of ops e s n.name n.occ) (ops.transformer (ops.ask (Headed e n.name ∷ []) s) m) ts tail (ops.ask (RulesOf m ∷ []) (ops.ask (Headed e n.name ∷ []) s))
+by_head f ops depth here e IsNone n ts tail s = call f ops depth here e (tree (name n.name n.occ) ts) tail (ops.ask (Headed e n.name ∷ []) s)
 
 abbrev pub expression : {E A L S : Type 0} → Expander E A S → Ops E A L S → ℕ → Here → E → Tree A → Step S Core
 expression f ops depth here e (name i o) s = reference ops depth here e (named i o) s

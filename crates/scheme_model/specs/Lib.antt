@@ -37,6 +37,9 @@ pub mod ScopedExpansion  -- Expansion by scopes
 pub mod CountedExpansion  -- Expansion by scopes where a local is told by its count alone, as one of the form at work
 pub mod FrameImages  -- What an identifier has become in the definition that substitutes, by the frames around it
 pub mod UnitExpansion  -- The expansion of a unit's forms (R7RS 5.1, 5.3)
+pub mod OwnAnswers  -- What a form answers itself
+pub mod Questions  -- What the expansion of a form asks of what is around it, each question at its moment
+pub mod FormsAlike  -- What a form of a unit comes to, and what it asks
 pub mod Entries  -- Import sets, and the names that they give (R7RS 5.2, 5.6)
 pub mod Declarations  -- What a document holds (R7RS 5.1, 5.6.1)
 pub mod TreeTexts  -- The trees of a text of symbols, `#t`, `#f`, quoted data and lists (R7RS 7.1.2), without places

@@ -10,7 +10,7 @@ use Rattle.scheme_model.specs.Measures.{tree_size}
 use Rattle.scheme_model.specs.ExpansionFaults.{Named, named, named_map, Fault, fault_map, NoRule, BadForm, UseBudget, NodeBudget, OutOfTurns}
 use Rattle.scheme_model.specs.Meaning.{Meaning, same_meaning, Head, IsCore, IsAuxiliary, IsMacro, IsNone, is_keyword, head_as}
 use Rattle.scheme_model.specs.Shapes.{Formals, Clause, DefinitionShape, Variable, Procedure, definition_of, values_of, FieldShape, RecordShape, record_of, syntax_of, proper_of}
-use Rattle.scheme_model.specs.Requirements.{Known, chosen_of}
+use Rattle.scheme_model.specs.Requirements.{Known, LibraryName, chosen_of, libraries_in}
 use Rattle.scheme_model.specs.RulesShape.{Rules, Names, rules_of, role_of, dots_of}
 use Rattle.scheme_model.specs.Matching.{Chosen, matcher, first_match, compared}
 use Rattle.scheme_model.specs.Building.{build}
@@ -94,6 +94,17 @@ pub record Transformer (E A : Type 0) : Type 0 where
   pub env : E
   pub rules : Rules A
 
+-- what is asked of what is around a form: what an identifier means; of one that is a head, or a variable that mustn't be a keyword, also
+-- whether it is a keyword; the rules of a macro; whether a literal and an identifier mean the same; whether a definition of an
+-- identifier is an assignment; whether there is a library
+pub data Asked (E A : Type 0) : Type 0 where
+  Meant : E → A → Asked E A
+  Headed : E → A → Asked E A
+  RulesOf : Meaning → Asked E A
+  Alike : E → A → E → A → Asked E A
+  Assigns : E → A → Asked E A
+  Library : LibraryName → Asked E A
+
 -- E are environments, A identifiers, L what a note keeps of one, S states
 pub record Ops (E A L S : Type 0) : Type 0 where
   pub names : Names A
@@ -104,6 +115,8 @@ pub record Ops (E A L S : Type 0) : Type 0 where
   pub means : E → S → A → Meaning
   pub transformer : S → Meaning → Option (Transformer E A)
   pub known : Known
+  -- these are asked
+  pub ask : List (Asked E A) → S → S
   -- what the unit or the body defines as a variable, where a later definition of it is an assignment
   pub is_assigned : E → S → A → Bool
   pub counted : S → Counted
@@ -195,6 +208,10 @@ comparisons ops e m ts tail s =
     (compared (role_of ops.names m.rules) (dots_of ops.names m.rules) m.rules.rules ts tail)
     else []
 
+-- what they ask
+abbrev pub compared_asked : {E A L S : Type 0} → Ops E A L S → E → Transformer E A → Trees A → Tail A → List (Asked E A)
+compared_asked ops e m ts tail = map (λ q. Alike m.env q.0 e q.1) (compared (role_of ops.names m.rules) (dots_of ops.names m.rules) m.rules.rules ts tail)
+
 -- the instance of the template, and the use
 pub record Instance (A : Type 0) : Type 0 where
   pub tree : Tree A
@@ -210,12 +227,12 @@ used ops here keyword m k (Some c) s =
 abbrev pub use_of : {E A L S : Type 0} → Ops E A L S → Here → E → Target → Transformer E A → Trees A → Tail A → Step S (Instance A)
 use_of ops here e keyword m ts tail s =
     if has_use ops s then
-    used ops here keyword m (ops.next_use s) (first_match (matcher ops.names m.rules (λ l j. same_meaning (ops.means m.env s l) (ops.means e s j))) m.rules.rules ts tail) (ops.begin_use m.env s)
+    used ops here keyword m (ops.next_use s) (first_match (matcher ops.names m.rules (λ l j. same_meaning (ops.means m.env s l) (ops.means e s j))) m.rules.rules ts tail) (ops.begin_use m.env (ops.ask (compared_asked ops e m ts tail) s))
     else fails here UseBudget s
 
 -- a use is met, with what its literals mean by now
 abbrev pub meet_waiting : {E A L S : Type 0} → Ops E A L S → E → WaitingUse A → S → S
-meet_waiting ops e u s = ops.meet_use (record { keyword = u.keyword; literals = map (λ n. target_of ops e s n.name n.occ) u.literals }) s
+meet_waiting ops e u s = ops.meet_use (record { keyword = u.keyword; literals = map (λ n. target_of ops e s n.name n.occ) u.literals }) (ops.ask (map (λ n. Meant e n.name) u.literals) s)
 
 abbrev pub meet_all : {E A L S : Type 0} → Ops E A L S → E → List (WaitingUse A) → S → S
 meet_all ops e [] s = s
@@ -302,8 +319,8 @@ run_function ops go here e n c true p s = go (put (AssignedFunction n here c) p)
 run_function ops go here e n c false p s = caught p.notes (told here (ops.define n None e (put (Function (binder_at ops e s n) here c) p) s)) (λ d. go d.pending)
 
 abbrev pub run_define : {E A L S : Type 0} → Ops E A L S → Going A L S → Here → E → Pending A L → DefinitionShape A → S → Pass A L × S
-run_define ops go here e p (Variable n t) s = run_variable ops go here e n t (ops.is_assigned e s n.name) p s
-run_define ops go here e p (Procedure n c) s = run_function ops go here e n c (ops.is_assigned e s n.name) p s
+run_define ops go here e p (Variable n t) s = run_variable ops go here e n t (ops.is_assigned e s n.name) p (ops.ask (Assigns e n.name ∷ []) s)
+run_define ops go here e p (Procedure n c) s = run_function ops go here e n c (ops.is_assigned e s n.name) p (ops.ask (Assigns e n.name ∷ []) s)
 
 -- the value reads as the definitions make it
 abbrev pub run_values : {E A L S : Type 0} → Ops E A L S → Going A L S → Here → E → Pending A L → Formals A × Tree A → S → Pass A L × S
@@ -346,7 +363,7 @@ rules_parts_of (list (tree (vector us p) ts) tail o) = None
 -- rules by a list whose head means `syntax-rules`
 abbrev pub rules_parts : {E A L S : Type 0} → Ops E A L S → Here → E → Option (RulesParts A) → Step S (RulesParts A)
 rules_parts ops here e None s = fails here BadForm s
-rules_parts ops here e (Some r) s = if is_rules (head_of ops e s r.head) then done r s else fails here BadForm s
+rules_parts ops here e (Some r) s = if is_rules (head_of ops e s r.head) then done r (ops.ask (Headed e r.head ∷ []) s) else fails here BadForm (ops.ask (Headed e r.head ∷ []) s)
 
 -- the look-up of the head of rules
 abbrev pub rules_note : {E A L S : Type 0} → Ops E A L S → E → S → Option (RulesParts A) → List (Note L)
@@ -392,7 +409,7 @@ run_core ops go here e IsDefineSyntax k form ts tail p s = read_then ops here p 
 run_core ops go here e IsLetSyntax k form ts tail p s = go (put (Expression form) p) s
 run_core ops go here e IsLetrecSyntax k form ts tail p s = go (put (Expression form) p) s
 run_core ops go here e IsCondExpand k form ts tail p s =
-    read_then ops here p (chosen_of ops.names.strip ops.known ts tail) (λ c. splice ops go here p (or_none c)) (ops.meet k s)
+    read_then ops here p (chosen_of ops.names.strip ops.known ts tail) (λ c. splice ops go here p (or_none c)) (ops.ask (map Library (libraries_in ops.names.strip ts tail)) (ops.meet k s))
 run_core ops go here e IsSyntaxError k form ts tail p s = go (put (Expression form) p) s
 run_core ops go here e IsInclude k form ts tail p s = go (put (Expression form) p) s
 
@@ -406,7 +423,7 @@ run_use ops go here e k (Some m) form ts tail p s = gone_on ops go here e k m ts
 abbrev pub run_head : {E A L S : Type 0} → Ops E A L S → Going A L S → Here → E → Head → Target → Form A → Trees A → Tail A → Pending A L → S → Pass A L × S
 run_head ops go here e (IsCore c) k form ts tail p s = run_core ops go here e c k form ts tail p s
 run_head ops go here e (IsAuxiliary a) k form ts tail p s = go (put (Expression form) p) s
-run_head ops go here e (IsMacro m) k form ts tail p s = run_use ops go here e k (ops.transformer s m) form ts tail p s
+run_head ops go here e (IsMacro m) k form ts tail p s = run_use ops go here e k (ops.transformer s m) form ts tail p (ops.ask (RulesOf m ∷ []) s)
 run_head ops go here e IsNone k form ts tail p s = go (put (Expression form) p) s
 
 -- `p` is what is left behind the form
@@ -416,7 +433,7 @@ run_form ops go e here form (atom a o) p s = go (put (Expression form) p) s
 run_form ops go e here form (vector ts o) p s = go (put (Expression form) p) s
 run_form ops go e here form (list no_trees tail o) p s = go (put (Expression form) p) s
 run_form ops go e here form (list (tree (name i q) ts) tail o) p s =
-    run_head ops go here e (head_of ops e s i) (target_of ops e s i q) form ts tail (noted (LookedUp (ops.place e i) true (is_keyword (head_of ops e s i)) ∷ []) p) s
+    run_head ops go here e (head_of ops e s i) (target_of ops e s i q) form ts tail (noted (LookedUp (ops.place e i) true (is_keyword (head_of ops e s i)) ∷ []) p) (ops.ask (Headed e i ∷ []) s)
 run_form ops go e here form (list (tree (atom a q) ts) tail o) p s = go (put (Expression form) p) s
 run_form ops go e here form (list (tree (list us end q) ts) tail o) p s = go (put (Expression form) p) s
 run_form ops go e here form (list (tree (vector us q) ts) tail o) p s = go (put (Expression form) p) s

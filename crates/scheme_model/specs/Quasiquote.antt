@@ -104,3 +104,49 @@ abbrev mutual
 -- the datum of `(quasiquote datum)`
 abbrev pub quasi_of : {A : Type 0} → (A → Option Mark) → Tree A → Result (Pieces A) (Fault A)
 quasi_of mark t = datum_at mark zero t
+
+-- ---- of which identifiers it is asked what they mark
+
+-- the first of a list
+abbrev pub first_name : {A : Type 0} → Tree A → List A
+first_name (name i o) = i ∷ []
+first_name (atom a o) = []
+first_name (list ts tail o) = []
+first_name (vector ts o) = []
+
+-- those of a datum and of what is behind it, where it marks this as the first of a list
+abbrev pub marks_by : {A : Type 0} → Option Mark → ℕ → List A → List A → List A
+marks_by None level first rest = first ++ rest
+marks_by (Some Nested) level first rest = first ++ rest
+marks_by (Some Unquoted) zero first rest = []
+marks_by (Some Unquoted) (suc level) first rest = first ++ rest
+marks_by (Some Spliced) zero first rest = []
+marks_by (Some Spliced) (suc level) first rest = first ++ rest
+
+-- `end` are those of the tail at a level
+abbrev mutual
+  pub marks_at : {A : Type 0} → (A → Option Mark) → ℕ → Tree A → List A
+  marks_at mark level (name i o) = []
+  marks_at mark level (atom a o) = []
+  marks_at mark level (list ts tail o) = pair_marks mark level ts (tail_marks mark tail)
+  marks_at mark level (vector ts o) = element_marks mark level ts
+
+  pub pair_marks : {A : Type 0} → (A → Option Mark) → ℕ → Trees A → (ℕ → List A) → List A
+  pair_marks mark level no_trees end = end level
+  pair_marks mark level (tree t ts) end = first_name t ++ marks_by (mark_in mark t) level (marks_at mark level t) (pair_marks mark (level_behind (mark_in mark t) level) ts end)
+
+  pub tail_marks : {A : Type 0} → (A → Option Mark) → Tail A → ℕ → List A
+  tail_marks mark proper level = []
+  tail_marks mark (dotted t) level = marks_at mark level t
+
+  pub element_marks : {A : Type 0} → (A → Option Mark) → ℕ → Trees A → List A
+  element_marks mark level no_trees = []
+  element_marks mark level (tree t ts) = marks_at mark level t ++ element_marks mark level ts
+
+abbrev pub datum_marks : {A : Type 0} → (A → Option Mark) → Result (Tree A) (Fault A) → List A
+datum_marks mark (Ok t) = marks_at mark zero t
+datum_marks mark (Err e) = []
+
+-- those of `(quasiquote datum)`
+abbrev pub marks_in : {A : Type 0} → (A → Option Mark) → Trees A → Tail A → List A
+marks_in mark ts tail = datum_marks mark (one_of ts tail)

@@ -1,5 +1,5 @@
 -- The clauses of `cond-expand` (R7RS 4.2.1). Its words are read by their symbols; the one feature is `r7rs`.
-use Rattle.std.specs.Prelude.{ℕ, List, [], ◌∷◌, Bool, true, false, ◌&&◌, ◌||◌, not, Option, Some, None, Result, Ok, Err, codes, if◌then◌else◌}
+use Rattle.std.specs.Prelude.{ℕ, List, [], ◌∷◌, ◌++◌, Bool, true, false, ◌&&◌, ◌||◌, not, Option, Some, None, Result, Ok, Err, codes, if◌then◌else◌}
 use Rattle.std.specs.List.{list_all}
 use Rattle.std.specs.Char.{is_ascii_digit}
 use Rattle.std.specs.Str.{bytes_eq}
@@ -108,3 +108,44 @@ choices strip known (tree t ts) =
 -- `(cond-expand clause ...)` of one clause or more: the forms of the first clause that holds
 abbrev pub chosen_of : {A : Type 0} → (A → List ℕ) → Known → Trees A → Tail A → Result (Option (Trees A)) (Fault A)
 chosen_of strip known ts tail = some_of ts tail >> choices strip known
+
+-- ---- which libraries are asked for
+
+abbrev pub name_asked : {A : Type 0} → Result LibraryName (Fault A) → List LibraryName
+name_asked (Ok n) = n ∷ []
+name_asked (Err e) = []
+
+-- those of a requirement
+abbrev mutual
+  pub libraries_of : {A : Type 0} → (A → List ℕ) → Tree A → List LibraryName
+  libraries_of strip (name i o) = []
+  libraries_of strip (atom a o) = []
+  libraries_of strip (vector ts o) = []
+  libraries_of strip (list no_trees tail o) = []
+  libraries_of strip (list (tree (atom a p) ts) tail o) = []
+  libraries_of strip (list (tree (list us end p) ts) tail o) = []
+  libraries_of strip (list (tree (vector us p) ts) tail o) = []
+  libraries_of strip (list (tree (name i p) ts) (dotted u) o) = []
+  libraries_of strip (list (tree (name i p) ts) proper o) =
+      if bytes_eq (strip i) (codes "and") then libraries_among strip ts
+      else if bytes_eq (strip i) (codes "or") then libraries_among strip ts
+      else if bytes_eq (strip i) (codes "not") then libraries_among strip ts
+      else if bytes_eq (strip i) (codes "library") then name_asked (one_of ts proper >> library_name_of strip)
+      else []
+
+  pub libraries_among : {A : Type 0} → (A → List ℕ) → Trees A → List LibraryName
+  libraries_among strip no_trees = []
+  libraries_among strip (tree t ts) = libraries_of strip t ++ libraries_among strip ts
+
+-- those of the requirement of a clause
+abbrev pub clause_libraries : {A : Type 0} → (A → List ℕ) → Result (Tree A × Trees A) (Fault A) → List LibraryName
+clause_libraries strip (Ok q) = if is_else strip q.0 then [] else libraries_of strip q.0
+clause_libraries strip (Err e) = []
+
+abbrev pub all_libraries : {A : Type 0} → (A → List ℕ) → Trees A → List LibraryName
+all_libraries strip no_trees = []
+all_libraries strip (tree t ts) = clause_libraries strip (list_of t >> λ p. some_of p.0 p.1 >> first_of) ++ all_libraries strip ts
+
+-- those of `(cond-expand clause ...)`
+abbrev pub libraries_in : {A : Type 0} → (A → List ℕ) → Trees A → Tail A → List LibraryName
+libraries_in strip ts tail = all_libraries strip ts

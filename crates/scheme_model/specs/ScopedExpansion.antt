@@ -169,6 +169,7 @@ scoped known = record {
   means = λ fs s i. means_at s fs i;
   transformer = λ s m. macro_at s.macros m;
   known = known;
+  ask = λ qs s. s;
   is_assigned = λ fs s i. assigned s (body_around fs) i;
   counted = λ s. record { locals = s.locals s.form; uses = s.uses s.form; nodes = s.nodes s.form; keywords = s.keywords s.form; met = s.met s.form };
   turn = λ f s. record s { form = f };

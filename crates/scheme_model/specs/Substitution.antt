@@ -258,6 +258,7 @@ model known = record {
   means = λ e s i. means s i;
   transformer = λ s m. transformer_of (rules_at s.macros m);
   known = known;
+  ask = λ qs s. s;
   is_assigned = λ e s i. s.program && (not s.in_body && (is_plain i && is_variable (defined_in s.table s.unit (erase i))));
   counted = λ s. record { locals = s.locals s.form; uses = s.uses s.form; nodes = s.nodes s.form; keywords = s.keywords s.form; met = s.met s.form };
   turn = λ f s. record s { form = f; in_body = false };

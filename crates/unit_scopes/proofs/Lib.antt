@@ -30,7 +30,6 @@ pub mod DefineLaws  -- A definition where forms are gone through
 pub mod NotesStand  -- Notes stand for the same where the work has grown, and one more is the newest
 pub mod CallLaws  -- Work goes to a form and comes back
 pub mod PreludeLaws  -- The prelude's unit
-pub mod MatchedLaws  -- Which rule a use matches, and with what, depends on the sameness of literals at the pairs that are compared alone
 pub mod MatchLists  -- Lists that match one by one, as far as a loop has come
 pub mod MeantSame  -- Equal meanings of the code are those of identifiers that mean the same
 pub mod ChangedNotes  -- What a note asked, and whether a definition that is about to be made would have it told otherwise

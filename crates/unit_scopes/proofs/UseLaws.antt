@@ -58,7 +58,7 @@ use Rattle.unit_scopes.specs.declared.uses.Instance as code_instance
 use Rattle.unit_scopes.specs.declared.uses.Use as code
 use Rattle.unit_scopes.proofs.CountingStands.{nodes_stand}
 use Rattle.unit_scopes.proofs.GrowthStands.{growth_stands, target_on}
-use Rattle.unit_scopes.proofs.MatchedLaws.{Agree, first_match_same}
+use Rattle.scheme_model.proofs.MatchedLaws.{Agree, first_match_same}
 use Rattle.unit_scopes.proofs.OutcomeLaws.{grows_itself, stays_itself}
 use Rattle.unit_scopes.proofs.UsesStand.{use_begins}
 
