@@ -61,4 +61,6 @@ pub mod FrameUnits  -- The law of units
 pub mod CountedUnits  -- A unit expanded by counts is the unit expanded by whole numbers
 pub mod FramePrograms  -- The law of programs
 pub mod Shown  -- Forms in the notation of rows
+pub mod IncludeLaws  -- An included text stands in the place of the list that includes it
+pub mod ShownIncludes  -- Units that include texts in the notation of rows
 pub mod rows  -- The definitions on worked rows

@@ -42,6 +42,9 @@ pub mod Questions  -- What the expansion of a form asks of what is around it, ea
 pub mod FormsAlike  -- What a form of a unit comes to, and what it asks
 pub mod Entries  -- Import sets, and the names that they give (R7RS 5.2, 5.6)
 pub mod Declarations  -- What a document holds (R7RS 5.1, 5.6.1)
+pub mod Includes  -- Lists that include other texts (R7RS 4.1.7, 5.6.1), which documents name which, and which of them are parts of others
+pub mod Included  -- What texts give where they are included (R7RS 4.1.7, 5.6.1)
+pub mod IncludedUnits  -- The units of documents that include texts (R7RS 4.1.7, 5.1, 5.6.1)
 pub mod TreeTexts  -- The trees of a text of symbols, `#t`, `#f`, quoted data and lists (R7RS 7.1.2), without places
 pub mod Prelude  -- Derived forms as macros (R7RS 4.2, 7.3)
 pub mod StandardLibraries  -- The standard libraries and their names (R7RS Appendix A)

@@ -1,0 +1,1 @@
+pub mod Meant  -- Which document a string means in another (URL Standard, sections 4.4 and 4.5)

@@ -1,0 +1,4 @@
+//! Which open document a string means in another (URL Standard, sections 4.4 and 4.5), by the documents' uris.
+#![tactic(auto)]
+
+pub mod laws;
