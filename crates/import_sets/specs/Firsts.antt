@@ -1,6 +1,8 @@
 -- The first place of each name.
 use Rattle.std.specs.Prelude.{ℕ, suc, List, [], ◌∷◌, Bool, Option, Some, None, if◌then◌else◌}
 use Rattle.std.specs.Str.{bytes_eq}
+use Rattle.std.specs.HashMap.{HashMap, get_by}
+use denote.Ref.{Bor}
 use Rattle.syntax_tree.specs.declared.units.Entry.{Entry}
 use Rattle.import_sets.specs.declared.set.ImportSet.{ImportSet, Library, Only', Except', Prefix', Rename', Bad}
 
@@ -19,6 +21,10 @@ first_place test n (x ∷ xs) = if test x then Some n else first_place test (suc
 -- the place of the first entry with a name, from a place on
 abbrev pub place_of : List ℕ → ℕ → List Entry → Option ℕ
 place_of s n es = first_place (λ (e : Entry). bytes_eq e.name s) n es
+
+-- the place that a map by names has under one
+abbrev pub place_under : {S : Type 0} → HashMap (Bor (List ℕ)) ℕ S → List ℕ → Option ℕ
+place_under places s = get_by (λ name. bytes_eq s name.now) places
 
 -- the place of the library that a set names
 abbrev pub place_in : (List ℕ → Option ℕ) → ImportSet → Option ℕ

@@ -181,6 +181,15 @@ has_bad (Prefix' p c t) = has_bad c
 has_bad (Rename' p c ps) = has_bad c
 has_bad Bad = true
 
+-- whether no modifier lists identifiers
+abbrev pub lists_none : ImportSet → Bool
+lists_none (Library t) = true
+lists_none (Only' p c ns) = false
+lists_none (Except' p c ns) = false
+lists_none (Prefix' p c t) = lists_none c
+lists_none (Rename' p c ps) = false
+lists_none Bad = true
+
 infixl 10 ◌>>=◌
 abbrev pub ◌>>=◌ : {A B : Type 0} → Result A ImportFault → (A → Result B ImportFault) → Result B ImportFault
 (Ok a) >>= f = f a

@@ -2,12 +2,12 @@
 ghost use Rattle.std.specs.Prelude.{◌≡◌, ◌<◌, ℕ, List, Some, IfOk, OnOk, length, slice_get};
 ghost use Rattle.std.specs.BTreeMap.{get_by_text};
 ghost use Rattle.std.specs.Str.{bytes_eq};
-ghost use Rattle.import_sets.specs.Firsts.{first_of, place_if, place_of, place_in};
+ghost use Rattle.import_sets.specs.Firsts.{first_of, place_if, place_of, place_in, place_under};
 
 use crate::set::ImportSet;
 use ls_base::Mem;
 use std::alloc::Global;
-use std::collections::BTreeMap;
+use std::collections::{BTreeMap, HashMap};
 use syntax_tree::units::Entry;
 
 /// Notes the place of a name, if it is new.
@@ -27,15 +27,37 @@ pub fn note_first(
     Ok(())
 }
 
-/// The place of the first entry with each name.
-pub fn entry_places(alloc: Global, entries: &[Entry]) -> Mem<BTreeMap<String, usize>>
-    ensures { IfOk result (λ places. (s : List ℕ) → get_by_text places s ≡ place_of s 0 entries.now) }
+/// Places of entries by their names, which the entries hold.
+pub type EntryPlaces<'a> = HashMap<&'a str, usize>;
+
+/// Notes the place of an entry's name, if it is new.
+fn note_entry<'a>(places: &mut EntryPlaces<'a>, name: &'a str, place: usize) -> Mem<()>
+    ensures { OnOk result ((s : List ℕ) → place_under places.new s
+        ≡ first_of (place_under places.old s) (place_if (bytes_eq name.now s) place)) }
 {
-    let mut places = BTreeMap::new(alloc);
+    if places.contains_key(name) {
+        return Ok(());
+    }
+    places.insert(name, place)?;
+    Ok(())
+}
+
+/// The place of the first entry with each name.
+pub fn entry_places<'a>(alloc: Global, entries: &'a [Entry]) -> Mem<EntryPlaces<'a>>
+    ensures { IfOk result (λ places. (s : List ℕ) → place_under places s ≡ place_of s 0 entries.now) }
+{
+    let mut places = HashMap::new(alloc);
     for (place, entry) in entries.iter().enumerate() {
-        note_first(alloc, &mut places, entry.name.as_str(), place)?;
+        note_entry(&mut places, entry.name.as_str(), place)?;
     }
     Ok(places)
+}
+
+/// The place of the first entry with a name.
+pub fn entry_place(places: &EntryPlaces<'_>, name: &str) -> Option<usize>
+    ensures { result ≡ place_under places.now name.now }
+{
+    places.get(name).copied()
 }
 
 /// The place of a name.

@@ -1,13 +1,13 @@
 //! Entries in which a name may stand twice, put together one by one (R7RS 5.2): with one meaning they are one entry, with two
 //! they clash.
 ghost use Rattle.std.specs.Prelude.{◌≡◌, ◌<◌, ◌++◌, ◌∷◌, [], ℕ, List, Option, None, Some, map, reverse, length, slice_get, slice_set, IfOk, OnOk};
-ghost use Rattle.std.specs.BTreeMap.{get_by_text};
+ghost use Rattle.std.specs.HashMap.{get_by_text};
 ghost use Rattle.import_sets.specs.Given.{place_of};
 
 use crate::joining::{add_origins, same_meaning};
 use ls_base::{Items, Mem, Text};
 use std::alloc::Global;
-use std::collections::BTreeMap;
+use std::collections::HashMap;
 use syntax_tree::units::{Entry, Origin};
 
 /// An entry, and what spells the later ones of its name.
@@ -21,7 +21,7 @@ pub struct Group {
 #[derive(Drop)]
 pub struct Gathering {
     pub groups: Vec<Group>,
-    pub places: BTreeMap<String, usize>,
+    pub places: HashMap<String, usize>,
     pub clashes: Vec<Text>,
     pub ghost placed: { (s : List ℕ) → get_by_text places s ≡ place_of groups.items s },
 }
@@ -35,7 +35,7 @@ impl Gathering {
     {
         Gathering {
             groups: Vec::new(alloc),
-            places: BTreeMap::new(alloc),
+            places: HashMap::new(alloc),
             clashes: Vec::new(alloc),
         }
     }

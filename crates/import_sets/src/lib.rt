@@ -24,4 +24,4 @@ pub use entries::entries_of;
 pub use fault::ImportFault;
 pub use rename::renamed;
 pub use seconds::second_places;
-pub use set::{ImportSet, NamePair, SetName};
+pub use set::{ImportSet, NamePair, SetName, lists_none};

@@ -1,6 +1,6 @@
 //! Which names there are.
 ghost use Rattle.std.specs.Prelude.{◌≡◌, ℕ, List, map, IfOk};
-ghost use Rattle.std.specs.BTreeSet.{contains_text};
+ghost use Rattle.std.specs.HashSet.{contains_text};
 ghost use Rattle.import_sets.specs.Given.{has_name, is_listed, missing};
 ghost use Rattle.import_sets.specs.declared.set.NamePair.{NamePair as PairOfNames};
 
@@ -8,14 +8,14 @@ use crate::copy::copy_of_name;
 use crate::set::{NamePair, SetName};
 use ls_base::Mem;
 use std::alloc::Global;
-use std::collections::BTreeSet;
+use std::collections::HashSet;
 use syntax_tree::units::Entry;
 
 /// The names of entries.
-fn names_of(alloc: Global, entries: &[Entry]) -> Mem<BTreeSet<String>>
+fn names_of(alloc: Global, entries: &[Entry]) -> Mem<HashSet<String>>
     ensures { IfOk result (λ names. (s : List ℕ) → contains_text names s ≡ has_name entries.now s) }
 {
-    let mut names = BTreeSet::new(alloc);
+    let mut names = HashSet::new(alloc);
     for entry in entries {
         names.insert(String::from_str(alloc, entry.name.as_str())?)?;
     }
@@ -23,10 +23,10 @@ fn names_of(alloc: Global, entries: &[Entry]) -> Mem<BTreeSet<String>>
 }
 
 /// The names that a modifier lists.
-pub fn listed(alloc: Global, names: &[SetName]) -> Mem<BTreeSet<String>>
+pub fn listed(alloc: Global, names: &[SetName]) -> Mem<HashSet<String>>
     ensures { IfOk result (λ listed. (s : List ℕ) → contains_text listed s ≡ is_listed names.now s) }
 {
-    let mut listed = BTreeSet::new(alloc);
+    let mut listed = HashSet::new(alloc);
     for name in names {
         listed.insert(String::from_str(alloc, name.name.as_str())?)?;
     }

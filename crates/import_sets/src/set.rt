@@ -1,6 +1,6 @@
 //! Import sets (R7RS 5.2).
 ghost use Rattle.std.specs.Prelude.{◌≡◌};
-ghost use Rattle.import_sets.specs.Given.{has_bad};
+ghost use Rattle.import_sets.specs.Given.{has_bad, lists_none};
 
 use ls_base::{Items, Text};
 use scheme_model::Occ;
@@ -53,6 +53,20 @@ pub fn has_bad(set: &ImportSet) -> bool
         ImportSet::Except { set, .. } => has_bad(set),
         ImportSet::Prefix { set, .. } => has_bad(set),
         ImportSet::Rename { set, .. } => has_bad(set),
+        ImportSet::Bad => true,
+    }
+}
+
+/// Whether no modifier of a set lists identifiers.
+pub fn lists_none(set: &ImportSet) -> bool
+    ensures { result ≡ lists_none set.now }
+{
+    match set {
+        ImportSet::Library(_) => true,
+        ImportSet::Only { set: _, names: _ } => false,
+        ImportSet::Except { set: _, names: _ } => false,
+        ImportSet::Prefix { set, prefix: _ } => lists_none(set),
+        ImportSet::Rename { set: _, pairs: _ } => false,
         ImportSet::Bad => true,
     }
 }

@@ -1,18 +1,16 @@
 //! What one export gives (R7RS 5.6.1).
 ghost use Rattle.std.specs.Prelude.{◌≡◌, ◌<◌, ℕ, List, Option, Some, None, IfOk, length, slice_get};
-ghost use Rattle.std.specs.BTreeMap.{get_by_text};
 ghost use Rattle.import_sets.specs.Given.{same_place};
-ghost use Rattle.import_sets.specs.Firsts.{place_of};
+ghost use Rattle.import_sets.specs.Firsts.{place_of, place_under};
 ghost use Rattle.library_table.specs.Exported.{entry_named, exported, export_one};
 
 use crate::fault::LibraryFault;
 use crate::units::ExportSpec;
-use import_sets::firsts::{entry_at, place_for};
+use import_sets::firsts::{EntryPlaces, entry_at, entry_place};
 use import_sets::{copy_of_origins, renamed};
 use ls_base::Mem;
 use scheme_model::Occ;
 use std::alloc::Global;
-use std::collections::BTreeMap;
 use syntax_tree::units::Entry;
 
 /// What an export gives: an entry, or nothing by its fault.
@@ -49,13 +47,13 @@ pub fn export_one(
     alloc: Global,
     spec: &ExportSpec,
     entries: &[Entry],
-    places: &BTreeMap<String, usize>,
+    places: &EntryPlaces<'_>,
     again: bool,
 ) -> Mem<Export>
-    requires { (s : List ℕ) → get_by_text places.now s ≡ place_of s 0 entries.now }
+    requires { (s : List ℕ) → place_under places.now s ≡ place_of s 0 entries.now }
     ensures { IfOk result (λ export. export ≡ export_one again spec.now (entry_named spec.now.inner.name entries.now)) }
 {
-    let Some(place) = place_for(places, spec.inner.name.as_str()) else {
+    let Some(place) = entry_place(places, spec.inner.name.as_str()) else {
         let name = spec.inner.name.clone()?;
         return Ok(Export::Refused(LibraryFault::NotDefined(name)));
     };

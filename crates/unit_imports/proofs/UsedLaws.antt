@@ -12,7 +12,8 @@ use Rattle.scheme_model.specs.Meaning as meant
 use Rattle.scheme_model.specs.Entries as model
 use Rattle.scheme_model.specs.Live.{NameUse, entry_use, second_use, listed_uses, pair_uses, set_uses, if_given, export_uses, all_export_uses, meaning_or, origins_or}
 use Rattle.scheme_model.specs.Requirements.{LibraryName}
-use Rattle.scheme_model.specs.Program.{Placed, UnitResult, ImportSpec, ExportSpec, has_name}
+use Rattle.scheme_model.specs.StandardLibraries.{standard}
+use Rattle.scheme_model.specs.Program.{Placed, UnitResult, ImportSpec, ExportSpec, has_name, library_exports}
 use Rattle.scheme_model.specs.ProgramArrows.{import_uses, uses_in_set, uses_given}
 use Rattle.syntax_tree.specs.Names.{Names, KeepsNames}
 use Rattle.syntax_tree.specs.Macros.{IsIdent}
@@ -25,7 +26,7 @@ use Rattle.core_tree.specs.Units.{IsName, IsExternal, AreNames, given_exports}
 use Rattle.core_tree.specs.declared.units.NameUse as code_name
 use Rattle.import_sets.specs.Firsts.{place_of}
 use Rattle.import_sets.specs.Given as given
-use Rattle.import_sets.specs.Sets.{named, paired, IsSet, TellsApart, Answers}
+use Rattle.import_sets.specs.Sets.{named, paired, IsSet, IsSetOf, TellsApart, Answers}
 use Rattle.import_sets.proofs.SetLaws.{set_stands}
 use Rattle.import_sets.specs.declared.set.ImportSet as code_set
 use Rattle.import_sets.specs.declared.fault.ImportFault as code_fault
@@ -559,6 +560,26 @@ uses_unknown all rs s (Some n) h = ap (λ (e : Option (List model.Entry)). uses_
 pub uses_known : (all : List Placed) (rs : List UnitResult) (s : model.ImportSet) (o : Option LibraryName) (es : List model.Entry) → set_exports all rs o ≡ Some es → set_uses es s ≡ uses_in_set all rs s o
 uses_known all rs s None es h = absurd cc
 uses_known all rs s (Some n) es h = ap (λ (e : Option (List model.Entry)). uses_given e s) (sym h)
+
+-- where no modifier lists identifiers, none is used
+nothing_used : (spelled : LibraryName → List ℕ) (c : code_set.ImportSet) (s : model.ImportSet) → IsSetOf (λ t n. t ≡ spelled n) c s → given.lists_none c ≡ true → (es : List model.Entry) → set_uses es s ≡ []
+nothing_used spelled (code_set.Library t) s h k es = ap (set_uses es) h.1.0
+nothing_used spelled (code_set.Only' p c ns) s h k es = absurd cc
+nothing_used spelled (code_set.Except' p c ns) s h k es = absurd cc
+nothing_used spelled (code_set.Prefix' p c t) s h k es = ap (set_uses es) h.1.0 ∙ nothing_used spelled c h.0 h.1.1 k es
+nothing_used spelled (code_set.Rename' p c ps) s h k es = absurd cc
+nothing_used spelled code_set.Bad s h k es = ap (set_uses es) h
+
+pub uses_none : (spelled : LibraryName → List ℕ) (c : code_set.ImportSet) (s : model.ImportSet) → IsSetOf (λ t n. t ≡ spelled n) c s → given.lists_none c ≡ true → (all : List Placed) (rs : List UnitResult) → [] ≡ uses_in_set all rs s (model.library_in s)
+uses_none spelled c s h k all rs = in_library (model.library_in s)
+  where
+    in_exports : (o : Option (List model.Entry)) → [] ≡ uses_given o s
+    in_exports None = refl
+    in_exports (Some es) = sym (nothing_used spelled c s h k es)
+
+    in_library : (o : Option LibraryName) → [] ≡ uses_in_set all rs s o
+    in_library None = refl
+    in_library (Some n) = in_exports (library_exports all rs n (standard n))
 
 -- ---- by what is found
 

@@ -2,7 +2,7 @@
 //! it in both, each once.
 ghost use Rattle.std.specs.Prelude.{◌≡◌, ℕ, List, [], map, IfOk};
 ghost use Rattle.std.specs.Option.{is_some};
-ghost use Rattle.std.specs.BTreeMap.{get_by_text};
+ghost use Rattle.std.specs.HashMap.{get_by_text};
 ghost use Rattle.scheme_model.specs.Entries as model;
 ghost use Rattle.syntax_tree.specs.Names.{Names};
 ghost use Rattle.syntax_tree.specs.Meant.{AreEntries};
@@ -17,14 +17,14 @@ use import_sets::gather::Gathering;
 use ls_base::{Items, Mem, Text};
 use scheme_model::Occ;
 use std::alloc::Global;
-use std::collections::BTreeMap;
+use std::collections::HashMap;
 use syntax_tree::units::{Entry, Origin};
 
 /// The entries of a unit, each name once, and which names there are.
 #[derive(Drop)]
 pub struct Joined {
     pub entries: Vec<Entry>,
-    pub places: BTreeMap<String, usize>,
+    pub places: HashMap<String, usize>,
     pub ghost told: { (s : List ℕ) → is_some (get_by_text places s) ≡ has_name entries.items s },
 }
 

@@ -3,7 +3,6 @@
 
 ghost use Rattle.std.specs.Prelude.{◌≡◌, ◌++◌, ◌∷◌, [], ℕ, List, Option, Some, not, None, map, Result, IfOk, OnOk};
 ghost use Rattle.std.specs.Option.{option_map};
-ghost use Rattle.std.specs.BTreeMap.{get_by_text};
 ghost use Rattle.scheme_model.specs.Requirements.{LibraryName};
 ghost use Rattle.scheme_model.specs.Meaning as meant;
 ghost use Rattle.scheme_model.specs.Entries as model;
@@ -14,7 +13,7 @@ ghost use Rattle.syntax_tree.specs.Names.{Names, KeepsNames};
 ghost use Rattle.syntax_tree.specs.Meant.{AreEntries, IsEntry, IsGivenMeaning};
 ghost use Rattle.core_tree.specs.Names.{AllMatch};
 ghost use Rattle.core_tree.specs.Units.{AreNames, given_exports};
-ghost use Rattle.import_sets.specs.Firsts.{place_of};
+ghost use Rattle.import_sets.specs.Firsts.{place_of, place_under};
 ghost use Rattle.import_sets.specs.Given as code;
 ghost use Rattle.import_sets.specs.Sets.{IsSet, IsSetOf, named, paired};
 ghost use Rattle.library_table.specs.Exported.{entry_named};
@@ -29,10 +28,10 @@ use crate::entries::{Libraries, library_entries};
 use crate::joining::own_origin;
 use core_tree::cores::Target;
 use core_tree::units::NameUse;
-use import_sets::firsts::{entry_at, entry_places, place_for};
+use import_sets::firsts::{EntryPlaces, entry_at, entry_place, entry_places};
 use import_sets::modify::{except, only, prefixed};
 use import_sets::rename::rename;
-use import_sets::{ImportFault, ImportSet, NamePair, SetName, copy_of_origins};
+use import_sets::{ImportFault, ImportSet, NamePair, SetName, copy_of_origins, lists_none};
 use library_table::{ExportSpec, ImportSpec, UnitSource};
 use ls_base::{Items, Mem, Memory};
 use std::alloc::Global;
@@ -46,8 +45,8 @@ use syntax_tree::units::{Entry, Origin};
 #[derive(Clone, Copy)]
 struct Found<'a> {
     entries: &'a [Entry],
-    places: &'a BTreeMap<String, usize>,
-    ghost placed: { (s : List ℕ) → get_by_text places.now s ≡ place_of s 0 entries.now },
+    places: &'a EntryPlaces<'a>,
+    ghost placed: { (s : List ℕ) → place_under places.now s ≡ place_of s 0 entries.now },
 }
 
 impl<'a> Found<'a> {
@@ -55,7 +54,7 @@ impl<'a> Found<'a> {
     fn entry(&self, name: &str) -> Option<&'a Entry>
         ensures { option_map (λ e. e.now) result ≡ entry_named name.now self.now.entries.now }
     {
-        let Some(place) = place_for(self.places, name) else {
+        let Some(place) = entry_place(self.places, name) else {
             return None;
         };
         Some(entry_at(self.entries, place))
@@ -126,7 +125,7 @@ impl Identifiers {
         Ok(())
     }
 
-    /// Adds those of an import set, if its library gives something.
+    /// Adds those of an import set, if its library gives something. Where none are listed the library isn't looked at.
     fn add_import(
         &mut self,
         alloc: Global,
@@ -140,6 +139,9 @@ impl Identifiers {
             AreLibraries symbols.old libraries.entry spelled all rs → (s : model.ImportSet) → IsSetOf (λ t n. t ≡ spelled n) set.now s →
             OnOk result (AddsNames symbols.new self.old self.new (uses_in_set all rs s (model.library_in s))) }
     {
+        if lists_none(set) {
+            return Ok(());
+        }
         match library_entries(alloc, symbols, libraries, set)? {
             None => Ok(()),
             Some(exports) => {

@@ -1,6 +1,6 @@
 use Rattle.std.proofs.Common.{◌≡◌, Option, None, Ok, sym, ap, ◌∙◌, rules}
 use Rattle.std.specs.Prelude.{filter}
-use Rattle.std.specs.BTreeSet.{contains_text}
+use Rattle.std.specs.HashSet.{contains_text}
 use Rattle.std.proofs.lemmas.Fn.{filter_same}
 use Rattle.syntax_tree.specs.declared.units.Entry.{Entry}
 use Rattle.import_sets.specs.declared.set.SetName.{SetName}

@@ -1,5 +1,5 @@
 use Rattle.std.proofs.Common.{◌≡◌, ℕ, List, take}
-use Rattle.std.specs.BTreeSet.{contains_text}
+use Rattle.std.specs.HashSet.{contains_text}
 use Rattle.import_sets.specs.Given.{is_listed}
 use Rattle.import_sets.proofs.names.listed.Given as goal
 

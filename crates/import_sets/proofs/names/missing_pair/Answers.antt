@@ -1,5 +1,5 @@
 use Rattle.std.proofs.Common.{◌≡◌, true, false, Some, sym, ap, ◌∙◌, arith}
-use Rattle.std.specs.BTreeSet.{contains_text}
+use Rattle.std.specs.HashSet.{contains_text}
 use Rattle.import_sets.specs.Given.{has_name}
 use Rattle.import_sets.proofs.NameLaws.{pair_there, pair_here}
 use Rattle.import_sets.proofs.names.missing_pair.Goals as goal

@@ -1,5 +1,5 @@
 use Rattle.std.proofs.Common.{◌≡◌, ℕ, List, take}
-use Rattle.std.specs.BTreeSet.{contains_text}
+use Rattle.std.specs.HashSet.{contains_text}
 use Rattle.import_sets.specs.Given.{has_name}
 use Rattle.import_sets.proofs.names.names_of.Given as goal
 

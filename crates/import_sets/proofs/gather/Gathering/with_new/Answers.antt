@@ -1,7 +1,7 @@
 use Rattle.std.proofs.Common.{◌≡◌, List, Some, length, sym, ap, ◌∙◌, cond}
 use Rattle.std.specs.String.{string_bytes}
 use Rattle.std.specs.Str.{bytes_eq}
-use Rattle.std.proofs.lemmas.Map.Text.{btree_map_updates_text}
+use Rattle.std.proofs.lemmas.Map.Text.{hash_map_updates_text}
 use Rattle.import_sets.specs.declared.gather.Group.{Group}
 use Rattle.import_sets.specs.Given.{place_of}
 use Rattle.import_sets.proofs.PlaceLaws.{place_push}
@@ -16,7 +16,7 @@ invariant_of-result c =
     let at : c.len.result ≡ length gs = c.len.ensures ∙ c.args.self.groups.ok.0 in
     record {
       placed = λ s.
-          btree_map_updates_text key c.args.self.places c.insert.new.self (Some c.len.result) c.in_ok-insert.ensures.updates s
+          hash_map_updates_text key c.args.self.places c.insert.new.self (Some c.len.result) c.in_ok-insert.ensures.updates s
           ∙ (λ j. cond (bytes_eq (same j) s) (Some (at j)) (c.args.self.placed s j))
           ∙ sym (place_push gs g s c.requires)
           ∙ ap (λ (gs : List Group). place_of gs s) (sym c.in_ok-push.ensures.items);
