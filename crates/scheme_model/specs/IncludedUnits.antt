@@ -133,8 +133,8 @@ abbrev pub libraries_of : Sources → Texts → Naming → (number document : �
 libraries_of o t all n document [] = []
 libraries_of o t all n document (d ∷ ds) =
     if is_library d then
-      listed_unit all n (unit_in document IsLibrary false (library_name_in (behind_head d)) (place_of d))
-      (library_listing t o.known (own document d) (behind_head d)) (numbered_from n 0) ∷ libraries_of o t all (suc n) document ds
+    listed_unit all n (unit_in document IsLibrary false (library_name_in (behind_head d)) (place_of d))
+    (library_listing t o.known (own document d) (behind_head d)) (numbered_from n 0) ∷ libraries_of o t all (suc n) document ds
     else libraries_of o t all n document ds
 
 -- the forms of a part's program are its data
@@ -145,9 +145,9 @@ abbrev pub program_of_data : Sources → Texts → Naming → (number document :
 program_of_data o t all n document [] = []
 program_of_data o t all n document (d ∷ ds) =
     (if is_part all document then
-      listed_unit all n (unit_in document IsProgram true None (place_of d)) (Lists 0 (map plain (included_data o.documents document)) []) (numbered_from n 0)
+    listed_unit all n (unit_in document IsProgram true None (place_of d)) (Lists 0 (map plain (included_data o.documents document)) []) (numbered_from n 0)
     else
-      listed_unit all n (unit_in document IsProgram false None (place_of d)) (forms_of t (map (own document) (d ∷ ds))) (λ fs. numbered_from n 0 (with_imports fs))) ∷ []
+    listed_unit all n (unit_in document IsProgram false None (place_of d)) (forms_of t (map (own document) (d ∷ ds))) (λ fs. numbered_from n 0 (with_imports fs))) ∷ []
 
 abbrev pub units_from : Sources → Texts → Naming → (number document : ℕ) → List Document → List ListedUnit
 units_from o t all n document [] = []
