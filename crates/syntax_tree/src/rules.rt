@@ -125,6 +125,7 @@ impl Roles {
     }
 
     /// Whether a tree is an identifier that acts as an ellipsis. It takes no memory.
+    #[inline(always)]
     pub fn is_dots(&self, work: &Work, tree: Tree) -> bool
         requires { IsStanding work.now tree }
         ensures { (r : ModelRules Identifier) (t : ModelTree Identifier) → TellsRoles work.now.symbols self.now r →
@@ -137,6 +138,7 @@ impl Roles {
     }
 
     /// Whether an ellipsis stands at a place. It takes no memory.
+    #[inline(always)]
     pub fn dots_at(&self, work: &Work, items: &[Tree], k: usize) -> bool
         requires { AreStanding work.now items.now }
         ensures { (r : ModelRules Identifier) (ts : Trees Identifier) → TellsRoles work.now.symbols self.now r →
@@ -174,6 +176,7 @@ impl Roles {
     }
 
     /// Whether an identifier, in which this symbol is innermost, is the ellipsis of these rules, literals aside.
+    #[inline(always)]
     fn is_ellipsis(&self, symbols: &Symbols, id: IdNo, name: &str) -> bool
         ensures { (e : Option Identifier) (i : Identifier) → IsEllipsisOf symbols.now self.now.ellipsis e →
             slice_get symbols.now.idents id ≡ Some i → name.now ≡ symbol_of i → result ≡ is_ellipsis identifiers e i }
