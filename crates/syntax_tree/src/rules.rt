@@ -132,9 +132,24 @@ impl Roles {
             StandsFor work.now tree t → result ≡ is_dots (dots_of identifiers r) t }
     {
         match look_at(work, tree) {
-            Look::Name(id) => self.role(&work.symbols, id) == Role::Ellipsis,
+            Look::Name(id) => self.acts_as_ellipsis(&work.symbols, id),
             Look::Atom(_) | Look::List(_, _) | Look::Vector(_) => false,
         }
+    }
+
+    /// Whether an identifier acts as an ellipsis. Its symbol is looked at before literals are, since most have another. It takes
+    /// no memory.
+    #[inline(always)]
+    fn acts_as_ellipsis(&self, symbols: &Symbols, id: IdNo) -> bool
+        requires { id < length symbols.now.idents }
+        ensures { (r : ModelRules Identifier) (i : Identifier) → TellsRoles symbols.now self.now r →
+            slice_get symbols.now.idents id ≡ Some i → result ≡ dots_of identifiers r i }
+    {
+        let name = symbols.name(symbols.strip(id));
+        if self.is_ellipsis(symbols, id, name) {
+            return self.role(symbols, id) == Role::Ellipsis;
+        }
+        false
     }
 
     /// Whether an ellipsis stands at a place. It takes no memory.
