@@ -1,7 +1,8 @@
 -- Names by number: which differ, and which are among others.
-use Rattle.std.proofs.Common.{◌≡◌, ℕ, zero, suc, ◌<◌, ◌≤◌, List, [], ◌∷◌, length, map, drop, get_or, Bool, true, false, not, ◌||◌, Option, Some, None, Result, Ok, Err, refl, sym, ap, ◌∙◌, subst, arith}
+use Rattle.std.proofs.Common.{◌≡◌, ℕ, zero, suc, ◌+◌, ◌<◌, ◌≤◌, List, [], ◌∷◌, length, map, take, drop, get_or, Bool, true, false, not, ◌||◌, Option, Some, None, Result, Ok, Err, refl, sym, ap, ◌∙◌, subst, arith}
 use Rattle.std.specs.Prelude.{nat_eq, if◌then◌else◌}
 use Rattle.std.specs.List.{list_any}
+use Rattle.std.proofs.lemmas.List.Folds.{list_any_more}
 use Rattle.scheme_model.specs.Trees.{Tree, name, atom, list, vector, Trees, no_trees, tree, Tail, proper, dotted}
 use Rattle.scheme_model.specs.ExpansionFaults.{Named, Fault, BadForm, DuplicateBinder, ◌>>◌}
 use Rattle.scheme_model.specs.Shapes.{Clause, FieldShape as ModelField, LocalMacros, RecordShape, is_among, distinct, distinct_from, all_among, list_of, proper_of, some_of, syntax_of, bindings_of, local_macros_of}
@@ -46,6 +47,22 @@ not_true false h = refl
 -- a name that isn't among those before it
 pub twice_more : (seen : List ℕ) (ns us : List NamePart) (n : NamePart) → ns ≡ n ∷ us → list_any (nat_eq n.ident) seen ≡ false → twice_by_number seen ns ≡ twice_by_number (n.ident ∷ seen) us
 twice_more seen ns us n e h = ap (twice_by_number seen) e ∙ ap (λ (b : Bool). if b then Some n else twice_by_number (n.ident ∷ seen) us) h
+
+-- a name that is among those before it
+pub twice_here : (seen : List ℕ) (ns us : List NamePart) (n : NamePart) → ns ≡ n ∷ us → list_any (nat_eq n.ident) seen ≡ true → twice_by_number seen ns ≡ Some n
+twice_here seen ns us n e h = ap (twice_by_number seen) e ∙ ap (λ (b : Bool). if b then Some n else twice_by_number (n.ident ∷ seen) us) h
+
+or_turned : (a b : Bool) → (a || b) ≡ (b || a)
+or_turned true true = refl
+or_turned true false = refl
+or_turned false true = refl
+or_turned false false = refl
+
+-- one name more has one number more
+pub numbers_more : (ns : List NamePart) (k : ℕ) (d : NamePart) (numbers : List ℕ) (q : ℕ) → k < length ns → has_number (take k ns) q ≡ list_any (nat_eq q) numbers →
+    has_number (take (k + 1) ns) q ≡ list_any (nat_eq q) ((get_or ns k d).ident ∷ numbers)
+numbers_more ns k d numbers q lt h =
+    list_any_more (λ (m : NamePart). nat_eq q m.ident) ns k d lt ∙ ap (λ (b : Bool). b || nat_eq q (get_or ns k d).ident) h ∙ or_turned (list_any (nat_eq q) numbers) (nat_eq q (get_or ns k d).ident)
 
 -- ---- names among others
 

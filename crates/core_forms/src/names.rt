@@ -9,7 +9,7 @@ ghost use Rattle.syntax_tree.specs.Looks.{PartsStand, EndStands, AreStanding, En
 ghost use Rattle.syntax_tree.specs.Standing.{leaf_tree};
 ghost use Rattle.syntax_tree.specs.Works.{StandsFor, IsStanding};
 ghost use Rattle.core_forms.specs.Parts.{AllMatch, IsName, AreNames, IsFormals};
-ghost use Rattle.core_forms.specs.Numbers.{twice_by_number};
+ghost use Rattle.core_forms.specs.Numbers.{has_number, twice_by_number};
 ghost use Rattle.core_forms.specs.Ends.{Ends, Passes};
 
 use crate::fault::CoreFault;
@@ -19,7 +19,11 @@ use scheme_model::Occ;
 use std::alloc::Global;
 use std::collections::BTreeSet;
 use syntax_tree::look::{Look, look_at};
+use syntax_tree::symbols::IdNo;
 use syntax_tree::trees::{Leaf, Node, Tree, Work};
+
+/// The most names that are compared with each before them.
+const FEW: usize = 8;
 
 /// An identifier with its place.
 pub fn name_of(work: &Work, tree: Tree) -> Result<NamePart, CoreFault>
@@ -135,6 +139,35 @@ pub fn distinct(alloc: Global, work: &Work, names: &[NamePart]) -> Result<(), Co
 
 /// The first identifier that is among those before it, with its place.
 fn first_twice(alloc: Global, names: &[NamePart]) -> Mem<Option<NamePart>>
+    ensures { IfOk result (λ twice. twice ≡ twice_by_number [] names.now) }
+{
+    if names.len() <= FEW {
+        return Ok(twice_of_few(names));
+    }
+    Ok(twice_of_many(alloc, names)?)
+}
+
+/// The same of a few identifiers, each compared with those before it. It takes no memory.
+fn twice_of_few(names: &[NamePart]) -> Option<NamePart>
+    ensures { result ≡ twice_by_number [] names.now }
+{
+    for (k, name) in names.iter().enumerate() {
+        if has_number(&names[..k], name.ident) {
+            return Some(*name);
+        }
+    }
+    None
+}
+
+/// Whether one of some identifiers has this number.
+fn has_number(names: &[NamePart], number: IdNo) -> bool
+    ensures { result ≡ has_number names.now number }
+{
+    names.iter().any(|name| number == name.ident)
+}
+
+/// The same of any identifiers.
+fn twice_of_many(alloc: Global, names: &[NamePart]) -> Mem<Option<NamePart>>
     ensures { IfOk result (λ twice. twice ≡ twice_by_number [] names.now) }
 {
     let mut seen = BTreeSet::new(alloc);

@@ -12,6 +12,7 @@ use scheme_tokens::ReadFault;
 use std::alloc::Global;
 
 /// A datum from one token up to another.
+#[inline(always)]
 pub fn make_datum(shape: Shape, first: Spot, last: Spot) -> Datum
     ensures { datum_of result ≡ shape_of shape (model.between (spot_of first) (spot_of last)) }
 {
@@ -36,6 +37,7 @@ fn fitted(parts: Vec<Datum>) -> Vec<Datum>
 }
 
 /// The datum that a parenthesis closes.
+#[inline(always)]
 pub fn closed(
     alloc: Global,
     opener: Opener,

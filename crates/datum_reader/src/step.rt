@@ -19,6 +19,7 @@ use std::alloc::Global;
 use std::mem;
 
 /// Whether a datum may begin at a token: not behind a tail, and not in a bytevector.
+#[inline(always)]
 fn begin(stack: &[Frame], spot: Spot) -> Result<(), ReadFault>
     ensures { Refuses result (model.refused (stack_of stack.now) (spot_of spot)) }
 {
@@ -37,6 +38,7 @@ fn begin(stack: &[Frame], spot: Spot) -> Result<(), ReadFault>
 }
 
 /// How many lists, vectors, abbreviations and `#;` are open.
+#[inline(always)]
 fn depth(stack: &[Frame]) -> usize
     ensures { result ≡ model.depth_of (stack_of stack.now) }
 {
@@ -47,6 +49,7 @@ fn depth(stack: &[Frame]) -> usize
 }
 
 /// Opens one more, at a depth; its first data may be there already.
+#[inline(always)]
 fn push(state: &mut State, opener: Opener, depth: usize, spot: Spot, items: Vec<Datum>) -> Mem<()>
     ensures { OnOk result (state_of state.new ≡ model.pushed (opener_of opener) depth (spot_of spot) (data_of items.items) (state_of state.old)) }
 {
@@ -61,6 +64,7 @@ fn push(state: &mut State, opener: Opener, depth: usize, spot: Spot, items: Vec<
 }
 
 /// Opens one more of those that are counted.
+#[inline(always)]
 fn open(state: &mut State, opener: Opener, spot: Spot, items: Vec<Datum>) -> Result<(), ReadFault>
     ensures { Moves (state_of state.new) result (model.opened (opener_of opener) (spot_of spot) (data_of items.items) (state_of state.old)) }
 {
@@ -74,6 +78,7 @@ fn open(state: &mut State, opener: Opener, spot: Spot, items: Vec<Datum>) -> Res
 }
 
 /// Puts back what was open, as something else.
+#[inline(always)]
 fn reopen(state: &mut State, opener: Opener, frame: Frame) -> Mem<()>
     ensures { OnOk result (state_of state.new
         ≡ model.state (data_of state.old.items.items) (model.reopened (opener_of opener) (frame_of frame) ∷ stack_of state.old.stack.items)) }
@@ -121,6 +126,7 @@ fn abbreviation(spot: Spot, items: Vec<Datum>, read: Tail) -> Mem<Tail>
 }
 
 /// Whether a datum that is complete is added on the innermost level as it is.
+#[inline(always)]
 fn adds(stack: &[Frame]) -> bool
     ensures { IsTrue result → (d : DatumTree) (items : List DatumTree) → model.completed d items (stack_of stack.now) ≡ model.state (items ++ d ∷ []) (stack_of stack.now) }
 {
@@ -139,6 +145,7 @@ fn adds(stack: &[Frame]) -> bool
 }
 
 /// Adds a datum.
+#[inline(always)]
 fn add(state: &mut State, read: Tail) -> Mem<()>
     ensures { OnOk result (state_of state.new ≡ model.state (data_of state.old.items.items ++ tail_datum read ∷ []) (stack_of state.old.stack.items)) }
 {
@@ -148,6 +155,7 @@ fn add(state: &mut State, read: Tail) -> Mem<()>
 }
 
 /// Adds a datum, and puts back what is open.
+#[inline(always)]
 fn keep(state: &mut State, frame: Frame, read: Tail) -> Mem<()>
     ensures { OnOk result (state_of state.new
         ≡ model.state (data_of state.old.items.items ++ tail_datum read ∷ []) (frame_of frame ∷ stack_of state.old.stack.items)) }
@@ -235,6 +243,7 @@ fn dot(state: &mut State, spot: Spot) -> Result<(), ReadFault>
     }
 }
 
+#[inline(always)]
 fn make_atom(atom: Atom, spot: Spot) -> Datum
     ensures { datum_of result ≡ atom_datum (model.at (spot_of spot)) (spelled (leaf_of atom)) }
 {
@@ -344,6 +353,7 @@ fn byte_in(
 }
 
 /// An atom that is a datum of its own.
+#[inline(always)]
 fn whole(alloc: Global, state: &mut State, atom: Atom, spot: Spot) -> Mem<()>
     ensures { OnOk result (state_of state.new ≡ model.completed (atom_datum (model.at (spot_of spot)) (spelled (leaf_of atom))) (data_of state.old.items.items) (stack_of state.old.stack.items)) }
 {
@@ -357,6 +367,7 @@ fn whole(alloc: Global, state: &mut State, atom: Atom, spot: Spot) -> Mem<()>
 }
 
 /// An atom: in a bytevector a numeral, and elsewhere a datum.
+#[inline(always)]
 fn atom(alloc: Global, state: &mut State, atom: Atom, spot: Spot) -> Result<(), ReadFault>
     ensures { Moves (state_of state.new) result (model.atoms (leaf_of atom) (spot_of spot) (data_of state.old.items.items) (stack_of state.old.stack.items)) }
 {
@@ -392,6 +403,7 @@ fn refused_atom(
 }
 
 /// Opens one more of those that are data, where one may begin.
+#[inline(always)]
 fn open_datum(
     state: &mut State,
     opener: Opener,

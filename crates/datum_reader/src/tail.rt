@@ -137,6 +137,7 @@ fn joined(parts: Vec<Datum>, runs: Vec<Vec<Datum>>) -> Mem<Vec<Datum>>
 }
 
 /// A datum as it is kept, with a list's parts joined.
+#[inline(always)]
 pub fn joined_datum(tail: Tail) -> Mem<Datum>
     ensures { IfOk result (λ d. datum_of d ≡ tail_datum tail) }
 {

@@ -71,6 +71,7 @@ pub enum Headed {
 }
 
 /// The parts of a call: a proper list of one tree or more.
+#[inline(always)]
 fn call_parts(
     alloc: Global,
     here: Option<Occ>,
@@ -257,6 +258,7 @@ fn read_list(
 }
 
 /// One more keyword was met.
+#[inline(always)]
 fn meet_keyword(units: &mut UnitScope, keyword: Target) -> Mem<()>
     ensures { OnOk result (units.new ≡ with_keyword units.old keyword) }
 {
@@ -299,6 +301,7 @@ fn read_form(
 }
 
 /// A constant.
+#[inline(always)]
 fn constant(units: &mut UnitScope, work: &Work, at: At, form: Tree) -> Result<Core, ExpandFault>
     requires look { CanLook work.now units.old at.scope }
     ensures constant { (known : Known) (region : AnyRegion) (ls : List Frames) (s : ScopedState) (a : Atom) (o : Option Occ) → Stands work.now units.old ls s → StandsFor work.now form (atom a o) →
@@ -323,6 +326,7 @@ fn quote(units: &mut UnitScope, work: &Work, at: At, datum: Tree) -> Result<Core
 }
 
 /// An identifier as an expression. A keyword is no value.
+#[inline(always)]
 fn reference(
     units: &mut UnitScope,
     work: &Work,
@@ -341,6 +345,7 @@ fn reference(
 }
 
 /// An identifier where it is used, which is no keyword.
+#[inline(always)]
 fn variable(units: &UnitScope, work: &Work, at: At, name: NamePart) -> Result<Target, ExpandFault>
     requires look { CanLook work.now units.now at.scope }
     requires name { HasNumber work.now name }

@@ -113,6 +113,7 @@ pub fn rules_head(work: &Work, rules: Tree) -> Option<IdNo>
 }
 
 /// The first part of a list, where it is an identifier.
+#[inline(always)]
 pub fn head_name(work: &Work, tree: Tree) -> Option<NamePart>
     requires { IsStanding work.now tree }
     ensures { (t : ModelTree Identifier) → StandsFor work.now tree t → IsNameIfAny work.now result (head_name_of t) }

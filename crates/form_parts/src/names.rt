@@ -14,6 +14,7 @@ use scheme_model::Occ;
 use syntax_tree::trees::{Leaf, Node, Tree, Work};
 
 /// An identifier with its place, where the tree is one.
+#[inline(always)]
 pub fn name_at(work: &Work, tree: Tree) -> Option<NamePart>
     requires { IsStanding work.now tree }
     ensures { (t : ModelTree Identifier) → StandsFor work.now tree t → IsNameIfAny work.now result (name_in t) }
@@ -30,6 +31,7 @@ pub fn name_at(work: &Work, tree: Tree) -> Option<NamePart>
 }
 
 /// An identifier with its place, where the leaf is one.
+#[inline(always)]
 fn leaf_name(work: &Work, leaf: Leaf, occ: Option<Occ>) -> Option<NamePart>
     ensures { (t : ModelTree Identifier) → leaf_tree work.now.symbols leaf occ ≡ Some t → IsNameIfAny work.now result (name_in t) }
 {

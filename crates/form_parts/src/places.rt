@@ -12,6 +12,7 @@ use syntax_tree::symbols::{IdNo, Ident};
 use syntax_tree::trees::{Leaf, Node, Tree, Work};
 
 /// The place of the innermost form read from a text, once this tree is come to. An identifier that a use inserted wasn't read.
+#[inline(always)]
 pub fn here_at(work: &Work, tree: Tree, here: Option<Occ>) -> Option<Occ>
     requires { IsStanding work.now tree }
     ensures { (t : ModelTree Identifier) → StandsFor work.now tree t → result ≡ here_at (λ i. i) t here }
@@ -28,6 +29,7 @@ pub fn here_at(work: &Work, tree: Tree, here: Option<Occ>) -> Option<Occ>
 }
 
 /// The place of the innermost form read from a text, once this leaf is come to.
+#[inline(always)]
 fn leaf_here(work: &Work, leaf: Leaf, occ: Option<Occ>, here: Option<Occ>) -> Option<Occ>
     requires { (t : ModelTree Identifier) × (leaf_tree work.now.symbols leaf occ ≡ Some t) }
     ensures { (t : ModelTree Identifier) → leaf_tree work.now.symbols leaf occ ≡ Some t → result ≡ here_at (λ i. i) t here }
@@ -43,6 +45,7 @@ fn leaf_here(work: &Work, leaf: Leaf, occ: Option<Occ>, here: Option<Occ>) -> Op
 }
 
 /// The place of the innermost form read from a text, once this identifier is come to.
+#[inline(always)]
 fn name_here(work: &Work, ident: IdNo, occ: Option<Occ>, here: Option<Occ>) -> Option<Occ>
     requires { ident < length work.now.symbols.idents }
     ensures { (i : Identifier) → IsIdent work.now.symbols ident i → result ≡ read_name i occ here }
@@ -54,6 +57,7 @@ fn name_here(work: &Work, ident: IdNo, occ: Option<Occ>, here: Option<Occ>) -> O
 }
 
 /// A place, or where there is none, that of the form around it.
+#[inline(always)]
 fn or_here(occ: Option<Occ>, here: Option<Occ>) -> Option<Occ>
     ensures { result ≡ or_here occ here }
 {

@@ -28,6 +28,7 @@ impl<T> Items<T> {
     }
 
     /// The items.
+    #[inline(always)]
     pub fn as_slice(&self) -> &[T]
         ensures { result.now ≡ self.now }
     {
@@ -35,6 +36,7 @@ impl<T> Items<T> {
     }
 
     /// Takes a `Vec` over, without memory.
+    #[inline(always)]
     pub fn from_vec(inner: Vec<T>) -> Items<T>
         ensures { result ≡ inner.items }
     {
@@ -42,6 +44,7 @@ impl<T> Items<T> {
     }
 
     /// Gives the `Vec` back, without memory.
+    #[inline(always)]
     pub fn into_vec(self) -> Vec<T>
         ensures { result.items ≡ self }
     {

@@ -30,6 +30,7 @@ impl Text {
     }
 
     /// The text.
+    #[inline(always)]
     pub fn as_str(&self) -> &str
         ensures { result.now ≡ self.now }
     {
@@ -37,6 +38,7 @@ impl Text {
     }
 
     /// Takes a `String` over, without memory.
+    #[inline(always)]
     pub fn from_string(inner: String) -> Text
         ensures { result ≡ string_bytes inner }
     {
@@ -44,6 +46,7 @@ impl Text {
     }
 
     /// Gives the `String` back, without memory.
+    #[inline(always)]
     pub fn into_string(self) -> String
         ensures { string_bytes result ≡ self }
     {

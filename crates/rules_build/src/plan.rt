@@ -27,6 +27,7 @@ pub enum End {
 }
 
 /// What is left of a number, where anything is left, when so many are taken.
+#[inline(always)]
 pub fn spend(room: Option<u32>, count: u32) -> Option<u32>
     ensures { result ≡ spent room count }
 {

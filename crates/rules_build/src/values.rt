@@ -31,6 +31,7 @@ pub struct Bound<'a> {
 }
 
 /// What a binding says.
+#[inline(always)]
 pub fn bound_by(binding: &Binding) -> Bound<'_>
     ensures { (work : Work) (region : Region) (v : ℕ) (x : ModelValue Identifier) →
         IsBoundTo work region binding.now v x → (result.variable ≡ v) × IsWorth work region result.value x }
@@ -68,6 +69,7 @@ pub fn all_bound<'a>(alloc: Global, bindings: &'a [Binding]) -> Mem<Vec<Bound<'a
 }
 
 /// What a variable stands for at the first place of an ellipsis. One with a single value is the same everywhere.
+#[inline(always)]
 fn first_value(value: Value<'_>) -> Value<'_>
     ensures { (work : Work) (region : Region) (x : ModelValue Identifier) →
         IsWorth work region value.entry x → IsWorth work region result (first_value x) }
@@ -85,6 +87,7 @@ fn first_value(value: Value<'_>) -> Value<'_>
 }
 
 /// What a variable stands for at the places after the first.
+#[inline(always)]
 fn later_values(value: Value<'_>) -> Value<'_>
     ensures { (work : Work) (region : Region) (x : ModelValue Identifier) →
         IsWorth work region value.entry x → IsWorth work region result (later_values x) }
@@ -144,6 +147,7 @@ pub fn places_of(bounds: &[Bound]) -> Result<usize, BuildFault>
 }
 
 /// How many places there are by one variable more, which must agree with those before it if it drives the ellipsis.
+#[inline(always)]
 fn agreed(places: Option<usize>, value: Value) -> Result<Option<usize>, BuildFault>
     ensures { (work : Work) (region : Region) (x : ModelValue Identifier) →
         IsWorth work region value.entry x → Agrees (agree_with places x) result }

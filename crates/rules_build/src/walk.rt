@@ -232,6 +232,7 @@ impl Walk<'_> {
     }
 
     /// The plan of an identifier: what the variable stands for, or the identifier, which the use is to mark.
+    #[inline(always)]
     fn name(&self, template: Tree, id: IdNo, index: &Index, room: &mut Option<u32>) -> Plan
         requires template { IsStanding self.now.work.now template }
         ensures { (region : Region) (k : Number) (dots : Identifier → Bool) (i : Identifier) (o : Option AnyOcc) (bounds : List AnyBound) (ms : List (ModelBinding Identifier Identifier)) →
@@ -376,6 +377,7 @@ impl Walk<'_> {
     }
 
     /// Whether a part is an ellipsis.
+    #[inline(always)]
     fn is_dots(&self, tree: Tree, escaped: bool) -> bool
         requires { IsStanding self.now.work.now tree }
         ensures { (r : ModelRules Identifier) (t : ModelTree Identifier) → TellsRoles self.now.work.now.symbols self.now.roles.now r →
@@ -385,6 +387,7 @@ impl Walk<'_> {
     }
 
     /// Whether an ellipsis stands at a place.
+    #[inline(always)]
     fn dots_at(&self, items: &[Tree], k: usize, escaped: bool) -> bool
         requires { AreStanding self.now.work.now items.now }
         ensures { (r : ModelRules Identifier) (ts : Trees Identifier) → TellsRoles self.now.work.now.symbols self.now.roles.now r →
@@ -397,6 +400,7 @@ impl Walk<'_> {
     }
 
     /// How many ellipses stand in a row from a place on, where it is known whether one stands there.
+    #[inline(always)]
     fn leading(&self, items: &[Tree], from: usize, escaped: bool, first: bool) -> usize
         requires items { AreStanding self.now.work.now items.now }
         requires from { from ≤ length items.now }
@@ -417,6 +421,7 @@ impl Walk<'_> {
     }
 
     /// Whether a list is `(... template)`.
+    #[inline(always)]
     fn is_escape(&self, items: &[Tree], end: Option<Tree>, escaped: bool) -> bool
         requires items { AreStanding self.now.work.now items.now }
         requires end { EndIsStanding self.now.work.now end }
@@ -438,6 +443,7 @@ fn add_plans(parts: &mut Vec<Plan>, items: Vec<Plan>) -> Mem<()>
 }
 
 /// Adds a plan, where there was room for it.
+#[inline(always)]
 fn keep(room: Option<u32>, plan: Plan, plans: &mut Vec<Plan>) -> Mem<()>
     ensures { (work : AnyWork) (region : Region) (k : Number) (b : Built (ModelTree Identifier)) → (IsSome room → IsPlanOf work region k plan b) →
         OnOk result (IsSome room → ArePlansOf work region k plans.old.items plans.new.items (alone b)) }

@@ -296,6 +296,7 @@ impl Matcher<'_> {
     }
 
     /// Whether a tree matches an identifier of a pattern.
+    #[inline(always)]
     fn name(&self, id: IdNo, form: Tree, found: &mut Found) -> Mem<bool>
         requires id { (i : Identifier) × IsIdent self.now.work.now.symbols id i }
         requires form { IsStanding self.now.work.now form }
@@ -319,6 +320,7 @@ impl Matcher<'_> {
     }
 
     /// Whether a tree is an identifier that means the same as a literal.
+    #[inline(always)]
     fn literal(&self, literal: IdNo, form: Tree, found: &mut Found) -> Mem<bool>
         requires id { (i : Identifier) × IsIdent self.now.work.now.symbols literal i }
         requires form { IsStanding self.now.work.now form }
@@ -342,6 +344,7 @@ impl Matcher<'_> {
     }
 
     /// Whether a tree is this atom (R7RS 6.1, `equal?`).
+    #[inline(always)]
     fn atom(&self, leaf: Leaf, form: Tree) -> bool
         requires form { IsStanding self.now.work.now form }
         ensures { (a : Atom) (o : Option Occ) (t : ModelTree Identifier) → leaf_tree self.now.work.now.symbols leaf o ≡ Some (atom a o) →

@@ -15,6 +15,7 @@ pub enum Class {
 }
 
 impl Class {
+    #[inline(always)]
     pub fn contains(self, c: char) -> bool
         ensures { result ≡ test_of self c }
     {
@@ -28,6 +29,7 @@ impl Class {
 
 /// What ends a word: white space, a quotation mark, a bar, a parenthesis, a semicolon.
 #[tactic(auto, unfolding(crate::specs::Lexical::is_delimiter))]
+#[inline(always)]
 pub fn is_delimiter(c: char) -> bool
     ensures { result ≡ is_delimiter c }
 {
@@ -137,6 +139,7 @@ fn may_follow(category: GeneralCategory) -> bool
 
 /// What an identifier may begin with.
 #[tactic(auto, unfolding(crate::specs::Lexical::is_initial))]
+#[inline(always)]
 pub fn is_initial(c: char) -> bool
     ensures { result ≡ is_initial c }
 {
@@ -163,6 +166,7 @@ pub fn is_initial(c: char) -> bool
 
 /// What an identifier may go on with.
 #[tactic(auto, unfolding(crate::specs::Lexical::is_subsequent))]
+#[inline(always)]
 pub fn is_subsequent(c: char) -> bool
     ensures { result ≡ is_subsequent c }
 {

@@ -8,6 +8,7 @@ use crate::character::Class;
 use ls_base::split_char;
 
 /// The first character of a text, and the text behind it.
+#[inline(always)]
 pub fn split_first(text: &str) -> Option<(char, &str)>
     ensures some { IfSome result (λ p. chars text.now ≡ p.0 ∷ chars p.1.now) }
     ensures within { IfSome result (λ p. length p.1.now < length text.now) }

@@ -180,6 +180,7 @@ impl Env {
     }
 
     /// What this very scope binds an identifier to, with a binding added where one is given.
+    #[inline(always)]
     fn here(&self, scope: ScopeNo, ident: IdNo, added: Option<Bound>) -> Option<Meaning>
         requires { scope < length self.now.scopes }
         ensures { result ≡ bound_at (with_added self.now added) scope ident }
@@ -214,6 +215,7 @@ impl Env {
 
     /// What the innermost local scope that binds an identifier binds it to, where a walk came to. The scope is looked up only where
     /// some local scope binds the identifier.
+    #[inline(always)]
     fn local(
         &self,
         start: ScopeNo,
@@ -231,6 +233,7 @@ impl Env {
     }
 
     /// What the innermost local scope that binds an identifier binds it to, from a scope outwards.
+    #[inline(always)]
     fn innermost(
         &self,
         scope: Option<ScopeNo>,
@@ -251,6 +254,7 @@ impl Env {
     }
 
     /// What the own scope of a unit binds an identifier to.
+    #[inline(always)]
     fn own(&self, unit: u32, ident: IdNo, added: Option<Bound>) -> Option<Meaning>
         ensures { result ≡ own (with_added self.now added) unit ident }
     {

@@ -31,6 +31,7 @@ impl Marks {
     }
 
     /// Whether a number is marked.
+    #[inline(always)]
     pub fn has(&self, number: usize) -> bool
         ensures { result ≡ marked self.now number }
     {

@@ -1,6 +1,6 @@
 -- Identifiers by number: which are one, and which role they have in rules.
 use Rattle.std.proofs.Common.{◌≡◌, ℕ, ◌<◌, Bool, true, false, ◌||◌, List, [], ◌∷◌, length, get_or, slice_get, Option, Some, None, refl, sym, ap, ◌∙◌, subst, eq-eqb}
-use Rattle.std.specs.Prelude.{nat_eq, codes}
+use Rattle.std.specs.Prelude.{nat_eq, codes, if◌then◌else◌}
 use Rattle.std.specs.List.{list_any}
 use Rattle.std.specs.Str.{bytes_eq}
 use Rattle.std.specs.Option.{option_map}
@@ -10,7 +10,7 @@ use Rattle.std.proofs.lemmas.Bool.{eqb-true}
 use Rattle.std.proofs.lemmas.Option.{same_Some, slice_get_within, slice_get-get_or}
 use Rattle.scheme_model.specs.ExpansionFaults.{Named}
 use Rattle.scheme_model.specs.Shapes.{is_among}
-use Rattle.scheme_model.specs.RulesShape.{Rules, IsLiteral, IsEllipsis, IsAny, IsVariable, role_of, is_ellipsis}
+use Rattle.scheme_model.specs.RulesShape.{Rules, IsLiteral, IsEllipsis, IsAny, IsVariable, acts_as_ellipsis, dots_of, role_of, is_ellipsis}
 use Rattle.scheme_model.specs.Ident.{Ident as Identifier, Written, symbol_of, same_ident}
 use Rattle.syntax_tree.specs.Names.{Names, AreToldApart}
 use Rattle.syntax_tree.specs.Macros.{identifiers, IsIdent, AreIdents, IsEllipsisOf, TellsRoles}
@@ -61,6 +61,14 @@ role_any r i h e u = rw (h, e, u) refl
 pub role_variable : (r : Rules Identifier) (i : Identifier) → is_among identifiers.same i r.literals ≡ false → is_ellipsis identifiers r.ellipsis i ≡ false → bytes_eq (symbol_of i) (codes "_") ≡ false →
     IsVariable ≡ role_of identifiers r i
 role_variable r i h e u = rw (h, e, u) refl
+
+pub no_ellipsis : (r : Rules Identifier) (i : Identifier) → is_ellipsis identifiers r.ellipsis i ≡ false → false ≡ dots_of identifiers r i
+no_ellipsis r i e = rw e (others (is_among identifiers.same i r.literals) (bytes_eq (symbol_of i) (codes "_")))
+  where
+    others : (literal any : Bool) → false ≡ acts_as_ellipsis (if literal then IsLiteral else if any then IsAny else IsVariable)
+    others true any = refl
+    others false true = refl
+    others false false = refl
 
 -- ---- what the code reads
 

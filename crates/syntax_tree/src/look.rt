@@ -39,6 +39,7 @@ pub fn look_at(work: &Work, tree: Tree) -> Look<'_>
 }
 
 /// Where a tree stands in a text, where it was read from one. It takes no memory.
+#[inline(always)]
 pub fn place_of(work: &Work, tree: Tree) -> Option<Occ>
     requires { IsStanding work.now tree }
     ensures { (t : ModelTree Identifier) → StandsFor work.now tree t → result ≡ tree_place t }

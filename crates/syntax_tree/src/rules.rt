@@ -125,18 +125,35 @@ impl Roles {
     }
 
     /// Whether a tree is an identifier that acts as an ellipsis. It takes no memory.
+    #[inline(always)]
     pub fn is_dots(&self, work: &Work, tree: Tree) -> bool
         requires { IsStanding work.now tree }
         ensures { (r : ModelRules Identifier) (t : ModelTree Identifier) → TellsRoles work.now.symbols self.now r →
             StandsFor work.now tree t → result ≡ is_dots (dots_of identifiers r) t }
     {
         match look_at(work, tree) {
-            Look::Name(id) => self.role(&work.symbols, id) == Role::Ellipsis,
+            Look::Name(id) => self.acts_as_ellipsis(&work.symbols, id),
             Look::Atom(_) | Look::List(_, _) | Look::Vector(_) => false,
         }
     }
 
+    /// Whether an identifier acts as an ellipsis. Its symbol is looked at before literals are, since most have another. It takes
+    /// no memory.
+    #[inline(always)]
+    fn acts_as_ellipsis(&self, symbols: &Symbols, id: IdNo) -> bool
+        requires { id < length symbols.now.idents }
+        ensures { (r : ModelRules Identifier) (i : Identifier) → TellsRoles symbols.now self.now r →
+            slice_get symbols.now.idents id ≡ Some i → result ≡ dots_of identifiers r i }
+    {
+        let name = symbols.name(symbols.strip(id));
+        if self.is_ellipsis(symbols, id, name) {
+            return self.role(symbols, id) == Role::Ellipsis;
+        }
+        false
+    }
+
     /// Whether an ellipsis stands at a place. It takes no memory.
+    #[inline(always)]
     pub fn dots_at(&self, work: &Work, items: &[Tree], k: usize) -> bool
         requires { AreStanding work.now items.now }
         ensures { (r : ModelRules Identifier) (ts : Trees Identifier) → TellsRoles work.now.symbols self.now r →
@@ -174,6 +191,7 @@ impl Roles {
     }
 
     /// Whether an identifier, in which this symbol is innermost, is the ellipsis of these rules, literals aside.
+    #[inline(always)]
     fn is_ellipsis(&self, symbols: &Symbols, id: IdNo, name: &str) -> bool
         ensures { (e : Option Identifier) (i : Identifier) → IsEllipsisOf symbols.now self.now.ellipsis e →
             slice_get symbols.now.idents id ≡ Some i → name.now ≡ symbol_of i → result ≡ is_ellipsis identifiers e i }

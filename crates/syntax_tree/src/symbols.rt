@@ -183,6 +183,7 @@ impl Symbols {
     }
 
     /// The symbol innermost in an identifier that may be new.
+    #[inline(always)]
     fn innermost(&self, ident: Ident) -> SymNo
         requires { IsPlaced self.now ident }
         ensures { slice_get self.now.symbols result ≡ option_map symbol_of (ident_of self.now ident) }

@@ -24,6 +24,7 @@ pub struct Mark {
 
 impl Mark {
     /// The beginning of a line.
+    #[inline(always)]
     pub fn begin(start: u32) -> Mark
         ensures { IsLineBegin start result }
     {
@@ -54,6 +55,7 @@ impl Mark {
     }
 
     /// The place behind a character that stands there.
+    #[inline(always)]
     fn past(self, c: char) -> Mark
         requires short { self.utf8 + len_utf8 c < 2 ^ 32 }
         requires utf16 { self.utf16 ≤ self.utf8 }
@@ -78,6 +80,7 @@ impl Mark {
 }
 
 /// The place behind the next character of a line, which is marked at the end of each stretch.
+#[inline(always)]
 pub fn mark_past(marks: &mut Vec<Mark>, here: Mark, c: char) -> Mem<Mark>
     requires short { here.utf8 + len_utf8 c < 2 ^ 32 }
     requires utf16 { here.utf16 ≤ here.utf8 }

@@ -8,6 +8,7 @@ ghost use Rattle.text_positions.specs.Walks.{EndsLine, ends_behind, first_line};
 use ls_base::{Encoding, split_char};
 
 /// Whether the character ends a line, alone or with another (LSP 3.17, Position).
+#[inline(always)]
 pub fn ends_line(c: char) -> bool
     ensures { IsTrue result ↔ EndsLine c }
 {
@@ -15,6 +16,7 @@ pub fn ends_line(c: char) -> bool
 }
 
 /// Whether a line ends behind this character: a carriage return before a line feed ends none.
+#[inline(always)]
 pub fn ends_behind(c: char, more: &str) -> bool
     ensures { result ≡ ends_behind c (chars more.now) }
 {

@@ -42,6 +42,7 @@ impl UnitScope {
     }
 
     /// Counts nodes of the form at work.
+    #[inline(always)]
     pub fn count(&mut self, here: Option<Occ>, nodes: u32) -> Result<(), ExpandFault>
         requires { self.old.form.budget.nodes ≤ 200000 }
         ensures { Counts self.old self.new here nodes result }
@@ -55,6 +56,7 @@ impl UnitScope {
     }
 
     /// Begins a core node that counts so many, where so much depth is left: what is left for its parts.
+    #[inline(always)]
     pub fn begin_node(
         &mut self,
         here: Option<Occ>,

@@ -26,6 +26,7 @@ use syntax_tree::trees::Work;
 
 impl UnitScope {
     /// What an identifier means in a scope.
+    #[inline(always)]
     pub(crate) fn means(&self, work: &Work, scope: ScopeNo, ident: IdNo) -> Meaning
         requires look { CanLook work.now self.now scope }
         requires ident { ident < length work.now.symbols.idents }
@@ -36,6 +37,7 @@ impl UnitScope {
     }
 
     /// An identifier where it is used.
+    #[inline(always)]
     pub fn target(&self, work: &Work, scope: ScopeNo, name: NamePart) -> Target
         requires look { CanLook work.now self.now scope }
         requires ident { name.ident < length work.now.symbols.idents }

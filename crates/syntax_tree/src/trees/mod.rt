@@ -74,6 +74,7 @@ impl Work {
     }
 
     /// Adds a node to a region. `Full` comes exactly where 2^31 nodes live.
+    #[inline(always)]
     pub fn add(&mut self, region: &Region, node: Node) -> Result<Tree, PoolFault>
         requires region { IsOpened self.old region.now }
         requires small { CanAdd self.old node }
@@ -106,6 +107,7 @@ impl Work {
     }
 
     /// The nodes of a tree, a part that is shared counted each time that it stands there. It takes no memory.
+    #[inline(always)]
     pub fn size(&self, tree: Tree) -> u32
         requires { IsStanding self.now tree }
         ensures { (t : ModelTree Identifier) → StandsFor self.now tree t → result ≡ tree_size t }
@@ -114,6 +116,7 @@ impl Work {
     }
 
     /// The depth of a tree, whose outermost node has depth 1. It takes no memory.
+    #[inline(always)]
     pub fn depth(&self, tree: Tree) -> u32
         requires { IsStanding self.now tree }
         ensures { (t : ModelTree Identifier) → StandsFor self.now tree t → result ≡ tree_depth t }

@@ -155,6 +155,7 @@ impl Trees {
     }
 
     /// The nodes of a tree, a shared part counted each time.
+    #[inline(always)]
     pub(crate) fn size(&self, tree: Tree) -> u32
         requires { IsSome (map.get self.now.nodes tree.number) }
         ensures { (names : Names) (t : ModelTree Identifier) → Stands self.now.nodes names t tree.number →
@@ -164,6 +165,7 @@ impl Trees {
     }
 
     /// The depth of a tree.
+    #[inline(always)]
     pub(crate) fn depth(&self, tree: Tree) -> u32
         requires { IsSome (map.get self.now.nodes tree.number) }
         ensures { (names : Names) (t : ModelTree Identifier) → Stands self.now.nodes names t tree.number →

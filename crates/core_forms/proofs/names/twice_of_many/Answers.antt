@@ -5,7 +5,7 @@ use Rattle.std.proofs.lemmas.Grind.{common_steps}
 use Rattle.std.proofs.lemmas.List.{drop_more}
 use Rattle.core_forms.specs.declared.shape.NamePart.{NamePart}
 use Rattle.core_forms.proofs.Distinct.{twice_more, not_true}
-use Rattle.core_forms.proofs.names.first_twice.Goals as goal
+use Rattle.core_forms.proofs.names.twice_of_many.Goals as goal
 
 pub loop-name-preserved : goal.loop-name-preserved
 loop-name-preserved c =

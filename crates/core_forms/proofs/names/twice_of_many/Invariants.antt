@@ -4,7 +4,7 @@ use Rattle.std.specs.List.{list_any}
 use Rattle.std.specs.BTreeSet.{contains}
 use Rattle.std.specs.Ordering.{nat_cmp}
 use Rattle.core_forms.specs.Numbers.{twice_by_number}
-use Rattle.core_forms.proofs.names.first_twice.Given as goal
+use Rattle.core_forms.proofs.names.twice_of_many.Given as goal
 
 abbrev pub invariant-loop-name : goal.invariant-loop-name
 invariant-loop-name l =
