@@ -43,13 +43,13 @@ use syntax_tree::units::{Entry, Origin};
 
 /// The entries of a unit and their places by name.
 #[derive(Clone, Copy)]
-struct Found<'a> {
+struct Found<'a, 'p> {
     entries: &'a [Entry],
-    places: &'a EntryPlaces<'a>,
+    places: &'p EntryPlaces<'a>,
     ghost placed: { (s : List ℕ) → place_under places.now s ≡ place_of s 0 entries.now },
 }
 
-impl<'a> Found<'a> {
+impl<'a, 'p> Found<'a, 'p> {
     /// The first entry with a name.
     fn entry(&self, name: &str) -> Option<&'a Entry>
         ensures { option_map (λ e. e.now) result ≡ entry_named name.now self.now.entries.now }
@@ -263,7 +263,7 @@ impl Identifiers {
         alloc: Global,
         symbols: &mut Symbols,
         name: &SetName,
-        found: Found<'_>,
+        found: Found<'_, '_>,
     ) -> Mem<()>
         ensures names { KeepsNames symbols.old symbols.new }
         ensures adds { (find : List ℕ → Option model.Entry) → FindsNames symbols.old found.entry.entries.now find →
@@ -282,7 +282,7 @@ impl Identifiers {
         symbols: &mut Symbols,
         first: &SetName,
         second: &SetName,
-        found: Found<'_>,
+        found: Found<'_, '_>,
     ) -> Mem<()>
         ensures names { KeepsNames symbols.old symbols.new }
         ensures adds { (find : List ℕ → Option model.Entry) → FindsNames symbols.old found.entry.entries.now find →
@@ -300,7 +300,7 @@ impl Identifiers {
         alloc: Global,
         symbols: &mut Symbols,
         specs: &[ExportSpec],
-        found: Found<'_>,
+        found: Found<'_, '_>,
     ) -> Mem<()>
         ensures names { KeepsNames symbols.old symbols.new }
         ensures adds { (find : List ℕ → Option model.Entry) → FindsNames symbols.old found.entry.entries.now find →
@@ -319,7 +319,7 @@ impl Identifiers {
         alloc: Global,
         symbols: &mut Symbols,
         spec: &ExportSpec,
-        found: Found<'_>,
+        found: Found<'_, '_>,
     ) -> Mem<()>
         ensures names { KeepsNames symbols.old symbols.new }
         ensures adds { (find : List ℕ → Option model.Entry) → FindsNames symbols.old found.entry.entries.now find →
@@ -340,7 +340,7 @@ impl Identifiers {
         alloc: Global,
         symbols: &mut Symbols,
         name: &SetName,
-        found: Found<'_>,
+        found: Found<'_, '_>,
     ) -> Mem<()>
         ensures names { KeepsNames symbols.old symbols.new }
         ensures adds { (find : List ℕ → Option model.Entry) → FindsNames symbols.old found.entry.entries.now find →
@@ -358,7 +358,7 @@ impl Identifiers {
         alloc: Global,
         symbols: &mut Symbols,
         specs: &[ExportSpec],
-        found: Found<'_>,
+        found: Found<'_, '_>,
     ) -> Mem<()>
         ensures names { KeepsNames symbols.old symbols.new }
         ensures adds { (find : List ℕ → Option model.Entry) → FindsNames symbols.old found.entry.entries.now find →
@@ -380,7 +380,7 @@ impl Identifiers {
         alloc: Global,
         symbols: &mut Symbols,
         spec: &ExportSpec,
-        found: Found<'_>,
+        found: Found<'_, '_>,
         again: bool,
     ) -> Mem<()>
         ensures names { KeepsNames symbols.old symbols.new }
@@ -490,7 +490,7 @@ fn is_renamed(spec: &ExportSpec) -> bool
 }
 
 /// What an exported identifier means.
-fn meaning_of(symbols: &mut Symbols, found: Found<'_>, name: &SetName) -> Mem<Meaning>
+fn meaning_of(symbols: &mut Symbols, found: Found<'_, '_>, name: &SetName) -> Mem<Meaning>
     ensures names { KeepsNames symbols.old symbols.new }
     ensures means { (find : List ℕ → Option model.Entry) → FindsNames symbols.old found.entry.entries.now find →
         IfOk result (λ m. IsGivenMeaning symbols.new m (live.meaning_or (find name.now.name) name.now.name)) }
