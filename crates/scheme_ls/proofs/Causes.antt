@@ -12,23 +12,25 @@ use Rattle.file_fetching.specs.declared.fetching.FetchStop.TheVariants as fetch
 use Rattle.file_commands.specs.declared.renaming.Renamed.{Renamed}
 use Rattle.file_commands.specs.declared.renaming.Renamed.TheVariants as renamed
 use Rattle.lookahead.specs.declared.looking.Looking.TheVariants.{Ahead}
-use Rattle.scheme_ls.specs.AheadOutcome.{PiecesEndAs, ServeEndsBy}
-use Rattle.scheme_ls.specs.ArrowsOutcome.{ArrowsEndsAs}
-use Rattle.scheme_ls.specs.Prints.{SinkSeen}
-use Rattle.scheme_ls.specs.Reading.{SourceSeen}
+use Rattle.session_serving.specs.AheadOutcome.{PiecesEndAs, ServeEndsBy}
+use Rattle.text_arrows.specs.ArrowsOutcome.{ArrowsEndsAs}
+use Rattle.command_output.specs.Prints.{SinkSeen}
+use Rattle.command_output.specs.Reads.{SourceSeen}
 use Rattle.scheme_ls.specs.RunOutcome.{CommandEndsAs, NothingDone, RunEnds, Seen}
-use Rattle.scheme_ls.specs.ServeOutcome.{ServeEndsAs, SessionEndsAs, SourceEndsAs}
-use Rattle.scheme_ls.specs.Statuses.{arrows_status, code_of, fetch_status, session_status}
-use Rattle.scheme_ls.specs.Streams.{Streams}
+use Rattle.session_serving.specs.ServeOutcome.{ServeEndsAs, SessionEndsAs, SourceEndsAs}
+use Rattle.text_arrows.specs.ArrowsStatuses.{arrows_status}
+use Rattle.command_output.specs.Statuses.{code_of, fetch_status}
+use Rattle.session_serving.specs.SessionEnds.{session_status}
+use Rattle.command_output.specs.Streams.{Streams}
 use Rattle.scheme_ls.specs.WorkOutcome.{CheckEndsAs, PrintsLines, RunsOut, RenameEndsAs, ReplayEndsAs, Replays, WorkEndsAs, WorkSeen, check_status, rename_status, work_seen}
-use Rattle.scheme_ls.specs.declared.answering.Exit.TheVariants as exits
-use Rattle.scheme_ls.specs.declared.arrows.ArrowsEnd.{ArrowsEnd}
-use Rattle.scheme_ls.specs.declared.arrows.ArrowsEnd.TheVariants as arrows
-use Rattle.scheme_ls.specs.declared.arrows.TextEnd.TheVariants as text
-use Rattle.scheme_ls.specs.declared.serve.SessionEnd.{SessionEnd}
-use Rattle.scheme_ls.specs.declared.serve.SessionEnd.TheVariants as serve
-use Rattle.scheme_ls.specs.declared.status.Status.{Status}
-use Rattle.scheme_ls.specs.declared.status.Status.TheVariants.{Done, Refused, BadWords, SinkFault}
+use Rattle.session_serving.specs.declared.answering.Exit.TheVariants as exits
+use Rattle.text_arrows.specs.declared.arrows.ArrowsEnd.{ArrowsEnd}
+use Rattle.text_arrows.specs.declared.arrows.ArrowsEnd.TheVariants as arrows
+use Rattle.text_arrows.specs.declared.arrows.TextEnd.TheVariants as text
+use Rattle.session_serving.specs.declared.serve.SessionEnd.{SessionEnd}
+use Rattle.session_serving.specs.declared.serve.SessionEnd.TheVariants as serve
+use Rattle.command_output.specs.declared.status.Status.{Status}
+use Rattle.command_output.specs.declared.status.Status.TheVariants.{Done, Refused, BadWords, SinkFault}
 
 -- ---- a read or a fetch failed: 3
 

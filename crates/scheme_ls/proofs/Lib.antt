@@ -1,20 +1,3 @@
-pub mod Items  -- The items of a list from a place on
-pub mod Sessions  -- Sessions over bodies that come one after another
-pub mod OneOutput  -- A stream has one output, and messages that begin it are its front
-pub mod ReadLaws  -- Reads one after another
-pub mod Writes  -- Bytes written one after another
-pub mod AnswerLaws  -- Bodies that are answered one after another
-pub mod Fronts  -- Fronts of bytes that are printed piece by piece
-pub mod Taken  -- Bytes taken from the front of what is left, read by read
-pub mod Pieces  -- Pieces that are read one after another, and the bodies that they complete
-pub mod SessionSoFar  -- A session that goes on, read by read
-pub mod PieceEndsSession  -- How a session ends in a piece
-pub mod QuietLaws  -- No step is counted over quiet bytes
-pub mod CountLaws  -- The macro uses that are counted over bodies and pieces
-pub mod Uncancelled  -- A session that doesn't look ahead is that of the bytes of its pieces
-pub mod SomeOutput  -- Each stream has an output
-pub mod AloneLaws  -- A text alone, opened where no document was open
-pub mod OneText  -- A text has one answer
 pub mod WorkLaws  -- How a command ends that works on files, or on a workspace made of a number, once its lines were printed or memory ran out
 pub mod Obeyed  -- A command ended, so it ended as that command does
 pub mod Causes  -- What the number of a run tells of its cause

@@ -5,8 +5,8 @@ use Rattle.command_words.specs.declared.command.Command.{Command}
 use Rattle.command_words.specs.declared.command.Command.TheVariants.{Arrows, Check, Rename, Replay, Selfrun, Serve, ServeAhead, TooManyFiles, Unknown}
 use Rattle.scheme_ls.specs.RunOutcome.{ArrowsDone, AsksNothing, CommandEndsAs, Seen, ServeAheadDone, ServeDone, UsageDone, Works}
 use Rattle.scheme_ls.specs.WorkOutcome.{CheckEndsAs, RenameEndsAs, ReplayEndsAs, SelfrunEndsAs}
-use Rattle.scheme_ls.specs.declared.status.Status.{Status}
-use Rattle.scheme_ls.specs.declared.status.Status.TheVariants.{TooLong}
+use Rattle.command_output.specs.declared.status.Status.{Status}
+use Rattle.command_output.specs.declared.status.Status.TheVariants.{TooLong}
 
 module _ (command : Command) (old new : Seen) (status : Status) where
   ended : (other : Command) → command ≡ other → CommandEndsAs other old new status → CommandEndsAs command old new status

@@ -17,15 +17,15 @@ use Rattle.file_commands.specs.declared.checking.Checked.{Checked}
 use Rattle.file_commands.specs.declared.renaming.Renamed.{Renamed}
 use Rattle.generated_workspace.specs.Generated.{selfrun_texts}
 use Rattle.generated_workspace.specs.Selfrun.{selfrun_lines, selfrun_uses}
-use Rattle.scheme_ls.specs.Prints.{SinkSeen}
-use Rattle.scheme_ls.specs.Reading.{SourceSeen, source_seen}
-use Rattle.scheme_ls.specs.ServeOutcome.{Serves}
-use Rattle.scheme_ls.specs.Statuses.{session_status}
-use Rattle.scheme_ls.specs.Streams.{streams}
+use Rattle.command_output.specs.Prints.{SinkSeen}
+use Rattle.command_output.specs.Reads.{SourceSeen, source_seen}
+use Rattle.session_serving.specs.ServeOutcome.{Serves}
+use Rattle.session_serving.specs.SessionEnds.{session_status}
+use Rattle.command_output.specs.Streams.{streams}
 use Rattle.scheme_ls.specs.WorkOutcome.{CheckEndsAs, PrintsLines, RenameEndsAs, Replays, RunsOut, SelfrunEndsAs, WorkSeen, check_status, recording_piece, rename_status, renamed_lines}
-use Rattle.scheme_ls.specs.declared.serve.SessionEnd.{SessionEnd}
-use Rattle.scheme_ls.specs.declared.status.Status.{Status}
-use Rattle.scheme_ls.specs.declared.status.Status.TheVariants.{Done}
+use Rattle.session_serving.specs.declared.serve.SessionEnd.{SessionEnd}
+use Rattle.command_output.specs.declared.status.Status.{Status}
+use Rattle.command_output.specs.declared.status.Status.TheVariants.{Done}
 
 -- lines and a status by other names
 same_lines : (text lines : List ℕ) (end other status : Status) (old new : SinkSeen) → text ≡ lines → end ≡ other → PrintsLines text end old new status → PrintsLines lines other old new status

@@ -4,19 +4,21 @@ use Rattle.command_words.specs.Commands.{CommandOf}
 use Rattle.command_words.specs.declared.command.Command.{Command}
 use Rattle.command_words.specs.declared.command.Command.TheVariants.{Arrows, Check, Rename, Replay, Selfrun, Serve, ServeAhead, TooManyFiles, Unknown}
 use Rattle.file_fetching.specs.FilesSeen.{FilesSeen}
-use Rattle.scheme_ls.specs.AheadOutcome.{ServesAhead}
-use Rattle.scheme_ls.specs.ArrowsOutcome.{ArrowsEndsAs, OpensNone}
-use Rattle.scheme_ls.specs.Prints.{SinkSeen}
-use Rattle.scheme_ls.specs.Reading.{SourceSeen}
-use Rattle.scheme_ls.specs.ServeOutcome.{Serves}
-use Rattle.scheme_ls.specs.Statuses.{arrows_status, code_of, session_status}
-use Rattle.scheme_ls.specs.Streams.{Streams}
+use Rattle.session_serving.specs.AheadOutcome.{ServesAhead}
+use Rattle.text_arrows.specs.ArrowsOutcome.{ArrowsEndsAs, OpensNone}
+use Rattle.command_output.specs.Prints.{SinkSeen}
+use Rattle.command_output.specs.Reads.{SourceSeen}
+use Rattle.session_serving.specs.ServeOutcome.{Serves}
+use Rattle.text_arrows.specs.ArrowsStatuses.{arrows_status}
+use Rattle.command_output.specs.Statuses.{code_of}
+use Rattle.session_serving.specs.SessionEnds.{session_status}
+use Rattle.command_output.specs.Streams.{Streams}
 use Rattle.scheme_ls.specs.Wording.{usage_text}
 use Rattle.scheme_ls.specs.WorkOutcome.{CheckEndsAs, PrintsLines, RenameEndsAs, ReplayEndsAs, SelfrunEndsAs, WorkSeen, work_seen}
-use Rattle.scheme_ls.specs.declared.arrows.ArrowsEnd.{ArrowsEnd}
-use Rattle.scheme_ls.specs.declared.serve.SessionEnd.{SessionEnd}
-use Rattle.scheme_ls.specs.declared.status.Status.{Status}
-use Rattle.scheme_ls.specs.declared.status.Status.TheVariants.{BadWords, NoMemory, TooLong}
+use Rattle.text_arrows.specs.declared.arrows.ArrowsEnd.{ArrowsEnd}
+use Rattle.session_serving.specs.declared.serve.SessionEnd.{SessionEnd}
+use Rattle.command_output.specs.declared.status.Status.{Status}
+use Rattle.command_output.specs.declared.status.Status.TheVariants.{BadWords, NoMemory, TooLong}
 
 -- what the outside and the counter of steps show at a moment
 pub record Seen : Type 0 where

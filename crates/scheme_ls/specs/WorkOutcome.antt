@@ -17,14 +17,15 @@ use Rattle.file_commands.specs.declared.renaming.Renamed.{Renamed}
 use Rattle.file_commands.specs.declared.renaming.Renamed.TheVariants.{Edits, Refused, NotUtf8}
 use Rattle.generated_workspace.specs.Generated.{selfrun_texts}
 use Rattle.generated_workspace.specs.Selfrun.{selfrun_lines, selfrun_uses}
-use Rattle.scheme_ls.specs.Prints.{Prints, PrintsFront, SinkSeen}
-use Rattle.scheme_ls.specs.Reading.{SourceSeen, source_seen}
-use Rattle.scheme_ls.specs.ServeOutcome.{Serves}
-use Rattle.scheme_ls.specs.Statuses.{fetch_status, session_status}
-use Rattle.scheme_ls.specs.Streams.{streams}
-use Rattle.scheme_ls.specs.declared.serve.SessionEnd.{SessionEnd}
-use Rattle.scheme_ls.specs.declared.status.Status.{Status}
-use Rattle.scheme_ls.specs.declared.status.Status.TheVariants as statuses
+use Rattle.command_output.specs.Prints.{Prints, PrintsFront, SinkSeen}
+use Rattle.command_output.specs.Reads.{SourceSeen, source_seen}
+use Rattle.session_serving.specs.ServeOutcome.{Serves}
+use Rattle.command_output.specs.Statuses.{fetch_status}
+use Rattle.session_serving.specs.SessionEnds.{session_status}
+use Rattle.command_output.specs.Streams.{streams}
+use Rattle.session_serving.specs.declared.serve.SessionEnd.{SessionEnd}
+use Rattle.command_output.specs.declared.status.Status.{Status}
+use Rattle.command_output.specs.declared.status.Status.TheVariants as statuses
 
 -- what the files, the sink and the counter of steps show at a moment
 pub record WorkSeen : Type 0 where

@@ -2,31 +2,21 @@
 #![tactic(auto)]
 
 ghost use Rattle.std.specs.Prelude.{◌≡◌, ◌<◌, ℕ, drop};
-ghost use Rattle.scheme_ls.specs.Prints.{sink_seen};
-ghost use Rattle.scheme_ls.specs.Reading.{source_seen};
+ghost use Rattle.command_output.specs.Prints.{sink_seen};
+ghost use Rattle.command_output.specs.Reads.{source_seen};
 ghost use Rattle.scheme_ls.specs.RunOutcome.{RunEnds, seen};
 ghost use Rattle.command_words.specs.Words.{texts};
 ghost use Rattle.file_fetching.specs.FilesSeen.{files_seen};
 
-pub mod ahead_laws;
-mod alone;
-mod answering;
-mod arrows;
 pub mod laws;
-mod printing;
-mod reading;
 mod replay;
-mod replies;
 pub mod run;
-mod serve;
-mod server;
-mod status;
 mod wording;
 mod work;
 
+use command_output::Status;
 use ls_base::Steps;
 use ls_outside::{Files, Sink, Source, StdFiles, StdSink, StdSource};
-use status::Status;
 use std::alloc::Global;
 use std::io::ErrorKind;
 use std::marker::Brand;

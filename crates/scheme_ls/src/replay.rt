@@ -3,14 +3,14 @@ ghost use Rattle.std.specs.Prelude.{List, ℕ, IfOk};
 ghost use Rattle.file_fetching.specs.FilesSeen.{FilesSeen, files_seen};
 ghost use Rattle.ls_outside.specs.Left.{pieces_left};
 ghost use Rattle.ls_outside.specs.Sources.{AreCuts};
-ghost use Rattle.scheme_ls.specs.Prints.{sink_seen};
+ghost use Rattle.command_output.specs.Prints.{sink_seen};
 ghost use Rattle.scheme_ls.specs.WorkOutcome.{ReplayEndsAs, Replays, recording_piece, work_seen};
 
-use crate::serve::serve;
-use crate::status::Status;
+use command_output::Status;
 use file_fetching::fetch_recording;
 use ls_base::{Mem, Memory, Steps, Text};
 use ls_outside::{Files, Pieces, Sink, SureSource};
+use session_serving::serve::serve;
 use std::alloc::Global;
 use std::sync::ledger::Ledger;
 

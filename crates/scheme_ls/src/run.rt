@@ -4,21 +4,21 @@ ghost use Rattle.command_words.specs.Words.{texts};
 ghost use Rattle.command_words.specs.declared.command.Command.TheVariants as asked;
 ghost use Rattle.file_fetching.specs.FilesSeen.{files_seen};
 ghost use Rattle.ls_base.specs.Limits.{max_documents};
-ghost use Rattle.scheme_ls.specs.Prints.{sink_seen};
-ghost use Rattle.scheme_ls.specs.Reading.{source_seen};
+ghost use Rattle.command_output.specs.Prints.{sink_seen};
+ghost use Rattle.command_output.specs.Reads.{source_seen};
 ghost use Rattle.scheme_ls.specs.RunOutcome.{CommandEndsAs, RunEnds, seen};
 
-use crate::arrows::arrows;
 use crate::replay::replay;
-use crate::serve::{serve, serve_ahead};
-use crate::status::Status;
 use crate::wording::USAGE;
 use crate::work::{check, print_lines, rename, selfrun};
+use command_output::Status;
 use command_words::{Command, command_of};
 use ls_base::Steps;
 use ls_outside::{Files, Sink, Source};
+use session_serving::serve::{serve, serve_ahead};
 use std::alloc::Global;
 use std::sync::ledger::Ledger;
+use text_arrows::arrows::arrows;
 
 /// Does what the words ask for, over the outside that it is given, and answers the number of a status.
 pub fn run<I: Source, O: Sink, F: Files, L: Ledger>(

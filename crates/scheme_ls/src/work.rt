@@ -2,11 +2,10 @@
 ghost use Rattle.std.specs.Prelude.{◌≡◌, ◌≤◌, length};
 ghost use Rattle.ls_base.specs.Limits.{max_documents};
 ghost use Rattle.file_fetching.specs.FilesSeen.{FilesSeen, files_seen};
-ghost use Rattle.scheme_ls.specs.Prints.{sink_seen};
+ghost use Rattle.command_output.specs.Prints.{sink_seen};
 ghost use Rattle.scheme_ls.specs.WorkOutcome.{CheckEndsAs, PrintsLines, RenameEndsAs, SelfrunEndsAs, check_status, work_seen};
 
-use crate::printing::{SinkFailed, print_all};
-use crate::status::Status;
+use command_output::{SinkFailed, Status, print_all};
 use file_commands::{Renamed, check_files, rename_in};
 use file_fetching::{fetch_text, fetch_texts};
 use generated_workspace::selfrun as selfrun_lines;

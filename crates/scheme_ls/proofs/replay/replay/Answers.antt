@@ -2,7 +2,7 @@
 use Rattle.std.proofs.Common.{List, ℕ, inl, subst}
 use Rattle.file_fetching.specs.FilesSeen.{files_seen}
 use Rattle.file_fetching.specs.Fetching.{Fetches, max_recording}
-use Rattle.scheme_ls.specs.Prints.{sink_seen}
+use Rattle.command_output.specs.Prints.{sink_seen}
 use Rattle.scheme_ls.specs.WorkOutcome.{work_seen}
 use Rattle.scheme_ls.proofs.replay.replay.Goals as goal
 

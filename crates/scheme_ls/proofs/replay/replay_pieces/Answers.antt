@@ -2,10 +2,10 @@
 use Rattle.std.proofs.Common.{refl, sym, subst, Option, List, ℕ}
 use Rattle.ls_outside.specs.Left.{pieces_left}
 use Rattle.ls_outside.specs.SureTold.{sure_left, sure_reads}
-use Rattle.scheme_ls.specs.Prints.{sink_seen}
-use Rattle.scheme_ls.specs.Reading.{source_seen}
+use Rattle.command_output.specs.Prints.{sink_seen}
+use Rattle.command_output.specs.Reads.{source_seen}
 use Rattle.scheme_ls.specs.WorkOutcome.{Replays, work_seen}
-use Rattle.scheme_ls.specs.declared.status.Status.{Status}
+use Rattle.command_output.specs.declared.status.Status.{Status}
 use Rattle.scheme_ls.proofs.WorkLaws.{replays}
 use Rattle.scheme_ls.proofs.replay.replay_pieces.Goals as goal
 

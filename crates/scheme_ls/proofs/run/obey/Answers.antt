@@ -2,8 +2,8 @@
 use Rattle.std.proofs.Common.{◌∙◌, ap, refl, sym}
 use Rattle.command_words.specs.declared.command.Command.TheVariants.{Check}
 use Rattle.file_fetching.specs.FilesSeen.{files_seen}
-use Rattle.scheme_ls.specs.Prints.{sink_seen}
-use Rattle.scheme_ls.specs.Reading.{source_seen}
+use Rattle.command_output.specs.Prints.{sink_seen}
+use Rattle.command_output.specs.Reads.{source_seen}
 use Rattle.scheme_ls.specs.RunOutcome.{seen}
 use Rattle.scheme_ls.proofs.Obeyed.{ahead_ended, arrows_ended, check_ended, rename_ended, replay_ended, selfrun_ended, serve_ended, too_many_ended, unknown_ended}
 use Rattle.scheme_ls.proofs.run.obey.Goals as goal

@@ -2,7 +2,7 @@
 use Rattle.std.proofs.Common.{refl, inr}
 use Rattle.command_words.specs.Words.{texts}
 use Rattle.command_words.proofs.SomeCommand.{some_command}
-use Rattle.scheme_ls.specs.declared.status.Status.TheVariants.{NoMemory}
+use Rattle.command_output.specs.declared.status.Status.TheVariants.{NoMemory}
 use Rattle.scheme_ls.proofs.run.run.Goals as goal
 
 pub returns-in_default : goal.returns-in_default

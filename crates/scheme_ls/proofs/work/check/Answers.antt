@@ -2,7 +2,7 @@
 use Rattle.std.proofs.Common.{ap, refl}
 use Rattle.file_fetching.specs.FilesSeen.{files_seen}
 use Rattle.file_fetching.specs.Fetching.{bytes_in}
-use Rattle.scheme_ls.specs.Prints.{sink_seen}
+use Rattle.command_output.specs.Prints.{sink_seen}
 use Rattle.scheme_ls.specs.WorkOutcome.{work_seen}
 use Rattle.scheme_ls.proofs.WorkLaws.{checked_out, checks}
 use Rattle.scheme_ls.proofs.work.check.Goals as goal

@@ -3,7 +3,7 @@ use Rattle.std.proofs.Common.{ap, refl, sym, subst, ◌∙◌, ℕ, List}
 use Rattle.ls_base.specs.Limits.{max_text}
 use Rattle.file_fetching.specs.FilesSeen.{files_seen}
 use Rattle.file_fetching.specs.Fetching.{Fetches}
-use Rattle.scheme_ls.specs.Prints.{sink_seen}
+use Rattle.command_output.specs.Prints.{sink_seen}
 use Rattle.scheme_ls.specs.WorkOutcome.{rename_status, renamed_lines, work_seen}
 use Rattle.scheme_ls.proofs.WorkLaws.{renamed_out, renames}
 use Rattle.scheme_ls.proofs.work.rename.Goals as goal

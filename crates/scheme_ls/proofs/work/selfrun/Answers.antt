@@ -1,6 +1,6 @@
 -- The lines were printed, or memory ran out before.
 use Rattle.std.proofs.Common.{refl}
-use Rattle.scheme_ls.specs.Prints.{sink_seen}
+use Rattle.command_output.specs.Prints.{sink_seen}
 use Rattle.scheme_ls.specs.WorkOutcome.{work_seen}
 use Rattle.scheme_ls.proofs.WorkLaws.{selfrun_out, selfruns}
 use Rattle.scheme_ls.proofs.work.selfrun.Goals as goal

@@ -1,9 +1,0 @@
-use Rattle.std.proofs.Common.{List, subst, sym}
-use Rattle.program_answers.specs.declared.publications.Published.{Published}
-use Rattle.scheme_ls.specs.Alone.{HoldsAlone}
-use Rattle.scheme_ls.proofs.alone.answer_to.Goals as goal
-
-pub returns-clause-told : goal.returns-clause-told
-returns-clause-told g c =
-    let Holds : List Published → Type 0 = λ lists. HoldsAlone c.args.text.now c.open.new.workspace lists in
-    c.in_ok-told_alone.ensures c.args.text.now (subst Holds (sym c.as_slice.ensures) c.in_ok-lists.ensures.holds)

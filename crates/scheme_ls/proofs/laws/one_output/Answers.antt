@@ -1,6 +1,0 @@
-use Rattle.scheme_ls.proofs.OneOutput.{one_output, front_of_output}
-use Rattle.scheme_ls.proofs.SomeOutput.{some_output}
-use Rattle.scheme_ls.proofs.laws.one_output.Goals as goal
-
-pub returns : goal.returns
-returns c = record { some = some_output; only = one_output; front = front_of_output }

@@ -1,5 +1,0 @@
-use Rattle.scheme_ls.proofs.Uncancelled.{serves_as}
-use Rattle.scheme_ls.proofs.serve.serve.Goals as goal
-
-pub returns : goal.returns
-returns g c = serves_as _ _ _ _ _ c.serve_by.ensures
