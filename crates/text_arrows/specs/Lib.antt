@@ -1,4 +1,4 @@
-pub mod Wording  -- The text that `arrows` says by itself: the line of a text that isn't UTF-8
+pub mod Wording  -- The text that `arrows` says by itself
 pub mod ArrowsStatuses  -- The statuses of the command `arrows`
 pub mod TextReading  -- What was read of a source that gives a text
 pub mod Printed  -- The bytes that are printed
