@@ -29,6 +29,10 @@ pub record Seen : Type 0 where
 abbrev pub seen : SourceSeen → SinkSeen → FilesSeen → ℕ → Seen
 seen source sink files steps = record { streams = record { source = source; sink = sink }; files = files; steps = steps }
 
+-- the same with another number of steps
+abbrev pub counting : Seen → ℕ → Seen
+counting s n = record s { steps = n }
+
 -- no file was asked for
 abbrev pub AsksNoFile : Seen → Seen → Type 0
 AsksNoFile old new = new.files ≡ old.files

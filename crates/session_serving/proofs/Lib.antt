@@ -10,3 +10,4 @@ pub mod QuietLaws  -- No step is counted over quiet bytes
 pub mod CountLaws  -- The macro uses that are counted over bodies and pieces
 pub mod Uncancelled  -- A session that doesn't look ahead is that of the bytes of its pieces
 pub mod SomeOutput  -- Each stream has an output
+pub mod OneCount  -- What a session counts is told by what it read, unless memory ran out or a write failed

@@ -1,2 +1,2 @@
 pub mod AloneLaws  -- A text alone, opened where no document was open
-pub mod OneText  -- A text has one answer
+pub mod OneText  -- A text has one answer, and one count of macro uses

@@ -1,6 +1,6 @@
--- A text has one answer.
+-- A text has one answer, and one count of macro uses.
 use Rattle.std.proofs.Common.{◌≡◌, ℕ, List, [], ◌∷◌, Bool, true, false, refl, sym, ap, ◌∙◌, true≢false, inl, inr}
-use Rattle.std.specs.Str.{is_utf8}
+use Rattle.std.specs.Str.{IsUtf8, is_utf8}
 use Rattle.std.proofs.lemmas.Str.{IsUtf8-from_is_utf8, is_utf8-from_IsUtf8}
 use Rattle.ls_base.specs.declared.encoding.Encoding.TheVariants.{Utf16}
 use Rattle.scheme_model.specs.Faults as faults
@@ -8,6 +8,7 @@ use Rattle.document_units.specs.Listed.{of_stop, told_in}
 use Rattle.document_units.specs.Readings.{Read, Reads, Stops, IsReadAs}
 use Rattle.program_answers.proofs.TextLists.{one_row}
 use Rattle.command_lines.specs.Diagnostics.{diagnostic_line}
+use Rattle.text_arrows.specs.CountedText.{CountsAlone}
 use Rattle.text_arrows.specs.Printed.{IsAnswer, alone, arrows_alone, input_name, lines_of}
 use Rattle.text_arrows.specs.Wording.{not_utf8_text}
 use Rattle.text_arrows.proofs.AloneLaws.{read_alone}
@@ -47,3 +48,17 @@ some_by text true is (Stops f) read =
 
 pub some_text : (text : List ℕ) → (output : List ℕ) × IsAnswer text output
 some_text text = let read = read_alone text in some_by text (is_utf8 text) refl read.0 read.1
+
+-- ---- the macro uses that are counted
+
+counted_by : (text : List ℕ) (b : Bool) → is_utf8 text ≡ b → (before m n : ℕ) → CountsAlone text before m → CountsAlone text before n → m ≡ n
+counted_by text false is before m n h k =
+    let bad : IsUtf8 text → ⊥ = λ utf8. true≢false (sym (is_utf8-from_IsUtf8 text utf8) ∙ is) in
+    h.refused bad ∙ sym (k.refused bad)
+counted_by text true is before m n h k =
+    let utf8 = IsUtf8-from_is_utf8 text is in
+    let read = read_alone text in
+    h.opened utf8 read.0 read.1 ∙ sym (k.opened utf8 read.0 read.1)
+
+pub one_count : (text : List ℕ) (before m n : ℕ) → CountsAlone text before m → CountsAlone text before n → m ≡ n
+one_count text before m n h k = counted_by text (is_utf8 text) refl before m n h k
