@@ -45,7 +45,7 @@ use Rattle.text_arrows.specs.declared.arrows.ArrowsEnd.TheVariants as arrows
 use Rattle.text_arrows.specs.declared.arrows.TextEnd.TheVariants as text
 use Rattle.text_arrows.proofs.OneText as alone
 use Rattle.scheme_ls.specs.RunOutcome.{CommandEndsAs, NothingDone, RunEnds, Seen, counting}
-use Rattle.scheme_ls.specs.WorkOutcome.{CheckEndsAs, PrintsLines, RenameEndsAs, Replays, ReplayEndsAs, SelfrunEndsAs, WorkEndsAs, WorkSeen, check_status, rename_status, recording_piece}
+use Rattle.scheme_ls.specs.WorkOutcome.{CheckEndsAs, PrintsLines, RenameEndsAs, Replays, ReplayEndsAs, RunsOut, SelfrunEndsAs, WorkEndsAs, WorkSeen, check_status, rename_status, recording_piece, work_seen}
 
 -- a number that neither want of memory nor a failed write has
 record IsPlain (code : ℕ) : Type 0 where
@@ -204,19 +204,25 @@ one_contents old new (x ∷ xs) (y ∷ ys) same h k =
 
 held_length : (held : Option (List ℕ → Option (List ℕ))) (names contents : List (List ℕ)) → AreHeld held names contents → length contents ≡ length names
 held_length None names contents are = are
-held_length (Some held) names contents are = sym (length-map Some contents) ∙ sym (ap length are) ∙ length-map held names
+held_length (Some held) names contents are = sym (length-map contents Some) ∙ sym (ap length are) ∙ length-map names held
 
 module _ (old new : Seen) (code : ℕ) (plain : IsPlain code) where
+  abbrev work_before : WorkSeen
+  work_before = work_seen old.files old.streams.sink old.steps
+
+  abbrev work_after : ℕ → WorkSeen
+  work_after n = work_seen new.files new.streams.sink n
+
   one_check : (names : List (List ℕ)) (m n : ℕ) (s t : Status) → code ≡ code_of s → code ≡ code_of t → CommandEndsAs (Check names) old (counting new m) s → CommandEndsAs (Check names) old (counting new n) t → m ≡ n
   one_check names m n s t is so h k = by h.ends k.ends
     where
-      by : CheckEndsAs names _ _ s → CheckEndsAs names _ _ t → m ≡ n
+      by : CheckEndsAs names work_before (work_after m) s → CheckEndsAs names work_before (work_after n) t → m ≡ n
       by (inl a) (inl b) =
           let contents = one_contents old.files.reads new.files.reads a.contents b.contents (held_length old.files.held names a.contents a.fetched.are ∙ sym (held_length old.files.held names b.contents b.fetched.are)) a.fetched.reads b.fetched.reads in
           let rows = one_row (entries (opened names a.contents)) a.rs b.rs a.read (subst (λ (cs : List (List ℕ)). AreReadAs (entries (opened names cs)) b.rs) (sym contents) b.read) in
-          (work_counts _ _ _ _ _ s code plain is a.ends).0 ∙ ap (λ (rs : List Read). old.steps + uses_in rs) rows ∙ sym (work_counts _ _ _ _ _ t code plain so b.ends).0
-      by (inl a) (inr b) = let low = check_low _ in let same = (work_counts _ _ _ _ _ s code plain is a.ends).1 in absurd (over_two b.stop code (so ∙ ap code_of b.stops.status_is) (subst (λ (c : ℕ). c < 2) (sym same) low))
-      by (inr a) (inl b) = let low = check_low _ in let same = (work_counts _ _ _ _ _ t code plain so b.ends).1 in absurd (over_two a.stop code (is ∙ ap code_of a.stops.status_is) (subst (λ (c : ℕ). c < 2) (sym same) low))
+          (work_counts _ _ _ work_before (work_after m) s code plain is a.ends).0 ∙ ap (λ (rs : List Read). old.steps + uses_in rs) rows ∙ sym (work_counts _ _ _ work_before (work_after n) t code plain so b.ends).0
+      by (inl a) (inr b) = let low = check_low _ in let same = (work_counts _ _ _ work_before (work_after m) s code plain is a.ends).1 in absurd (over_two b.stop code (so ∙ ap code_of b.stops.status_is) (subst (λ (c : ℕ). c < 2) (sym same) low))
+      by (inr a) (inl b) = let low = check_low _ in let same = (work_counts _ _ _ work_before (work_after n) t code plain so b.ends).1 in absurd (over_two a.stop code (is ∙ ap code_of a.stops.status_is) (subst (λ (c : ℕ). c < 2) (sym same) low))
       by (inr a) (inr b) = a.stops.uncounted ∙ sym b.stops.uncounted
 
   -- ---- one file
@@ -224,21 +230,21 @@ module _ (old new : Seen) (code : ℕ) (plain : IsPlain code) where
       CommandEndsAs (Rename name position new_name) old (counting new m) s → CommandEndsAs (Rename name position new_name) old (counting new n) t → m ≡ n
   one_rename name position new_name m n s t is so h k = by h.ends k.ends
     where
-      by : RenameEndsAs name position new_name _ _ s → RenameEndsAs name position new_name _ _ t → m ≡ n
+      by : RenameEndsAs name position new_name work_before (work_after m) s → RenameEndsAs name position new_name work_before (work_after n) t → m ≡ n
       by (inl a) (inl b) =
           let content = one_reading_whole old.files.reads new.files.reads a.content b.content a.fetched.reads b.fetched.reads in
           let reader = readers_are_one a.r b.r a.rules b.rules in
-          (work_counts _ _ _ _ _ s code plain is a.ends).0
+          (work_counts _ _ _ work_before (work_after m) s code plain is a.ends).0
           ∙ (λ j. old.steps + renaming_uses (reader j) name (content j) position new_name)
-          ∙ sym (work_counts _ _ _ _ _ t code plain so b.ends).0
-      by (inl a) (inr b) = let low = rename_low _ in let same = (work_counts _ _ _ _ _ s code plain is a.ends).1 in absurd (over_two b.stop code (so ∙ ap code_of b.stops.status_is) (subst (λ (c : ℕ). c < 2) (sym same) low))
-      by (inr a) (inl b) = let low = rename_low _ in let same = (work_counts _ _ _ _ _ t code plain so b.ends).1 in absurd (over_two a.stop code (is ∙ ap code_of a.stops.status_is) (subst (λ (c : ℕ). c < 2) (sym same) low))
+          ∙ sym (work_counts _ _ _ work_before (work_after n) t code plain so b.ends).0
+      by (inl a) (inr b) = let low = rename_low _ in let same = (work_counts _ _ _ work_before (work_after m) s code plain is a.ends).1 in absurd (over_two b.stop code (so ∙ ap code_of b.stops.status_is) (subst (λ (c : ℕ). c < 2) (sym same) low))
+      by (inr a) (inl b) = let low = rename_low _ in let same = (work_counts _ _ _ work_before (work_after n) t code plain so b.ends).1 in absurd (over_two a.stop code (is ∙ ap code_of a.stops.status_is) (subst (λ (c : ℕ). c < 2) (sym same) low))
       by (inr a) (inr b) = a.stops.uncounted ∙ sym b.stops.uncounted
 
   one_selfrun : (libraries m n : ℕ) (s t : Status) → code ≡ code_of s → code ≡ code_of t → CommandEndsAs (Selfrun libraries) old (counting new m) s → CommandEndsAs (Selfrun libraries) old (counting new n) t → m ≡ n
   one_selfrun libraries m n s t is so h k =
       let reader = readers_are_one h.ends.r k.ends.r h.ends.rules k.ends.rules in
-      (work_counts _ _ _ _ _ s code plain is h.ends.ends).0 ∙ ap (λ (r : Reader). old.steps + selfrun_uses r libraries) reader ∙ sym (work_counts _ _ _ _ _ t code plain so k.ends.ends).0
+      (work_counts _ _ _ work_before (work_after m) s code plain is h.ends.ends).0 ∙ ap (λ (r : Reader). old.steps + selfrun_uses r libraries) reader ∙ sym (work_counts _ _ _ work_before (work_after n) t code plain so k.ends.ends).0
 
 -- ---- `replay`
 
@@ -295,28 +301,34 @@ replay_stops bytes old new status code stop plain is r so = by (fetch_high stop)
     by (inr (inr four)) = plain.memory (so ∙ four)
 
 module _ (old new : Seen) (code : ℕ) (plain : IsPlain code) where
+  abbrev replay_before : WorkSeen
+  replay_before = work_seen old.files old.streams.sink old.steps
+
+  abbrev replay_after : ℕ → WorkSeen
+  replay_after n = work_seen new.files new.streams.sink n
+
   one_replay : (name : List ℕ) (m n : ℕ) (s t : Status) → code ≡ code_of s → code ≡ code_of t → CommandEndsAs (Replay name) old (counting new m) s → CommandEndsAs (Replay name) old (counting new n) t → m ≡ n
   one_replay name m n s t is so h k = by h.ends k.ends
     where
-      by : ReplayEndsAs name _ _ s → ReplayEndsAs name _ _ t → m ≡ n
+      by : ReplayEndsAs name replay_before (replay_after m) s → ReplayEndsAs name replay_before (replay_after n) t → m ≡ n
       by (inl a) (inl b) = both a.ends b.ends
         where
-          both : _ → _ → m ≡ n
+          both : Replays a.content replay_before (replay_after m) s ⊎ RunsOut old.streams.sink new.streams.sink s → Replays b.content replay_before (replay_after n) t ⊎ RunsOut old.streams.sink new.streams.sink t → m ≡ n
           both (inl p) (inl q) =
               let content = one_reading_whole old.files.reads new.files.reads a.content b.content a.fetched.reads b.fetched.reads in
-              one_of_bytes a.content old.steps m n (replay_counts a.content _ _ s code plain is a.fetched.within_limit p)
-              (subst (λ (c : List ℕ). CountsAll c old.steps n) (sym content) (replay_counts b.content _ _ t code plain so b.fetched.within_limit q))
+              one_of_bytes a.content old.steps m n (replay_counts a.content replay_before (replay_after m) s code plain is a.fetched.within_limit p)
+              (subst (λ (c : List ℕ). CountsAll c old.steps n) (sym content) (replay_counts b.content replay_before (replay_after n) t code plain so b.fetched.within_limit q))
           both (inr out) q = absurd (plain.memory (is ∙ ap code_of out.0))
           both (inl p) (inr out) = absurd (plain.memory (so ∙ ap code_of out.0))
       by (inl a) (inr b) = one a.ends
         where
-          one : _ → m ≡ n
-          one (inl p) = absurd (replay_stops a.content _ _ s code b.stop plain is p (so ∙ ap code_of b.stops.status_is))
+          one : Replays a.content replay_before (replay_after m) s ⊎ RunsOut old.streams.sink new.streams.sink s → m ≡ n
+          one (inl p) = absurd (replay_stops a.content replay_before (replay_after m) s code b.stop plain is p (so ∙ ap code_of b.stops.status_is))
           one (inr out) = absurd (plain.memory (is ∙ ap code_of out.0))
       by (inr a) (inl b) = one b.ends
         where
-          one : _ → m ≡ n
-          one (inl p) = absurd (replay_stops b.content _ _ t code a.stop plain so p (is ∙ ap code_of a.stops.status_is))
+          one : Replays b.content replay_before (replay_after n) t ⊎ RunsOut old.streams.sink new.streams.sink t → m ≡ n
+          one (inl p) = absurd (replay_stops b.content replay_before (replay_after n) t code a.stop plain so p (is ∙ ap code_of a.stops.status_is))
           one (inr out) = absurd (plain.memory (so ∙ ap code_of out.0))
       by (inr a) (inr b) = a.stops.uncounted ∙ sym b.stops.uncounted
 

@@ -1,5 +1,5 @@
 -- What a session counts is told by what it read, unless memory ran out or a write failed.
-use Rattle.std.proofs.Common.{◌≡◌, ◌∙◌, ◌⊎◌, inl, inr, ◌+◌, ◌<◌, ◌≤◌, ◌^◌, ℕ, List, [], ◌∷◌, ◌++◌, map, length, Option, Some, None, refl, sym, ap, subst, append_assoc, append-nil, arith}
+use Rattle.std.proofs.Common.{◌≡◌, ◌∙◌, ◌⊎◌, inl, inr, ◌+◌, ◌<◌, ℕ, List, [], ◌∷◌, ◌++◌, length, Option, Some, None, refl, sym, ap, subst, append_assoc, append-nil, arith}
 use Rattle.std.specs.FinMap.{empty, entries}
 use Rattle.std.specs.List.{AllByRecursion}
 use Rattle.std.proofs.lemmas.List.{append_cancel_left, append_cancel_right, length-append, map-append}
@@ -16,7 +16,6 @@ use Rattle.lookahead.specs.declared.looking.Looking.TheVariants.{Ahead, OneByOne
 use Rattle.lookahead.proofs.OneCompletion.{only_completion}
 use Rattle.scheme_model.specs.Session as session
 use Rattle.scheme_model.specs.Session.{Ending, Run, begin}
-use Rattle.document_units.specs.Readings.{Read}
 use Rattle.program_answers.proofs.TextLists.{one_row}
 use Rattle.program_expansion.specs.UsesInTurn.{uses_in}
 use Rattle.rename_conditions.specs.Readers.{Reader}
