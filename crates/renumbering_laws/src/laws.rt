@@ -1,0 +1,5 @@
+//! Laws of the definitions. Each is the contract of a function that does nothing.
+
+/// Nothing.
+pub fn nothing()
+{}
