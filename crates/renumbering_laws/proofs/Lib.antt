@@ -14,5 +14,8 @@ pub mod SideSteps  -- Steps on both sides
 pub mod SideUses  -- Heads, targets and macro uses on both sides
 pub mod SideForms  -- Forms on both sides
 pub mod SideRuns  -- Forms gone through on both sides
+pub mod SideExpressions  -- Expressions on both sides
+pub mod SideUnits  -- Units on both sides
+pub mod NameLaws  -- What a renumbering does to names
 pub mod DatumLaws  -- The tree of a datum under other numbers
 pub mod PairingLaws  -- A pairing is a renumbering with an inverse
