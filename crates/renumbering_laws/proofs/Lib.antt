@@ -17,5 +17,15 @@ pub mod SideRuns  -- Forms gone through on both sides
 pub mod SideExpressions  -- Expressions on both sides
 pub mod SideUnits  -- Units on both sides
 pub mod NameLaws  -- What a renumbering does to names
+pub mod ModelSide  -- Expansion by substitution under old numbers and under new ones
+pub mod RenumberingLaw  -- The renumbering law over the definition that substitutes
+pub mod ScopedSide  -- Expansion by scopes under old numbers and under new ones
+pub mod ArrowLaws  -- Arrows of what is renumbered
+pub mod ScopedRenumberingLaw  -- The renumbering law over expansion by scopes
+pub mod PreludeLaws  -- The prelude under a renumbering that keeps its unit
+pub mod RenumberedStates  -- Each state corresponds to itself under new numbers
 pub mod DatumLaws  -- The tree of a datum under other numbers
+pub mod Corollaries  -- The law in one line
 pub mod PairingLaws  -- A pairing is a renumbering with an inverse
+pub mod PairedLaws  -- Paired units and forms give a renumbering
+pub mod ProgramArrowLaws  -- The arrows of the units of a program under other numbers

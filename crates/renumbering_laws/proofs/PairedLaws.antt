@@ -1,0 +1,21 @@
+-- Units and forms that are paired one to one give a renumbering with an inverse, so the law speaks of them; it keeps the prelude
+-- where this stands in no pair.
+use Rattle.std.proofs.Common.{◌≡◌, ℕ, List, refl}
+use Rattle.scheme_model.specs.Program.{prelude_unit}
+use Rattle.renumbering_laws.specs.Pairings.{back, IsAside}
+use Rattle.renumbering_laws.specs.PairedNumbers.{paired}
+use Rattle.renumbering_laws.specs.Renumbered.{HasInverse}
+use Rattle.renumbering_laws.proofs.PairingLaws.{back_forth, forth_back, keeps}
+
+module _ (units : List (ℕ × ℕ)) (forms : ℕ → List (ℕ × ℕ)) where
+  pub has_inverse : HasInverse (paired units forms)
+  has_inverse = record {
+    forms = record { back = λ u. back (forms u); there = λ u. forth_back (forms u); here = λ u. back_forth (forms u) };
+    unit_back = back units;
+    unit_there = forth_back units;
+    unit_here = back_forth units;
+    definitions = λ u n. refl;
+  }
+
+  pub keeps_prelude : IsAside prelude_unit units → (paired units forms).unit prelude_unit ≡ prelude_unit
+  keeps_prelude h = keeps units prelude_unit h
