@@ -17,10 +17,11 @@ use Rattle.scheme_model.specs.Entries.{same_occ}
 use Rattle.scheme_model.specs.Live.{CoreLeaf, Binds, Uses, Assigns, Quotes, Defines, name_places, name_places_all, name_places_tail, any_name, no_hole, binds_all, field_use, fields_used, macro_leaves, leaves_of, leaves_of_all, leaves_of_clauses, leaves_of_parts, leaves_of_part, form_leaves, unit_leaves, use_targets, counted_targets, keyword_targets, NameUse}
 use Rattle.scheme_model.specs.ProgramArrows.{Arrow, bound_here, local_at, occ_in, binder_of, arrow_of, is_occ, leaf_at, any, is_live_at, target_arrows, name_arrows, core_targets, variable_arrow, template_arrows, template_arrows_all, template_arrows_tail, ident_names, rule_arrows, leaf_arrows, macro_arrows, arrows_with}
 use Rattle.scheme_model.proofs.RenamingLaws.{append_map, map_turned, cond_map}
-use Rattle.renumbering_laws.specs.Moving.{Moves, move_tree, move_trees, move_tail, move_rule, move_rules}
+use Rattle.renumbering_laws.specs.Moving.{move_tree, move_trees, move_tail, move_rule, move_rules}
 use Rattle.renumbering_laws.specs.Renumbering.{Renumbering, IsOneToOne, number, occ_at, place, ident, meaning, change, places_of, target, bound, binder, rule_leaf, macro_of, field_use as field_use_as, core_as, cores_as, clauses_as, parts_as, part_as, macro_use_as, counted_as, result_as, formed_as}
-use Rattle.renumbering_laws.specs.Related.{defined_as, TablesMove}
-use Rattle.renumbering_laws.specs.ProgramParts.{leaf_as, name_use_as, arrow_as}
+use Rattle.renumbering_laws.specs.States.{defined_as, TablesMove}
+use Rattle.renumbering_laws.specs.Arrows.{leaf_as, name_use_as, arrow_as}
+use Rattle.renumbering_laws.proofs.MovedParts.{Moves}
 use Rattle.renumbering_laws.proofs.OneToOne.{behind_units, number_moved, ident_moved}
 use Rattle.renumbering_laws.proofs.MovedPatterns.{variable_map}
 use Rattle.renumbering_laws.proofs.MovedRules.{pattern_variables-map}
@@ -113,9 +114,9 @@ module _ (r : Renumbering) where
   form-moved (Err e) = refl
 
   -- the leaves of a unit's forms, and the keywords and literals that they met
-  pub unit_leaves_moved : (form : ℕ → ℕ) (fs : List Formed) → unit_leaves (map (formed_as r form) fs) ≡ leaves (unit_leaves fs)
-  unit_leaves_moved form [] = refl
-  unit_leaves_moved form (f ∷ fs) = append_map (leaf_as r) (form_leaves f.result) (unit_leaves fs) (form-moved f.result) (unit_leaves_moved form fs)
+  pub unit_leaves_moved : (u : ℕ) (fs : List Formed) → unit_leaves (map (formed_as r u) fs) ≡ leaves (unit_leaves fs)
+  unit_leaves_moved u [] = refl
+  unit_leaves_moved u (f ∷ fs) = append_map (leaf_as r) (form_leaves f.result) (unit_leaves fs) (form-moved f.result) (unit_leaves_moved u fs)
 
   uses-moved : (us : List MacroUse) → use_targets (map (macro_use_as r) us) ≡ map (target r) (use_targets us)
   uses-moved [] = refl
@@ -125,9 +126,9 @@ module _ (r : Renumbering) where
   counted-moved (Ok ps) c = append_map (target r) c.keywords (use_targets c.met) refl (uses-moved c.met)
   counted-moved (Err e) c = refl
 
-  pub keywords_moved : (form : ℕ → ℕ) (fs : List Formed) → keyword_targets (map (formed_as r form) fs) ≡ map (target r) (keyword_targets fs)
-  keywords_moved form [] = refl
-  keywords_moved form (f ∷ fs) = append_map (target r) (counted_targets f.result f.counted) (keyword_targets fs) (counted-moved f.result f.counted) (keywords_moved form fs)
+  pub keywords_moved : (u : ℕ) (fs : List Formed) → keyword_targets (map (formed_as r u) fs) ≡ map (target r) (keyword_targets fs)
+  keywords_moved u [] = refl
+  keywords_moved u (f ∷ fs) = append_map (target r) (counted_targets f.result f.counted) (keyword_targets fs) (counted-moved f.result f.counted) (keywords_moved u fs)
 
 -- ---- arrows
 

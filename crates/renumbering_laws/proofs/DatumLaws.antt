@@ -51,7 +51,7 @@ module _ (r : Renumbering) where
   form_moved u n d = tree_moved r Identifier Identifier (named_as r) (Written u) (placed_in u n (place_of d).first) d
 
   -- the same forms from another number on
-  pub forms_moved : (u n n' : ℕ) → ((m : ℕ) → r.form u (n + m) ≡ n' + m) → (fs : List UnitForm) → form_trees (r.unit u) n' fs ≡ map (numbered_as r (r.form u) (named_as r)) (form_trees u n fs)
+  pub forms_moved : (u n n' : ℕ) → ((m : ℕ) → r.form u (n + m) ≡ n' + m) → (fs : List UnitForm) → form_trees (r.unit u) n' fs ≡ map (numbered_as r u (named_as r)) (form_trees u n fs)
   forms_moved u n n' h [] = refl
   forms_moved u n n' h (x ∷ xs) =
       go x.declared (forms_moved u (suc n) (suc n') (λ m. (let a : suc n + m ≡ n + suc m = omega arith in ap (r.form u) a) ∙ h (suc m) ∙ (let b : n' + suc m ≡ suc n' + m = omega arith in b)) xs)
@@ -59,8 +59,8 @@ module _ (r : Renumbering) where
       here : r.form u n ≡ n'
       here = (let a : n ≡ n + 0 = omega arith in ap (r.form u) a) ∙ h 0 ∙ (let b : n' + 0 ≡ n' = omega arith in b)
 
-      go : (b : Bool) → form_trees (r.unit u) (suc n') xs ≡ map (numbered_as r (r.form u) (named_as r)) (form_trees u (suc n) xs)
+      go : (b : Bool) → form_trees (r.unit u) (suc n') xs ≡ map (numbered_as r u (named_as r)) (form_trees u (suc n) xs)
           → cond b (form_trees (r.unit u) (suc n') xs) ((n', form_of (r.unit u) n' x.datum) ∷ form_trees (r.unit u) (suc n') xs)
-          ≡ map (numbered_as r (r.form u) (named_as r)) (cond b (form_trees u (suc n) xs) ((n, form_of u n x.datum) ∷ form_trees u (suc n) xs))
+          ≡ map (numbered_as r u (named_as r)) (cond b (form_trees u (suc n) xs) ((n, form_of u n x.datum) ∷ form_trees u (suc n) xs))
       go true ih = ih
       go false ih = let a = sym here in let t = ap (λ k. form_of (r.unit u) k x.datum) (sym here) ∙ sym (form_moved u n x.datum) in λ j. (a j, t j) ∷ ih j

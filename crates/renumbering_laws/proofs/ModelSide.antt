@@ -15,8 +15,8 @@ use Rattle.scheme_model.proofs.RenamingLaws.{cond_map}
 use Rattle.scheme_model.proofs.IdentLaws.{number_told}
 use Rattle.renumbering_laws.specs.Moving.{Change, move_trees, move_named, move_rules}
 use Rattle.renumbering_laws.specs.Renumbering.{Renumbering, IsOneToOne, number, place, ident, named_as, meaning, target, bound, macro_use_as, counted_as, pending_as}
-use Rattle.renumbering_laws.specs.Related.{defined_as, names_change, AtForms, ClocksMove, CountsOn, StatesMove}
-use Rattle.renumbering_laws.specs.Sides.{DefinedMoves, Sides, Macros, no_macro, a_macro, regions}
+use Rattle.renumbering_laws.specs.States.{defined_as, names_change, AtForms, ClocksMove, CountsOn, StatesMove}
+use Rattle.renumbering_laws.proofs.Sides.{no_macro, a_macro, regions, DefinedMoves, Sides, Macros}
 use Rattle.renumbering_laws.proofs.OneToOne.{name_moved, same_moved}
 use Rattle.renumbering_laws.proofs.Turned.{trees_turned, rules_turned}
 use Rattle.renumbering_laws.proofs.NameLaws.{some_kept, erase_moved, strip_moved, plain_moved, at_forms_step, found_moved, means_moved, shallow_moved, deep_moved, asks_moved, mine_moved, own_moved, any_moved, pending_turned, variable_moved, table_step}
@@ -277,7 +277,7 @@ module _ (r : Renumbering) (o : IsOneToOne r) (u : ℕ) (known : Known) where
     r = r; one_to_one = o;
     E = Unit {0}; A = Name; L = Name; S = State; E' = Unit {0}; A' = Name; L' = Name; S' = State;
     one = model known; two = model known;
-    on = named_as r; look = named_as r; form = r.form u;
+    on = named_as r; look = named_as r; unit = u;
     around = λ e e'. Unit {0};
     state = Moved;
     same = name_moved r o;

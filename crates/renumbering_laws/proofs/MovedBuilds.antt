@@ -8,11 +8,12 @@ use Rattle.scheme_model.specs.Matching.{Value, One, Many, Values, no_values, val
 use Rattle.scheme_model.specs.Building.{Built, built, value_of, stands_in, stands_among, stands_behind, used_in, value_count, agree, agree_with, places_of, first_value, later_values, first_place, later_places, or_zero, joined, at_places, repeated, named_value, list_built, is_escape, Template, build_tree, build_parts, build_tail, build_escaped, max_nodes, max_depth, within, or_lengths, build}
 use Rattle.scheme_model.specs.Renaming.{built_map}
 use Rattle.scheme_model.proofs.RenamingLaws.{Finds, finds, some_map, cond_map}
+use Rattle.renumbering_laws.specs.Moving.{Change, move_rules, move_tail, move_tree, move_trees}
 use Rattle.renumbering_laws.proofs.MovingSteps.{Reads, reads, then_map, cond_reads, append-map, size-map, depth-map}
 use Rattle.renumbering_laws.proofs.MovedPatterns.{is_dots-map, leading-map, escape_of-map}
 use Rattle.renumbering_laws.proofs.MovedRules.{dots_of-map}
 use Rattle.renumbering_laws.proofs.MovedMatches.{chosen_finds}
-use Rattle.renumbering_laws.specs.Moving.{KeepsNone, Change, Moves, move_binding, move_rules, move_tail, move_tree, move_trees, move_value, move_values}
+use Rattle.renumbering_laws.proofs.MovedParts.{KeepsNone, Moves, move_binding, move_value, move_values}
 
 abbrev itself : {X : Type 0} → X → X
 itself x = x

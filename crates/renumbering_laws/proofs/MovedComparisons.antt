@@ -7,9 +7,10 @@ use Rattle.scheme_model.specs.RulesShape.{Rule, option_map, Role, IsLiteral, IsE
 use Rattle.scheme_model.specs.Matching.{rest_of, front, behind, chosen, list_parts, vector_parts, least, tail_fits, can_take, pair_of, pairs_each, of_list, of_vector, of_first, no_pairs, pairs_in, pairs_among, pairs_behind, compared}
 use Rattle.scheme_model.specs.Renaming.{pair_map}
 use Rattle.scheme_model.proofs.RenamingLaws.{append_map}
+use Rattle.renumbering_laws.specs.Moving.{Change, move_rule, move_tail, move_tree, move_trees}
 use Rattle.renumbering_laws.proofs.MovingSteps.{count-map}
 use Rattle.renumbering_laws.proofs.MovedPatterns.{is_dots-map, dots_count-map}
-use Rattle.renumbering_laws.specs.Moving.{KeepsNone, Change, move_rule, move_tail, move_tree, move_trees}
+use Rattle.renumbering_laws.proofs.MovedParts.{KeepsNone}
 
 -- ---- parts of a form
 

@@ -8,11 +8,12 @@ use Rattle.scheme_model.specs.RulesShape.{Rule, Rules, Names, Role, IsLiteral, I
 use Rattle.scheme_model.specs.Building.{is_escape}
 use Rattle.scheme_model.specs.Leaves.{Leaf, literal_at, pattern_leaves, leaves_among, leaves_behind, unless, if_escape, template_leaves, template_among, template_behind, behind_dots, rule_leaves, all_rule_leaves, leaves_of}
 use Rattle.scheme_model.proofs.RenamingLaws.{append_map, map_turned}
+use Rattle.renumbering_laws.specs.Moving.{Change, move_named, move_rule, move_rules, move_tail, move_tree, move_trees}
 use Rattle.renumbering_laws.proofs.MovedShapes.{is_among-map}
 use Rattle.renumbering_laws.proofs.MovedPatterns.{variable_map}
 use Rattle.renumbering_laws.proofs.MovedRules.{role_of-map, dots_of-map, pattern_variables-map}
 use Rattle.renumbering_laws.proofs.MovedBuilds.{is_escape-map}
-use Rattle.renumbering_laws.specs.Moving.{Change, Moves, move_leaf, move_named, move_rule, move_rules, move_tail, move_tree, move_trees}
+use Rattle.renumbering_laws.proofs.MovedParts.{Moves, move_leaf}
 
 if_escape_map : {X Y : Type 0} (h : X → Y) (b : Bool) (xs ys : List X) {b' : Bool} {xs' ys' : List Y} → b' ≡ b → xs' ≡ map h xs → ys' ≡ map h ys → if_escape b' xs' ys' ≡ map h (if_escape b xs ys)
 if_escape_map {X} {Y} h b xs ys {b'} {xs'} {ys'} e ex ey = (λ j. if_escape (e j) (ex j) (ey j)) ∙ go b

@@ -8,10 +8,11 @@ use Rattle.scheme_model.specs.ExpansionFaults.{named}
 use Rattle.scheme_model.specs.RulesShape.{Rule, option_map, Role, IsLiteral, IsEllipsis, IsAny, IsVariable}
 use Rattle.scheme_model.specs.Matching.{Value, One, Many, no_values, Binding, Match, match_of, both, Matcher, rest_of, front, behind, variable_name, names_in, names_among, names_behind, empty, place_before, spread, match_each, when, match_literal, match_name, match_atom, chosen, list_parts, vector_parts, first_part, at_end, taken, match_tree, match_parts, match_rest, Chosen, or_later, first_match}
 use Rattle.scheme_model.proofs.RenamingLaws.{Finds, finds, some_map, map-append, append_map}
+use Rattle.renumbering_laws.specs.Moving.{Change, move_named, move_rule, move_tail, move_tree, move_trees}
 use Rattle.renumbering_laws.proofs.MovingSteps.{count-map}
 use Rattle.renumbering_laws.proofs.MovedPatterns.{is_dots-map}
 use Rattle.renumbering_laws.proofs.MovedComparisons.{with_end, rest_of-map, front-map, behind-map, list_parts-map, vector_parts-map}
-use Rattle.renumbering_laws.specs.Moving.{KeepsNone, Change, move_binding, move_chosen, move_match, move_named, move_rule, move_tail, move_tree, move_trees, move_value}
+use Rattle.renumbering_laws.proofs.MovedParts.{KeepsNone, move_binding, move_chosen, move_match, move_value}
 
 pub chosen_finds : {X Y : Type 0} (h : X → Y) {t t' : Bool} (x y : Unit {0} → Option X) (x' y' : Unit {0} → Option Y) → t' ≡ t → Finds h (x tt) (x' tt) → Finds h (y tt) (y' tt) → Finds h (chosen t x y) (chosen t' x' y')
 chosen_finds h {t} {t'} x y x' y' e hx hy = subst (λ (b : Bool). Finds h (chosen t x y) (chosen b x' y')) (sym e) (go t)

@@ -6,7 +6,8 @@ use Rattle.scheme_model.specs.Shapes.{one_of}
 use Rattle.scheme_model.specs.RulesShape.{option_map}
 use Rattle.scheme_model.specs.Quasiquote.{Mark, Nested, Unquoted, Spliced, Pieces, RowPieces, row_pieces, before, mark_in, level_behind, hole_behind, pair_by, is_splice, element_by, datum_at, pair_at, tail_at, elements_at, quasi_of}
 use Rattle.scheme_model.proofs.RenamingLaws.{map-append}
-use Rattle.renumbering_laws.specs.Moving.{Change, KeepsNone, on_some, move_tree, move_trees, move_tail, move_result, move_pieces}
+use Rattle.renumbering_laws.specs.Moving.{Change, move_tree, move_trees, move_tail}
+use Rattle.renumbering_laws.proofs.MovedParts.{KeepsNone, on_some, move_result, move_pieces}
 use Rattle.renumbering_laws.proofs.MovingSteps.{Reads, reads, then_map, cond_reads}
 use Rattle.renumbering_laws.proofs.MovedShapes.{one_of-map}
 use Rattle.renumbering_laws.proofs.Turned.{tree_turned}

@@ -4,9 +4,9 @@ use Rattle.std.specs.Str.{bytes_eq}
 use Rattle.scheme_model.specs.Trees.{Atom, Numeral, Quoted, Character, Boolean, Bytes, Tree, name, atom, list, vector, Trees, no_trees, tree, Tail, proper, dotted}
 use Rattle.scheme_model.specs.RulesShape.{option_map}
 use Rattle.scheme_model.specs.Requirements.{Symbol, Known, part_in, part_of, parts_of, library_name_of, holds, all_hold, some_holds, none_holds, is_else, clause_holds, or_chosen, choices, chosen_of}
+use Rattle.renumbering_laws.specs.Moving.{Change, move_tail, move_tree, move_trees}
 use Rattle.renumbering_laws.proofs.MovingSteps.{Reads, reads, then_map, cond_reads}
 use Rattle.renumbering_laws.proofs.MovedShapes.{some_of-map, one_of-map, first_of-map, list_of-map}
-use Rattle.renumbering_laws.specs.Moving.{Change, move_tail, move_tree, move_trees}
 
 module _ (A B : Type 0) (f : Change A B) (strip : A → List ℕ) (strip' : B → List ℕ) (kept : (i : A) → strip' (f.on i) ≡ strip i) (known : Known) where
   abbrev is : {X : Type 0} → X → X

@@ -8,10 +8,11 @@ use Rattle.scheme_model.specs.ExpansionFaults.{Named, Fault, BadRules, TwoEllips
 use Rattle.scheme_model.specs.Shapes.{names_of}
 use Rattle.scheme_model.specs.RulesShape.{Rule, Rules, option_map, IsLiteral, IsEllipsis, IsAny, IsVariable, Names, is_ellipsis, role_of, acts_as_ellipsis, dots_of, is_dots, leading, bad_pattern, Variable, variables_among, variables_behind, first_twice, depth_of, escape_of, bad_template, too_shallow, nowhere, deep_in, deep_enough, all_deep, deep_tail, pattern_variables, refuse, check_rule, check_rules, bad, rule_in, rule_of, rules_in, rules_behind, rules_parts, rules_of}
 use Rattle.scheme_model.proofs.RenamingLaws.{append_map}
+use Rattle.renumbering_laws.specs.Moving.{Change, move_named, move_rule, move_rules, move_tail, move_tree, move_trees}
 use Rattle.renumbering_laws.proofs.MovingSteps.{Reads, reads, then_map, cond_reads}
 use Rattle.renumbering_laws.proofs.MovedShapes.{names_of-map, is_among-map}
 use Rattle.renumbering_laws.proofs.MovedPatterns.{variable_map, is_dots-map, leading-map, bad_pattern-map, two_dots-map, escape_of-map, bad_template-map, is_idle-map, variables_among-map, variables_behind-map, depth_of-map}
-use Rattle.renumbering_laws.specs.Moving.{Change, Moves, move_named, move_result, move_rule, move_rules, move_tail, move_tree, move_trees}
+use Rattle.renumbering_laws.proofs.MovedParts.{Moves, move_result}
 
 -- ---- reading
 

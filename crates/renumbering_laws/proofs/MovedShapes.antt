@@ -5,8 +5,9 @@ use Rattle.scheme_model.specs.Trees.{Numeral, Quoted, Character, Boolean, Bytes,
 use Rattle.scheme_model.specs.ExpansionFaults.{Named, Fault, BadForm, ◌>>◌}
 use Rattle.scheme_model.specs.Shapes.{Formals, Clause, name_of, names_of, is_among, distinct_from, distinct, formals_in, formals_of, proper_of, some_of, one_of, first_of, list_of, clause_in, lambda_of, clauses_in, distinct_all, case_lambda_of, if_of, named_tree_of, syntax_of, error_text_of, procedure_of, definition_with, definition_of, values_of, FieldShape, RecordShape, field_with, fields_of, constructor_of, all_among, record_in, or_bad_record, record_of, bindings_of, local_macros_of}
 use Rattle.scheme_model.proofs.RenamingLaws.{map-append, map_turned}
+use Rattle.renumbering_laws.specs.Moving.{Change, move_clause, move_named, move_tail, move_tree, move_trees}
 use Rattle.renumbering_laws.proofs.MovingSteps.{Reads, reads, then_map, cond_reads}
-use Rattle.renumbering_laws.specs.Moving.{Change, move_clause, move_definition, move_field, move_formals, move_local_macros, move_named, move_record, move_result, move_tail, move_tree, move_trees}
+use Rattle.renumbering_laws.proofs.MovedParts.{move_definition, move_field, move_formals, move_local_macros, move_record, move_result}
 
 module _ (A B : Type 0) (f : Change A B) where
   -- a tree with trees, trees with a tail

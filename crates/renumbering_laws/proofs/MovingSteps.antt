@@ -4,7 +4,8 @@ use Rattle.scheme_model.specs.Trees.{Tree, name, atom, list, vector, Trees, no_t
 use Rattle.scheme_model.specs.TreeParts.{append, count}
 use Rattle.scheme_model.specs.Measures.{tree_size, trees_size, tail_size, tree_depth, trees_depth, tail_depth}
 use Rattle.scheme_model.specs.ExpansionFaults.{Fault, ◌>>◌}
-use Rattle.renumbering_laws.specs.Moving.{Change, move_tree, move_trees, move_tail, move_result}
+use Rattle.renumbering_laws.specs.Moving.{Change, move_tree, move_trees, move_tail}
+use Rattle.renumbering_laws.proofs.MovedParts.{move_result}
 
 -- what is read of changed trees is what is read, changed
 pub data Reads {A B X Y : Type 0} (f : Change A B) (g : X → Y) (r : Result X (Fault A)) (r' : Result Y (Fault B)) : Type 0 where

@@ -12,7 +12,7 @@ use Rattle.scheme_model.specs.Substitution.{Defined, Table, Entries, defined_in,
 use Rattle.scheme_model.proofs.RenamingLaws.{cond_map, map_turned}
 use Rattle.renumbering_laws.specs.Moving.{move_named, move_clause}
 use Rattle.renumbering_laws.specs.Renumbering.{Renumbering, IsOneToOne, number, place, ident, named_as, meaning, with_places, target, binder, binders, form_as, item_as, use_as, pending_as}
-use Rattle.renumbering_laws.specs.Related.{defined_as, AtForms, TablesMove, EntriesMove}
+use Rattle.renumbering_laws.specs.States.{defined_as, AtForms, TablesMove, EntriesMove}
 use Rattle.renumbering_laws.proofs.OneToOne.{number_moved, ident_moved, name_moved}
 use Rattle.renumbering_laws.proofs.Turned.{tree_turned, trees_turned, named_turned}
 

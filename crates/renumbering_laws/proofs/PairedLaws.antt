@@ -2,9 +2,8 @@
 -- where this stands in no pair.
 use Rattle.std.proofs.Common.{◌≡◌, ℕ, List, refl}
 use Rattle.scheme_model.specs.Program.{prelude_unit}
-use Rattle.renumbering_laws.specs.Pairings.{back, IsAside}
-use Rattle.renumbering_laws.specs.PairedNumbers.{paired}
-use Rattle.renumbering_laws.specs.Renumbered.{HasInverse}
+use Rattle.renumbering_laws.specs.Pairings.{back, IsAside, paired}
+use Rattle.renumbering_laws.specs.NewStates.{HasInverse}
 use Rattle.renumbering_laws.proofs.PairingLaws.{back_forth, forth_back, keeps}
 
 module _ (units : List (ℕ × ℕ)) (forms : ℕ → List (ℕ × ℕ)) where

@@ -14,7 +14,7 @@ use Rattle.scheme_model.specs.Program.{prelude_unit, is_standard, prelude_entry,
 use Rattle.scheme_model.proofs.RenamingLaws.{cond_map}
 use Rattle.renumbering_laws.specs.Moving.{Change, move_tree, move_trees, move_tail, move_named, move_rule, move_rules}
 use Rattle.renumbering_laws.specs.Renumbering.{Renumbering, IsOneToOne, place, named_as, meaning}
-use Rattle.renumbering_laws.specs.Related.{defined_as, names_change, TablesMove, EntriesMove}
+use Rattle.renumbering_laws.specs.States.{defined_as, names_change, TablesMove, EntriesMove}
 use Rattle.renumbering_laws.proofs.OneToOne.{same_moved}
 use Rattle.renumbering_laws.proofs.NameLaws.{table_step}
 

@@ -11,10 +11,9 @@ use Rattle.scheme_model.specs.ScopedExpansion.{BodyDefinitions, UsePlace, Scoped
 use Rattle.scheme_model.proofs.RenamingLaws.{cond_map}
 use Rattle.renumbering_laws.specs.Moving.{move_rules}
 use Rattle.renumbering_laws.specs.Renumbering.{Renumbering, IsOneToOne, number, ident, meaning, change, target, macro_use_as}
-use Rattle.renumbering_laws.specs.Related.{defined_as, names_change, AtForms, TablesMove, EntriesMove, CountsOn, StatesMove}
-use Rattle.renumbering_laws.specs.ScopedRelated.{frames_as, found_number, FramesMove, ScopedMove}
-use Rattle.renumbering_laws.specs.Sides.{Macros, no_macro, a_macro}
-use Rattle.renumbering_laws.specs.Renumbered.{HasInverse, at_new, entries_new, kept_new, state_new, scoped_new, use_new, body_definition_new, scoped_state_new}
+use Rattle.renumbering_laws.specs.States.{defined_as, names_change, AtForms, TablesMove, EntriesMove, CountsOn, StatesMove}
+use Rattle.renumbering_laws.specs.ScopedStates.{frames_as, transformer_as, ScopedMacrosMove, found_number, ScopedMove}
+use Rattle.renumbering_laws.specs.NewStates.{HasInverse, at_new, entries_new, kept_new, state_new, scoped_new, use_new, body_definition_new, scoped_state_new}
 use Rattle.renumbering_laws.proofs.OneToOne.{number_moved, ident_moved, same_moved}
 use Rattle.renumbering_laws.proofs.NameLaws.{table_step}
 
@@ -75,16 +74,9 @@ module _ (r : Renumbering) (w : HasInverse r) where
 
   -- ---- scopes
 
-  macros_new : (ks : List ScopedMacro) (m : Meaning) → Macros (FramesMove r w.forms) (change r) (macro_at ks m) (macro_at (map (scoped_new r w) ks) (meaning r m))
-  macros_new [] m = no_macro
-  macros_new (k ∷ ks) m =
-      subst (λ b. Macros (FramesMove r w.forms) (change r) (macro_at (k ∷ ks) m) (cond b (Some (record { env = frames_as r w.forms k.frames; rules = move_rules (change r) k.rules })) (macro_at (map (scoped_new r w) ks) (meaning r m))))
-      (sym (same_moved r one_to_one k.meaning m)) (go (macros_new ks m) (same_meaning k.meaning m))
-    where
-      go : Macros (FramesMove r w.forms) (change r) (macro_at ks m) (macro_at (map (scoped_new r w) ks) (meaning r m)) → (t : Bool)
-          → Macros (FramesMove r w.forms) (change r) (cond t (Some (record { env = k.frames; rules = k.rules })) (macro_at ks m)) (cond t (Some (record { env = frames_as r w.forms k.frames; rules = move_rules (change r) k.rules })) (macro_at (map (scoped_new r w) ks) (meaning r m)))
-      go ih true = a_macro (record { env = k.frames; rules = k.rules }) (frames_as r w.forms k.frames) refl
-      go ih false = ih
+  macros_new : (ks : List ScopedMacro) → ScopedMacrosMove r w.forms ks (map (scoped_new r w) ks)
+  macros_new [] m = refl
+  macros_new (k ∷ ks) m = cond_map (option_map (transformer_as r w.forms)) (Some (record { env = k.frames; rules = k.rules })) (macro_at ks m) (same_moved r one_to_one k.meaning m) refl (macros_new ks m)
 
   places_new : (ps : List UsePlace) (k : Number) → around (map (use_new r w) ps) (number r k) ≡ frames_as r w.forms (around ps k)
   places_new [] k = refl

@@ -8,7 +8,7 @@ use Rattle.scheme_model.specs.Meaning.{Meaning, Local, Global, Standard, Free, s
 use Rattle.scheme_model.specs.Requirements.{Known}
 use Rattle.scheme_model.specs.RulesShape.{Rules, option_map}
 use Rattle.scheme_model.specs.Cores.{LocalNumber, Definition}
-use Rattle.scheme_model.specs.Order.{Pending, Renamed, is_some}
+use Rattle.scheme_model.specs.Order.{Pending, Renamed, Transformer, is_some}
 use Rattle.scheme_model.specs.Substitution.{Defined, Table, Entries, Clock, at_form, defined_in, definition_count, is_variable, any, unchanged}
 use Rattle.scheme_model.specs.Scopes.{own_of, given_or, imported_as, defined_or}
 use Rattle.scheme_model.specs.ScopedExpansion.{Bind, Enter, Frames, FramedIdent, BodyDefinition, BodyDefinitions, UsePlace, ScopedMacro, ScopedState, next_number, around, find, defined_as as local_defined, means_inside, means_outside, means_at, macro_at, macro_added, body_around, bound_next, assigned, definition_added, meaning_next, is_defined}
@@ -16,9 +16,9 @@ use Rattle.scheme_model.specs.CountedExpansion.{means_here, refused_here, define
 use Rattle.scheme_model.proofs.RenamingLaws.{cond_map}
 use Rattle.renumbering_laws.specs.Moving.{Change, move_named, move_rules}
 use Rattle.renumbering_laws.specs.Renumbering.{Renumbering, IsOneToOne, number, place, ident, meaning, change, target, bound, macro_use_as, counted_as, pending_as}
-use Rattle.renumbering_laws.specs.Related.{defined_as, AtForms, ClocksMove, TablesMove, EntriesMove, CountsOn}
-use Rattle.renumbering_laws.specs.ScopedRelated.{IsOnto, frames_as, framed_as, found_number, FramesMove, ScopedMove}
-use Rattle.renumbering_laws.specs.Sides.{DefinedMoves, Sides, Macros, a_macro, regions}
+use Rattle.renumbering_laws.specs.States.{defined_as, AtForms, ClocksMove, TablesMove, EntriesMove, CountsOn}
+use Rattle.renumbering_laws.specs.ScopedStates.{IsOnto, frames_as, framed_as, transformer_as, PlacesMove, ScopedMacrosMove, found_number, FindsMove, ScopedMove}
+use Rattle.renumbering_laws.proofs.Sides.{no_macro, a_macro, regions, DefinedMoves, Sides, Macros}
 use Rattle.renumbering_laws.proofs.OneToOne.{number_moved, ident_moved, same_moved}
 use Rattle.renumbering_laws.proofs.NameLaws.{some_kept, at_forms_step, any_moved, variable_moved, table_step}
 
@@ -37,11 +37,8 @@ by_found None other = other
 by_found (Some v) other = Local v
 
 module _ (r : Renumbering) (o : IsOneToOne r) (w : IsOnto r) where
-  abbrev FindsMove : BodyDefinitions → BodyDefinitions → Type 0
-  FindsMove ds ds' = (b : Number) (i : Ident) → found_number r w (find ds' (number r b) (ident r i)) ≡ option_map (number r) (found_number r w (find ds b i))
-
-  abbrev PlacesMove : List UsePlace → List UsePlace → Type 0
-  PlacesMove ps ps' = (k : Number) → around ps' (number r k) ≡ frames_as r w (around ps k)
+  abbrev FramesMove : Frames → Frames → Type 0
+  FramesMove e e' = e' ≡ frames_as r w e
 
   own_moved : (t t' : Table) (e e' : Entries) → TablesMove r t t' → EntriesMove r e e' → (u : ℕ) (i : Ident) → own_of t' e' (r.unit u) (ident r i) ≡ option_map (meaning r) (own_of t e u i)
   own_moved t t' e e' l m u i = (let a = l u i in let b = imported i in λ j. defined_or (a j) (r.unit u) (ident r i) (b j)) ∙ go (defined_in t u i)
@@ -65,12 +62,12 @@ module _ (r : Renumbering) (o : IsOneToOne r) (w : IsOnto r) where
       go None = refl
       go (Some v) = refl
 
-  inside_moved : (ds ds' : BodyDefinitions) → FindsMove ds ds' → (fs : Frames) (i : Ident) (m m' : Meaning) → m' ≡ meaning r m → means_inside ds' (frames_as r w fs) (ident r i) m' ≡ meaning r (means_inside ds fs i m)
+  inside_moved : (ds ds' : BodyDefinitions) → FindsMove r w ds ds' → (fs : Frames) (i : Ident) (m m' : Meaning) → m' ≡ meaning r m → means_inside ds' (frames_as r w fs) (ident r i) m' ≡ meaning r (means_inside ds fs i m)
   inside_moved ds ds' l [] i m m' e = e
   inside_moved ds ds' l (Bind x v ∷ fs) i m m' e = cond_map (meaning r) (Local v) (means_inside ds fs i m) (ident_moved r o x i) refl (inside_moved ds ds' l fs i m m' e)
   inside_moved ds ds' l (Enter b c ∷ fs) i m m' e = found_moved (find ds b i) (find ds' (number r b) (ident r i)) (l b i) (means_inside ds fs i m) (means_inside ds' (frames_as r w fs) (ident r i) m') (inside_moved ds ds' l fs i m m' e)
 
-  outside_moved : (t t' : Table) (e e' : Entries) → TablesMove r t t' → EntriesMove r e e' → (ps ps' : List UsePlace) → PlacesMove ps ps' → (ds ds' : BodyDefinitions) → FindsMove ds ds' → (i : Ident) → means_outside t' e' ps' ds' (ident r i) ≡ meaning r (means_outside t e ps ds i)
+  outside_moved : (t t' : Table) (e e' : Entries) → TablesMove r t t' → EntriesMove r e e' → (ps ps' : List UsePlace) → PlacesMove r w ps ps' → (ds ds' : BodyDefinitions) → FindsMove r w ds ds' → (i : Ident) → means_outside t' e' ps' ds' (ident r i) ≡ meaning r (means_outside t e ps ds i)
   outside_moved t t' e e' lt le ps ps' lp ds ds' ld (Written u s) = ap (λ q. given_or q (Free s)) (own_moved t t' e e' lt le u (Written u s)) ∙ given_moved r (own_of t e u (Written u s)) (Free s) (Free s) refl
   outside_moved t t' e e' lt le ps ps' lp ds ds' ld (Inserted i k) =
       let m = means_inside ds (around ps k) i (means_outside t e ps ds i) in
@@ -93,7 +90,7 @@ module _ (r : Renumbering) (o : IsOneToOne r) (w : IsOnto r) where
     abbrev pending_two : Pending Ident FramedIdent → Pending Ident FramedIdent
     pending_two p = pending_as r (ident r) (framed_as r w) p
 
-    pub means_now : (s s' : ScopedState) → Moved s s' → (fs fs' : Frames) → FramesMove r w fs fs' → (i : Ident) → means_here s' fs' (ident r i) ≡ meaning r (means_here s fs i)
+    pub means_now : (s s' : ScopedState) → Moved s s' → (fs fs' : Frames) → FramesMove fs fs' → (i : Ident) → means_here s' fs' (ident r i) ≡ meaning r (means_here s fs i)
     means_now s s' l fs fs' k i =
         (let a = l.unit in let b = l.form in
         let c = ap (λ gs. means_at s' gs (ident r i)) k ∙ inside_moved s.definitions s'.definitions l.definitions fs i (means_outside s.table s.entry s.places s.definitions i) (means_outside s'.table s'.entry s'.places s'.definitions (ident r i))
@@ -136,22 +133,22 @@ module _ (r : Renumbering) (o : IsOneToOne r) (w : IsOnto r) where
 
     -- ---- lists
 
-    abbrev MacrosMove : List ScopedMacro → List ScopedMacro → Type 0
-    MacrosMove ks ks' = (m : Meaning) → Macros (FramesMove r w) mv (macro_at ks m) (macro_at ks' (meaning r m))
-
-    pub added : (ks ks' : List ScopedMacro) → MacrosMove ks ks' → (n n' : Meaning) → n' ≡ meaning r n → (fs fs' : Frames) → FramesMove r w fs fs' → (x : Option (Rules Ident)) → MacrosMove (macro_added n fs x ks) (macro_added n' fs' (option_map (move_rules mv) x) ks')
+    pub added : (ks ks' : List ScopedMacro) → ScopedMacrosMove r w ks ks' → (n n' : Meaning) → n' ≡ meaning r n → (fs fs' : Frames) → FramesMove fs fs' → (x : Option (Rules Ident)) → ScopedMacrosMove r w (macro_added n fs x ks) (macro_added n' fs' (option_map (move_rules mv) x) ks')
     added ks ks' l n n' e fs fs' k None m = l m
     added ks ks' l n n' e fs fs' k (Some x) m =
-        subst (λ b. Macros (FramesMove r w) mv (macro_at (record { meaning = n; frames = fs; rules = x } ∷ ks) m) (cond b (Some (record { env = fs'; rules = move_rules mv x })) (macro_at ks' (meaning r m)))) (sym (ap (λ y. same_meaning y (meaning r m)) e ∙ same_moved r o n m)) (go (same_meaning n m))
-      where
-        go : (t : Bool) → Macros (FramesMove r w) mv (cond t (Some (record { env = fs; rules = x })) (macro_at ks m)) (cond t (Some (record { env = fs'; rules = move_rules mv x })) (macro_at ks' (meaning r m)))
-        go true = a_macro (record { env = fs; rules = x }) fs' k
-        go false = l m
+        cond_map (option_map (transformer_as r w)) (Some (record { env = fs; rules = x })) (macro_at ks m) (ap (λ y. same_meaning y (meaning r m)) e ∙ same_moved r o n m) (ap (λ gs. Some (record { env = gs; rules = move_rules mv x })) k) (l m)
 
-    pub placed : (ps ps' : List UsePlace) → PlacesMove ps ps' → (n n' : Number) → n' ≡ number r n → (fs fs' : Frames) → FramesMove r w fs fs' → PlacesMove (record { use_number = n; frames = fs } ∷ ps) (record { use_number = n'; frames = fs' } ∷ ps')
+    pub to_transformer : (x y : Option (Transformer Frames Ident)) → y ≡ option_map (transformer_as r w) x → Macros FramesMove mv x y
+    to_transformer x y e = subst (λ z. Macros FramesMove mv x z) (sym e) (go x)
+      where
+        go : (z : Option (Transformer Frames Ident)) → Macros FramesMove mv z (option_map (transformer_as r w) z)
+        go None = no_macro
+        go (Some m) = a_macro m (frames_as r w m.env) refl
+
+    pub placed : (ps ps' : List UsePlace) → PlacesMove r w ps ps' → (n n' : Number) → n' ≡ number r n → (fs fs' : Frames) → FramesMove fs fs' → PlacesMove r w (record { use_number = n; frames = fs } ∷ ps) (record { use_number = n'; frames = fs' } ∷ ps')
     placed ps ps' l n n' e fs fs' k m = cond_map (frames_as r w) fs (around ps m) (ap (λ y. same_number y (number r m)) e ∙ number_moved r o n m) k (l m)
 
-    found_step : (ds ds' : BodyDefinitions) → FindsMove ds ds' → (d d' : BodyDefinition) → d'.body ≡ number r d.body → d'.ident ≡ ident r d.ident → d'.binder ≡ number r d.binder → FindsMove (d ∷ ds) (d' ∷ ds')
+    found_step : (ds ds' : BodyDefinitions) → FindsMove r w ds ds' → (d d' : BodyDefinition) → d'.body ≡ number r d.body → d'.ident ≡ ident r d.ident → d'.binder ≡ number r d.binder → FindsMove r w (d ∷ ds) (d' ∷ ds')
     found_step ds ds' l d d' eb ei ev b i =
         (let x = ap (λ y. same_number y (number r b)) eb ∙ number_moved r o d.body b in let y = ap (λ z. same_ident z (ident r i)) ei ∙ ident_moved r o d.ident i in
         λ j. found_number r w (cond (x j && y j) (Some (ev j, ds')) (find ds' (number r b) (ident r i)))) ∙ go (same_number d.body b && same_ident d.ident i)
@@ -162,7 +159,7 @@ module _ (r : Renumbering) (o : IsOneToOne r) (w : IsOnto r) where
 
     -- ---- the body around
 
-    pub body_moved : (fs fs' : Frames) → FramesMove r w fs fs' → body_around fs' ≡ option_map (number r) (body_around fs)
+    pub body_moved : (fs fs' : Frames) → FramesMove fs fs' → body_around fs' ≡ option_map (number r) (body_around fs)
     body_moved fs fs' k = ap body_around k ∙ go fs
       where
         go : (gs : Frames) → body_around (frames_as r w gs) ≡ option_map (number r) (body_around gs)
@@ -172,7 +169,7 @@ module _ (r : Renumbering) (o : IsOneToOne r) (w : IsOnto r) where
 
     -- ---- definitions
 
-    module _ (n : Named Ident) (x : Option (Rules Ident)) (fs fs' : Frames) (k : FramesMove r w fs fs') (s s' : ScopedState) (l : Moved s s') where
+    module _ (n : Named Ident) (x : Option (Rules Ident)) (fs fs' : Frames) (k : FramesMove fs fs') (s s' : ScopedState) (l : Moved s s') where
       abbrev n' : Named Ident
       n' = move_named mv n
 
@@ -297,8 +294,8 @@ module _ (r : Renumbering) (o : IsOneToOne r) (w : IsOnto r) where
       r = r; one_to_one = o;
       E = Frames; A = Ident; L = FramedIdent; S = ScopedState; E' = Frames; A' = Ident; L' = FramedIdent; S' = ScopedState;
       one = counted known; two = counted known;
-      on = ident r; look = framed_as r w; form = r.form u;
-      around = FramesMove r w;
+      on = ident r; look = framed_as r w; unit = u;
+      around = FramesMove;
       state = Moved;
       same = ident_moved r o;
       strip = symbol_moved r;
@@ -306,7 +303,7 @@ module _ (r : Renumbering) (o : IsOneToOne r) (w : IsOnto r) where
       insert = λ i k. refl;
       place = λ e e' a i. ap (λ fs. record { frames = fs; ident = ident r i }) a;
       means = λ e e' a s s' l i. means_now s s' l e e' a i;
-      transformer = λ s s' l m. l.macros m;
+      transformer = λ s s' l m. to_transformer (macro_at s.macros m) (macro_at s'.macros (meaning r m)) (l.macros m);
       known = refl;
       ask = λ qs qs' s s' l. l;
       is_assigned = λ e e' a s s' l i. ap (λ b. assigned s' b (ident r i)) (body_moved e e' a) ∙ assigned_now s s' l (body_around e) i;

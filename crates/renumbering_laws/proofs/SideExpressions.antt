@@ -17,9 +17,10 @@ use Rattle.scheme_model.specs.Steps.{Step, ◌>>=◌, done}
 use Rattle.scheme_model.specs.Order.{Here, Item, Expression, Value, Function, Assigned, AssignedFunction, ValuesOf, Record, Macro, Pass, Region, Transformer, Asked, Meant, Headed, RulesOf, Library, target_of, head_of, here_at, forms_at, given, RulesParts, run}
 use Rattle.scheme_model.specs.Expression.{whole, body, Expander, node, each, each_of, bound, procedure, lambda, clauses, meaning_of, macro_with, macro_def, macro_asked, assignment, item_part, parts, left_of, body_in, body_core, expressions, sequence, heads, keep_all, numbers, local_defs, locals_asked, local_macros, recursive, let_syntax, letrec_syntax, mark_of, symbol_or_hole, quasi, quote, unless_keyword, set, reference, call, chosen_sequence, core_form, macro_use, by_head, expression, expand}
 use Rattle.scheme_model.proofs.RenamingLaws.{map_turned}
-use Rattle.renumbering_laws.specs.Moving.{Change, on_some, move_tree, move_trees, move_tail, move_named, move_rules, move_clause, move_local_macros, move_pieces, move_leaf}
+use Rattle.renumbering_laws.specs.Moving.{Change, move_tree, move_trees, move_tail, move_named, move_rules, move_clause}
 use Rattle.renumbering_laws.specs.Renumbering.{Renumbering, number, place, ident, meaning, places_of, target, bound as bound_as, binder, binders, rule_leaf, macro_of, core_as, cores_as, clauses_as, parts_as, part_as, item_as, left_as}
-use Rattle.renumbering_laws.specs.Sides.{Sides, Macros, no_macro, a_macro, Regions, regions}
+use Rattle.renumbering_laws.proofs.Sides.{no_macro, a_macro, regions, Sides, Macros, Regions}
+use Rattle.renumbering_laws.proofs.MovedParts.{on_some, move_local_macros, move_pieces, move_leaf}
 use Rattle.renumbering_laws.proofs.MovingSteps.{Reads, size-map, then_map}
 use Rattle.renumbering_laws.proofs.Turned.{tree_turned, rules_turned}
 use Rattle.renumbering_laws.proofs.MovedShapes.{some_of-map, one_of-map, if_of-map, named_tree_of-map, syntax_of-map, error_text_of-map, lambda_of-map, case_lambda_of-map, definition_of-map, values_of-map, local_macros_of-map}

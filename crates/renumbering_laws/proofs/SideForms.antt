@@ -13,9 +13,10 @@ use Rattle.scheme_model.specs.Steps.{Broken, ◌>>=◌, done, fails}
 use Rattle.scheme_model.specs.Order.{Here, Form, Item, Value, Function, Assigned, AssignedFunction, ValuesOf, Record, Note, LookedUp, WaitingUse, Pending, Renamed, Pass, Assigns, Headed, Going, is_some, head_of, forms_at, counting, given, told, binder_at, put, waiting, noted, first, define_all, define_names, fields_bound, position, modifiers, modified, record_names, record_part, caught, run_variable, run_function, run_define, run_values, run_record, is_rules, RulesParts, rules_parts_of, rules_parts, rules_note, rules_at, or_none}
 use Rattle.scheme_model.specs.Substitution.{note_map}
 use Rattle.scheme_model.proofs.RenamingLaws.{append_map, map-append, map_turned}
-use Rattle.renumbering_laws.specs.Moving.{Change, move_tree, move_trees, move_tail, move_named, move_rules, move_clause, move_formals, move_definition, move_field, move_record}
+use Rattle.renumbering_laws.specs.Moving.{Change, move_tree, move_trees, move_tail, move_named, move_rules, move_clause}
 use Rattle.renumbering_laws.specs.Renumbering.{Renumbering, place, with_places, binder, field_use, record_type, result_as, form_as, item_as, use_as, pending_as, pass_as}
-use Rattle.renumbering_laws.specs.Sides.{RenamedMoves, DefinedMoves, Sides}
+use Rattle.renumbering_laws.proofs.MovedParts.{move_formals, move_definition, move_field, move_record}
+use Rattle.renumbering_laws.proofs.Sides.{RenamedMoves, DefinedMoves, Sides}
 use Rattle.renumbering_laws.proofs.MovingSteps.{size-map}
 use Rattle.renumbering_laws.proofs.Turned.{tree_turned}
 use Rattle.renumbering_laws.proofs.MovedRules.{rules_of-map}

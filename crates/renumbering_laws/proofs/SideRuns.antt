@@ -11,7 +11,7 @@ use Rattle.scheme_model.specs.Steps.{◌>>=◌, done}
 use Rattle.scheme_model.specs.Order.{Here, Form, Expression, Macro, Note, LookedUp, Pending, Pass, Transformer, Asked, Headed, RulesOf, Library, target_of, head_of, forms_at, told, comparisons, use_of, binder_at, put, waiting, noted, first, caught, rules_parts_of, rules_parts, rules_note, rules_at, run_syntax, splice, or_none, read_then, run_core, run_use, run_head, run_form, run_next, run}
 use Rattle.renumbering_laws.specs.Moving.{Change, move_tree, move_trees, move_tail, move_named, move_rules}
 use Rattle.renumbering_laws.specs.Renumbering.{Renumbering, place, meaning, target, binder, form_as}
-use Rattle.renumbering_laws.specs.Sides.{Sides, Macros, no_macro, a_macro}
+use Rattle.renumbering_laws.proofs.Sides.{no_macro, a_macro, Sides, Macros}
 use Rattle.renumbering_laws.proofs.MovingSteps.{Reads}
 use Rattle.renumbering_laws.proofs.MovedShapes.{proper_of-map, definition_of-map, values_of-map, record_of-map, syntax_of-map}
 use Rattle.renumbering_laws.proofs.MovedRequirements.{chosen_of-map}

@@ -10,9 +10,10 @@ use Rattle.scheme_model.specs.Steps.{Broken, Step, ◌>>=◌, done, fails}
 use Rattle.scheme_model.specs.Order.{Here, given, counting, max_nodes, read_name, or_here, here_at}
 use Rattle.scheme_model.specs.Expression.{node}
 use Rattle.scheme_model.proofs.RenamingLaws.{map_turned}
-use Rattle.renumbering_laws.specs.Moving.{Change, move_tree, move_trees, move_tail, move_named, move_fault, move_result, move_rule, move_rules, Moves}
+use Rattle.renumbering_laws.specs.Moving.{Change, move_tree, move_trees, move_tail, move_named, move_fault, move_rule, move_rules}
 use Rattle.renumbering_laws.specs.Renumbering.{place, ident, with_places, broken_as, result_as}
-use Rattle.renumbering_laws.specs.Sides.{Sides}
+use Rattle.renumbering_laws.proofs.MovedParts.{move_result, Moves}
+use Rattle.renumbering_laws.proofs.Sides.{Sides}
 use Rattle.renumbering_laws.proofs.MovingSteps.{Reads, reads}
 use Rattle.renumbering_laws.proofs.Turned.{fault_turned}
 

@@ -11,7 +11,7 @@ use Rattle.scheme_model.specs.Substitution.{note_map}
 use Rattle.scheme_model.specs.UnitExpansion.{Formed, max_depth, Work, ◌then◌, going, max_total, nodes_in, unless_over, LeftOf, one_form, passes, with_part, before_parts, items_parts, form_parts, finished, unit}
 use Rattle.scheme_model.proofs.RenamingLaws.{map_turned}
 use Rattle.renumbering_laws.specs.Renumbering.{Renumbering, result_as, part_as, parts_as, left_as, item_as, formed_as, numbered_as, left_of_as, pass_as}
-use Rattle.renumbering_laws.specs.Sides.{Sides}
+use Rattle.renumbering_laws.proofs.Sides.{Sides}
 use Rattle.renumbering_laws.proofs.SideSteps.{Goes, goes}
 use Rattle.renumbering_laws.proofs.SideUses.{all_met}
 use Rattle.renumbering_laws.proofs.SideForms.{Ran, ran}
@@ -22,18 +22,22 @@ module _ (h : Sides) where
   abbrev r : Renumbering
   r = h.r
 
+  -- a form's number in the unit at work
+  abbrev pub form_two : ℕ → ℕ
+  form_two f = h.r.form h.unit f
+
   abbrev pub forms_two : List (ℕ × Tree h.A) → List (ℕ × Tree h.A')
-  forms_two ts = map (numbered_as r h.form h.on) ts
+  forms_two ts = map (numbered_as r h.unit h.on) ts
 
   abbrev left_two : LeftOf h.A → LeftOf h.A'
-  left_two x = left_of_as r h.form h.on x
+  left_two x = left_of_as r h.unit h.on x
 
   abbrev pub formed_two : Formed → Formed
-  formed_two x = formed_as r h.form x
+  formed_two x = formed_as r h.unit x
 
   -- states between forms: whichever form work turns to, they correspond
   abbrev pub Idle : h.S → h.S' → Type 0
-  Idle s s' = (f : ℕ) → h.state (h.one.turn f s) (h.two.turn (h.form f) s')
+  Idle s s' = (f : ℕ) → h.state (h.one.turn f s) (h.two.turn (form_two f) s')
 
   pub rests : (s : h.S) (s' : h.S') → h.state s s' → Idle s s'
   rests s s' l f = h.turn f s s' l
@@ -64,11 +68,11 @@ module _ (h : Sides) where
 
   -- ---- where work ends
 
-  nodes_same : (fs : List ℕ) (s : h.S) (s' : h.S') → Idle s s' → nodes_in h.two (map h.form fs) s' ≡ nodes_in h.one fs s
+  nodes_same : (fs : List ℕ) (s : h.S) (s' : h.S') → Idle s s' → nodes_in h.two (map form_two fs) s' ≡ nodes_in h.one fs s
   nodes_same [] s s' l = refl
   nodes_same (f ∷ fs) s s' l = let a = h.counted _ _ (l f) in let b = nodes_same fs s s' l in λ j. (a j).nodes + b j
 
-  unless_goes : {V W : Type 0} (g : V → W) (fs : List ℕ) (q : V × h.S) (q' : W × h.S') → q'.0 ≡ g q.0 → h.state q.1 q'.1 → Works h.state g (unless_over h.one fs q) (unless_over h.two (map h.form fs) q')
+  unless_goes : {V W : Type 0} (g : V → W) (fs : List ℕ) (q : V × h.S) (q' : W × h.S') → q'.0 ≡ g q.0 → h.state q.1 q'.1 → Works h.state g (unless_over h.one fs q) (unless_over h.two (map form_two fs) q')
   unless_goes g fs q q' e l =
       works_at (let n = nodes_same fs q.1 q'.1 (rests q.1 q'.1 l) in λ j. cond (nat_lt max_total (n j)) (None, q'.1) (Some (e j), q'.1)) (go (nat_lt max_total (nodes_in h.one fs q.1)))
     where
@@ -78,7 +82,7 @@ module _ (h : Sides) where
 
   module _ (e : h.E) (e' : h.E') (k : h.around e e') (turns : ℕ) (fs : List ℕ) where
     abbrev fs' : List ℕ
-    fs' = map h.form fs
+    fs' = map form_two fs
 
     -- ---- gone through
 
@@ -88,7 +92,7 @@ module _ (h : Sides) where
     passes_goes : (ts : List (ℕ × Tree h.A)) (ns : List (Note h.L)) (s : h.S) (s' : h.S') → Idle s s' → Works Idle (map left_two) (passes h.one turns e fs ts ns s) (passes h.two turns e' fs' (forms_two ts) (map (note_map h.look) ns) s')
     passes_goes [] ns s s' l = works refl l
     passes_goes (t ∷ ts) ns s s' l =
-        works_then h.state Idle rests {g = pass_as r h.on h.look} _ _ (run_over (run_goes h turns e e' k (one_form t.1 ns) (h.one.turn t.0 s) (h.two.turn (h.form t.0) s') (l t.0)))
+        works_then h.state Idle rests {g = pass_as r h.on h.look} _ _ (run_over (run_goes h turns e e' k (one_form t.1 ns) (h.one.turn t.0 s) (h.two.turn (form_two t.0) s') (l t.0)))
         (λ q u u' m. works_then Idle Idle same_idle _ _ (passes_goes ts q.notes u u' (rests u u' m)) (λ rest v v' n. works refl n))
 
     -- ---- expanded
@@ -123,14 +127,14 @@ module _ (h : Sides) where
     finished_goes : (xs : List (LeftOf h.A)) (s : h.S) (s' : h.S') → Idle s s' → Works Idle (map formed_two) (finished h.one (expand h.one turns) e fs xs s) (finished h.two (expand h.two turns) e' fs' (map left_two xs) s')
     finished_goes [] s s' l = works refl l
     finished_goes (x ∷ xs) s s' l =
-        works_then h.state Idle rests _ _ (form_goes x.1 (h.one.turn x.0 s) (h.two.turn (h.form x.0) s') (l x.0))
+        works_then h.state Idle rests _ _ (form_goes x.1 (h.one.turn x.0 s) (h.two.turn (form_two x.0) s') (l x.0))
         (λ parts u u' m. works_then Idle Idle same_idle _ _ (finished_goes xs u u' (rests u u' m))
-        (λ rest v v' n. works (ap (λ c. Some (record { form = h.form x.0; result = parts_two parts; counted = c } ∷ map formed_two rest)) (h.counted u u' m)) n))
+        (λ rest v v' n. works (ap (λ c. Some (record { form = form_two x.0; result = parts_two parts; counted = c } ∷ map formed_two rest)) (h.counted u u' m)) n))
 
   -- ---- the whole unit
 
-  numbers_two : (ts : List (ℕ × Tree h.A)) → map (λ (t : ℕ × Tree h.A'). t.0) (forms_two ts) ≡ map h.form (map (λ (t : ℕ × Tree h.A). t.0) ts)
-  numbers_two ts = map_turned (λ (t : ℕ × Tree h.A'). t.0) (numbered_as r h.form h.on) h.form (λ (t : ℕ × Tree h.A). t.0) (λ t. refl) ts
+  numbers_two : (ts : List (ℕ × Tree h.A)) → map (λ (t : ℕ × Tree h.A'). t.0) (forms_two ts) ≡ map form_two (map (λ (t : ℕ × Tree h.A). t.0) ts)
+  numbers_two ts = map_turned (λ (t : ℕ × Tree h.A'). t.0) (numbered_as r h.unit h.on) form_two (λ (t : ℕ × Tree h.A). t.0) (λ t. refl) ts
 
   pub unit_goes : (e : h.E) (e' : h.E') → h.around e e' → (turns : ℕ) (ts : List (ℕ × Tree h.A)) (s : h.S) (s' : h.S') → Idle s s' → Works Idle (map formed_two) (unit h.one turns e ts s) (unit h.two turns e' (forms_two ts) s')
   unit_goes e e' k turns ts s s' l =

@@ -16,9 +16,10 @@ use Rattle.scheme_model.specs.Order.{Here, WaitingUse, Instance, Transformer, Me
 use Rattle.scheme_model.specs.Substitution.{note_map}
 use Rattle.scheme_model.specs.Renaming.{pair_map}
 use Rattle.scheme_model.proofs.RenamingLaws.{Finds, finds, map_turned}
-use Rattle.renumbering_laws.specs.Moving.{move_tree, move_trees, move_tail, move_named, move_rule, move_rules, move_binding, move_chosen}
+use Rattle.renumbering_laws.specs.Moving.{move_tree, move_trees, move_tail, move_named, move_rule, move_rules}
 use Rattle.renumbering_laws.specs.Renumbering.{Renumbering, number, place, ident, meaning, target, use_as}
-use Rattle.renumbering_laws.specs.Sides.{Sides, Macros, no_macro, a_macro}
+use Rattle.renumbering_laws.proofs.Sides.{no_macro, a_macro, Sides, Macros}
+use Rattle.renumbering_laws.proofs.MovedParts.{move_binding, move_chosen}
 use Rattle.renumbering_laws.proofs.MovedRules.{role_of-map, dots_of-map}
 use Rattle.renumbering_laws.proofs.MovedMatches.{first_match-map}
 use Rattle.renumbering_laws.proofs.MovedBuilds.{build-map}

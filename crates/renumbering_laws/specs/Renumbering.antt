@@ -10,7 +10,7 @@ use Rattle.scheme_model.specs.Cores.{Target, Bound, LocalNumber, Definition, Bin
 use Rattle.scheme_model.specs.Steps.{Broken}
 use Rattle.scheme_model.specs.Order.{Form, Item, Expression, Value, Function, Assigned, AssignedFunction, ValuesOf, Record, Macro, WaitingUse, Left, Pending, Pass, Counted}
 use Rattle.scheme_model.specs.Substitution.{note_map}
-use Rattle.scheme_model.specs.UnitExpansion.{Formed}
+use Rattle.scheme_model.specs.UnitExpansion.{Formed, LeftOf}
 use Rattle.renumbering_laws.specs.Moving.{Change, move_tree, move_named, move_fault, move_rules, move_clause}
 
 -- other numbers: of a unit, of a form of a unit, and of a definition of a unit
@@ -137,9 +137,9 @@ abbrev pub result_as : {V W : Type 0} → Renumbering → (V → W) → Result V
 result_as r g (Ok v) = Ok (g v)
 result_as r g (Err e) = Err (broken_as r e)
 
--- where these are the forms' numbers in the unit
-abbrev pub formed_as : Renumbering → (ℕ → ℕ) → Formed → Formed
-formed_as r form f = record { form = form f.form; result = result_as r (parts_as r) f.result; counted = counted_as r f.counted }
+-- a form of this unit
+abbrev pub formed_as : Renumbering → (unit : ℕ) → Formed → Formed
+formed_as r u f = record { form = r.form u f.form; result = result_as r (parts_as r) f.result; counted = counted_as r f.counted }
 
 -- ---- what is left of forms, and what they set aside; f is what becomes of a side's identifiers
 
@@ -168,9 +168,16 @@ pending_as r f l p = record { todo = map (form_as r f) p.todo; aside = map (item
 abbrev pub pass_as : {A B L M : Type 0} → Renumbering → (A → B) → (L → M) → Pass A L → Pass B M
 pass_as r f l p = record { notes = map (note_map l) p.notes; left = result_as r (left_as r f) p.left }
 
--- a form with its number, and what is left of it
-abbrev pub numbered_as : {A B : Type 0} → Renumbering → (ℕ → ℕ) → (A → B) → ℕ × Tree A → ℕ × Tree B
-numbered_as r form f t = (form t.0, move_tree (with_places r f) t.1)
+-- a form of this unit with its number, and what is left of it
+abbrev pub numbered_as : {A B : Type 0} → Renumbering → (unit : ℕ) → (A → B) → ℕ × Tree A → ℕ × Tree B
+numbered_as r u f t = (r.form u t.0, move_tree (with_places r f) t.1)
 
-abbrev pub left_of_as : {A B : Type 0} → Renumbering → (ℕ → ℕ) → (A → B) → ℕ × Result (Left A) Broken → ℕ × Result (Left B) Broken
-left_of_as r form f x = (form x.0, result_as r (left_as r f) x.1)
+abbrev pub left_of_as : {A B : Type 0} → Renumbering → (unit : ℕ) → (A → B) → LeftOf A → LeftOf B
+left_of_as r u f x = (r.form u x.0, result_as r (left_as r f) x.1)
+
+-- ---- the law of a step of work
+
+-- on both sides it comes to the same, renumbered by f, and goes to states that correspond
+pub record IsRenumbered {X Y S S' : Type 0} (f : X → Y) (Correspond : S → S' → Type 0) (p : X × S) (q : Y × S') : Type 0 where
+  pub result : q.0 ≡ f p.0
+  pub states : Correspond p.1 q.1

@@ -1,6 +1,6 @@
 -- Two records of operations, of which the second does what the first does, renumbered. The states and the environments of both are
 -- related; their identifiers are told by a function.
-use Rattle.std.specs.Prelude.{◌≡◌, ℕ, List, Option, Some, None, Result, Ok, Err}
+use Rattle.std.proofs.Common.{◌≡◌, ℕ, List, Option, Some, None, Result, Ok, Err}
 use Rattle.scheme_model.specs.Identifiers.{Number}
 use Rattle.scheme_model.specs.Ident.{Ident}
 use Rattle.scheme_model.specs.Trees.{Trees}
@@ -45,10 +45,10 @@ pub record Sides : Type 1 where
   pub S' : Type 0
   pub one : Ops E A L S
   pub two : Ops E' A' L' S'
-  -- what becomes of an identifier, of what a note keeps of it, and of a form's number in the unit at work
+  -- what becomes of an identifier, and of what a note keeps of it; and the unit at work
   pub on : A → A'
   pub look : L → L'
-  pub form : ℕ → ℕ
+  pub unit : ℕ
   -- environments and states of both
   pub around : E → E' → Type 0
   pub state : S → S' → Type 0
@@ -64,7 +64,7 @@ pub record Sides : Type 1 where
   pub ask : (qs : List (Asked E A)) (qs' : List (Asked E' A')) (s : S) (s' : S') → state s s' → state (one.ask qs s) (two.ask qs' s')
   pub is_assigned : (e : E) (e' : E') → around e e' → (s : S) (s' : S') → state s s' → (i : A) → two.is_assigned e' s' (on i) ≡ one.is_assigned e s i
   pub counted : (s : S) (s' : S') → state s s' → two.counted s' ≡ counted_as r (one.counted s)
-  pub turn : (f : ℕ) (s : S) (s' : S') → state s s' → state (one.turn f s) (two.turn (form f) s')
+  pub turn : (f : ℕ) (s : S) (s' : S') → state s s' → state (one.turn f s) (two.turn (r.form unit f) s')
   pub spend : (n : ℕ) (s : S) (s' : S') → state s s' → state (one.spend n s) (two.spend n s')
   pub meet : (t : Target) (s : S) (s' : S') → state s s' → state (one.meet t s) (two.meet (target r t) s')
   pub meet_use : (u : MacroUse) (s : S) (s' : S') → state s s' → state (one.meet_use u s) (two.meet_use (macro_use_as r u) s')

@@ -5,8 +5,8 @@ use Rattle.scheme_model.specs.Substitution.{Entries, KeptMacro, State}
 use Rattle.scheme_model.specs.ScopedExpansion.{BodyDefinition, UsePlace, ScopedMacro, ScopedState}
 use Rattle.renumbering_laws.specs.Moving.{move_rules}
 use Rattle.renumbering_laws.specs.Renumbering.{Renumbering, number, ident, meaning, change, target, macro_use_as}
-use Rattle.renumbering_laws.specs.Related.{defined_as, names_change}
-use Rattle.renumbering_laws.specs.ScopedRelated.{IsOnto, frames_as}
+use Rattle.renumbering_laws.specs.States.{defined_as, names_change}
+use Rattle.renumbering_laws.specs.ScopedStates.{IsOnto, frames_as}
 
 -- the old number of a unit by its new one, and forms as in `IsOnto`; definitions keep their numbers
 pub record HasInverse (r : Renumbering) : Type 0 where

@@ -1,4 +1,4 @@
--- States of both sides that correspond: what one is asked under old numbers, the other answers under new ones.
+-- States of expansion by substitution that correspond: what one has under old numbers, the other has under new ones.
 use Rattle.std.specs.Prelude.{◌≡◌, ℕ, ◌+◌, List, map, false}
 use Rattle.scheme_model.specs.Ident.{Ident}
 use Rattle.scheme_model.specs.Identifiers.{Name}
