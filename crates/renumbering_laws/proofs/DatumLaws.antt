@@ -7,9 +7,12 @@ use Rattle.scheme_model.specs.Trees.{list as list_of, vector as vector_of, tree,
 use Rattle.scheme_model.specs.Data.{Atom, spelled, implied, Datum, atom, list, vector, bytes, Data, none, part, tail, place_of}
 use Rattle.scheme_model.specs.DataTrees.{atom_tree, tree_of, parts_of, end_of, form_of}
 use Rattle.scheme_model.specs.Declarations.{UnitForm}
-use Rattle.scheme_model.specs.Program.{form_trees}
+use Rattle.scheme_model.specs.Ident.{Ident, Written as IdentWritten}
+use Rattle.scheme_model.specs.Program.{Prepared, form_trees}
+use Rattle.scheme_model.specs.ScopedProgram.{forms_over}
 use Rattle.renumbering_laws.specs.Moving.{Change, move_tree, move_trees, move_tail}
-use Rattle.renumbering_laws.specs.Renumbering.{Renumbering, occ_at, place, named_as, with_places, numbered_as}
+use Rattle.renumbering_laws.specs.Renumbering.{Renumbering, occ_at, place, ident, named_as, with_places, numbered_as}
+use Rattle.renumbering_laws.specs.Units.{FormsMove, ScopedFormsMove}
 
 module _ (r : Renumbering) (A B : Type 0) (on : A → B) (written : List ℕ → A) (at : ℕ → Occ) where
   abbrev f : Change A B
@@ -46,12 +49,13 @@ module _ (r : Renumbering) (A B : Type 0) (on : A → B) (written : List ℕ →
     end_moved (part d ds) = end_moved ds
     end_moved (tail d) = ap dotted (tree_moved d)
 
-module _ (r : Renumbering) where
-  pub form_moved : (u n : ℕ) (d : Datum) → move_tree (with_places r (named_as r)) (form_of u n d) ≡ form_of (r.unit u) (r.form u n) d
-  form_moved u n d = tree_moved r Identifier Identifier (named_as r) (Written u) (placed_in u n (place_of d).first) d
+-- the forms of a unit, with what their symbols stand for
+module _ (r : Renumbering) (A : Type 0) (on : A → A) (written : ℕ → List ℕ → A) (written_moved : (u : ℕ) (x : List ℕ) → on (written u x) ≡ written (r.unit u) x) where
+  form_moved : (u n : ℕ) (d : Datum) → move_tree (with_places r on) (tree_of (written u) (placed_in u n (place_of d).first) d) ≡ tree_of (written (r.unit u)) (placed_in (r.unit u) (r.form u n) (place_of d).first) d
+  form_moved u n d = tree_moved r A A on (written u) (placed_in u n (place_of d).first) d ∙ ap (λ f. tree_of f (placed_in (r.unit u) (r.form u n) (place_of d).first) d) (λ j x. written_moved u x j)
 
   -- the same forms from another number on
-  pub forms_moved : (u n n' : ℕ) → ((m : ℕ) → r.form u (n + m) ≡ n' + m) → (fs : List UnitForm) → form_trees (r.unit u) n' fs ≡ map (numbered_as r u (named_as r)) (form_trees u n fs)
+  pub forms_moved : (u n n' : ℕ) → ((m : ℕ) → r.form u (n + m) ≡ n' + m) → (fs : List UnitForm) → forms_over (written (r.unit u)) (r.unit u) n' fs ≡ map (numbered_as r u on) (forms_over (written u) u n fs)
   forms_moved u n n' h [] = refl
   forms_moved u n n' h (x ∷ xs) =
       go x.declared (forms_moved u (suc n) (suc n') (λ m. (let a : suc n + m ≡ n + suc m = omega arith in ap (r.form u) a) ∙ h (suc m) ∙ (let b : n' + suc m ≡ suc n' + m = omega arith in b)) xs)
@@ -59,8 +63,27 @@ module _ (r : Renumbering) where
       here : r.form u n ≡ n'
       here = (let a : n ≡ n + 0 = omega arith in ap (r.form u) a) ∙ h 0 ∙ (let b : n' + 0 ≡ n' = omega arith in b)
 
-      go : (b : Bool) → form_trees (r.unit u) (suc n') xs ≡ map (numbered_as r u (named_as r)) (form_trees u (suc n) xs)
-          → cond b (form_trees (r.unit u) (suc n') xs) ((n', form_of (r.unit u) n' x.datum) ∷ form_trees (r.unit u) (suc n') xs)
-          ≡ map (numbered_as r u (named_as r)) (cond b (form_trees u (suc n) xs) ((n, form_of u n x.datum) ∷ form_trees u (suc n) xs))
+      go : (b : Bool) → forms_over (written (r.unit u)) (r.unit u) (suc n') xs ≡ map (numbered_as r u on) (forms_over (written u) u (suc n) xs)
+          → cond b (forms_over (written (r.unit u)) (r.unit u) (suc n') xs) ((n', tree_of (written (r.unit u)) (placed_in (r.unit u) n' (place_of x.datum).first) x.datum) ∷ forms_over (written (r.unit u)) (r.unit u) (suc n') xs)
+          ≡ map (numbered_as r u on) (cond b (forms_over (written u) u (suc n) xs) ((n, tree_of (written u) (placed_in u n (place_of x.datum).first) x.datum) ∷ forms_over (written u) u (suc n) xs))
       go true ih = ih
-      go false ih = let a = sym here in let t = ap (λ k. form_of (r.unit u) k x.datum) (sym here) ∙ sym (form_moved u n x.datum) in λ j. (a j, t j) ∷ ih j
+      go false ih =
+          let a = sym here in let t = ap (λ k. tree_of (written (r.unit u)) (placed_in (r.unit u) k (place_of x.datum).first) x.datum) (sym here) ∙ sym (form_moved u n x.datum) in λ j. (a j, t j) ∷ ih j
+
+-- as the definition that substitutes has them
+over_names : (u n : ℕ) (fs : List UnitForm) → form_trees u n fs ≡ forms_over (Written u) u n fs
+over_names u n [] = refl
+over_names u n (x ∷ xs) = let e = over_names u (suc n) xs in λ j. cond x.declared (e j) ((n, form_of u n x.datum) ∷ e j)
+
+module _ (r : Renumbering) (p q : Prepared) (number : q.number ≡ r.unit p.number) (forms : q.forms ≡ p.forms) (kept : (n : ℕ) → r.form p.number n ≡ n) where
+  from_start : (m : ℕ) → r.form p.number (0 + m) ≡ 0 + m
+  from_start m = let a : 0 + m ≡ m = omega arith in ap (r.form p.number) a ∙ kept m ∙ sym a
+
+  pub named_forms_move : FormsMove r p q
+  named_forms_move =
+      (λ j. form_trees (number j) 0 (forms j)) ∙ over_names (r.unit p.number) 0 p.forms
+      ∙ forms_moved r Identifier (named_as r) Written (λ u x. refl) p.number 0 0 from_start p.forms
+      ∙ ap (map (numbered_as r p.number (named_as r))) (sym (over_names p.number 0 p.forms))
+
+  pub scoped_forms_move : ScopedFormsMove r p q
+  scoped_forms_move = (λ j. forms_over (IdentWritten (number j)) (number j) 0 (forms j)) ∙ forms_moved r Ident (ident r) IdentWritten (λ u x. refl) p.number 0 0 from_start p.forms

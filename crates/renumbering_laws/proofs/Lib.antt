@@ -25,6 +25,7 @@ pub mod ScopedSide  -- Expansion by scopes under old numbers and under new ones
 pub mod ArrowLaws  -- Arrows of what is renumbered
 pub mod PreludeLaws  -- The prelude under a renumbering that keeps its unit
 pub mod RenumberedStates  -- Each state corresponds to itself under new numbers
+pub mod UnitLaws  -- A unit of a program under another number
 pub mod DatumLaws  -- The tree of a datum under other numbers
 pub mod PairingLaws  -- A pairing is a renumbering with an inverse
 pub mod PairedLaws  -- Paired units and forms give a renumbering

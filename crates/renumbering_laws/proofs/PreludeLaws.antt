@@ -3,7 +3,7 @@ use Rattle.std.proofs.Common.{◌≡◌, ℕ, List, [], ◌∷◌, map, Bool, tr
 use Rattle.std.specs.Prelude.{◌&&◌, ◌==◌}
 use Rattle.scheme_model.specs.declared.Occ.{Occ}
 use Rattle.scheme_model.specs.Identifiers.{Name, Written}
-use Rattle.scheme_model.specs.Ident.{Written as WrittenIdent}
+use Rattle.scheme_model.specs.Ident.{Ident, Written as WrittenIdent}
 use Rattle.scheme_model.specs.Trees.{Tree, name, atom, list, vector, Trees, no_trees, tree, Tail, proper, dotted, map_tree, map_trees, map_tail}
 use Rattle.scheme_model.specs.ExpansionFaults.{Named, named_map, Fault}
 use Rattle.scheme_model.specs.Meaning.{Meaning, Standard, Global, same_meaning}
@@ -11,9 +11,13 @@ use Rattle.scheme_model.specs.RulesShape.{Rule, Rules, rule_map, rules_map, opti
 use Rattle.scheme_model.specs.Substitution.{Defined, rules_at}
 use Rattle.scheme_model.specs.Prelude.{PreludeMacro, prelude}
 use Rattle.scheme_model.specs.Program.{prelude_unit, is_standard, prelude_entry, written_rules, prelude_meaning, prelude_macro, prelude_definitions, progress_before}
+use Rattle.scheme_model.specs.ScopedExpansion.{macro_at}
+use Rattle.scheme_model.specs.ScopedProgram.{prelude_rules, scoped_prelude_macro, scoped_before}
 use Rattle.scheme_model.proofs.RenamingLaws.{cond_map}
 use Rattle.renumbering_laws.specs.Moving.{Change, move_tree, move_trees, move_tail, move_named, move_rule, move_rules}
-use Rattle.renumbering_laws.specs.Renumbering.{Renumbering, IsOneToOne, place, named_as, meaning}
+use Rattle.renumbering_laws.specs.Renumbering.{Renumbering, IsOneToOne, place, ident, named_as, meaning, change}
+use Rattle.renumbering_laws.specs.ScopedStates.{IsOnto, transformer_as, ScopedMacrosMove}
+use Rattle.renumbering_laws.specs.Units.{KeepsPrelude, ProgressMoves, ScopedProgressMoves}
 use Rattle.renumbering_laws.specs.States.{defined_as, names_change, TablesMove, EntriesMove}
 use Rattle.renumbering_laws.proofs.OneToOne.{same_moved}
 use Rattle.renumbering_laws.proofs.NameLaws.{table_step}
@@ -117,7 +121,13 @@ module _ (A B : Type 0) (r : Renumbering) (on : B → B) (u : A → B) (same : (
 
 -- ---- the prelude
 
-module _ (r : Renumbering) (o : IsOneToOne r) (kept : r.unit prelude_unit ≡ prelude_unit) (form_kept : r.form prelude_unit 0 ≡ 0) where
+module _ (r : Renumbering) (o : IsOneToOne r) (keeps : KeepsPrelude r) where
+  abbrev kept : r.unit prelude_unit ≡ prelude_unit
+  kept = keeps.unit
+
+  abbrev form_kept : r.form prelude_unit 0 ≡ 0
+  form_kept = keeps.form
+
   pub entry_still : EntriesMove r prelude_entry prelude_entry
   entry_still u x =
       cond_map (option_map (meaning r)) (Some (Standard x)) None
@@ -157,9 +167,20 @@ module _ (r : Renumbering) (o : IsOneToOne r) (kept : r.unit prelude_unit ≡ pr
       (ap (λ x. same_meaning x (meaning r m)) (sym (meaning_still k.name)) ∙ same_moved r o (prelude_meaning k.name) m)
       (ap Some (sym (written_still (rules_parts k.parts proper) (left_of (bare_result (rules_parts k.parts proper)) (all_bare ks) h)))) (macros_still ks (right_of (bare_result (rules_parts k.parts proper)) (all_bare ks) h) m)
 
-  -- what stands before any unit is worked on corresponds to itself
-  pub table_before : TablesMove r progress_before.table progress_before.table
-  table_before = table_still prelude
+  prelude_rules_still : (x : Result (Rules (List ℕ)) (Fault (List ℕ))) → bare_result x ≡ true → move_rules (change r) (prelude_rules x) ≡ prelude_rules x
+  prelude_rules_still (Ok x) h = still (List ℕ) Ident r (ident r) (WrittenIdent prelude_unit) (λ s. ap (λ u. WrittenIdent u s) kept) x h
+  prelude_rules_still (Err e) h = refl
 
-  pub macros_before : (m : Meaning) → rules_at progress_before.macros (meaning r m) ≡ option_map (move_rules (names_change r)) (rules_at progress_before.macros m)
-  macros_before m = macros_still prelude prelude_bare m
+  scoped_macros_still : (w : IsOnto r) (ms : List PreludeMacro) → all_bare ms ≡ true → ScopedMacrosMove r w (map scoped_prelude_macro ms) (map scoped_prelude_macro ms)
+  scoped_macros_still w [] h m = refl
+  scoped_macros_still w (k ∷ ks) h m =
+      cond_map (option_map (transformer_as r w)) (Some (record { env = []; rules = prelude_rules (rules_parts k.parts proper) })) (macro_at (map scoped_prelude_macro ks) m)
+      (ap (λ x. same_meaning x (meaning r m)) (sym (meaning_still k.name)) ∙ same_moved r o (prelude_meaning k.name) m)
+      (ap (λ x. Some (record { env = []; rules = x })) (sym (prelude_rules_still (rules_parts k.parts proper) (left_of (bare_result (rules_parts k.parts proper)) (all_bare ks) h)))) (scoped_macros_still w ks (right_of (bare_result (rules_parts k.parts proper)) (all_bare ks) h) m)
+
+  -- what stands before any unit is worked on corresponds to itself
+  pub before_moves : ProgressMoves r progress_before progress_before
+  before_moves = record { table = table_still prelude; macros = macros_still prelude prelude_bare; entry = entry_still }
+
+  pub scoped_before_moves : (w : IsOnto r) → ScopedProgressMoves r w scoped_before scoped_before
+  scoped_before_moves w = record { table = table_still prelude; macros = scoped_macros_still w prelude prelude_bare; places = λ k. refl; definitions = λ b i. refl; entry = entry_still }

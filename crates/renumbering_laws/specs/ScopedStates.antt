@@ -4,11 +4,11 @@ use Rattle.scheme_model.specs.Ident.{Ident}
 use Rattle.scheme_model.specs.Identifiers.{Number}
 use Rattle.scheme_model.specs.Meaning.{Meaning}
 use Rattle.scheme_model.specs.RulesShape.{option_map}
-use Rattle.scheme_model.specs.Order.{Transformer}
+use Rattle.scheme_model.specs.Order.{Pending, Pass, Transformer}
 use Rattle.scheme_model.specs.Substitution.{definition_count}
 use Rattle.scheme_model.specs.ScopedExpansion.{Frame, Bind, Enter, Frames, FramedIdent, BodyDefinitions, UsePlace, ScopedMacro, ScopedState, around, find, macro_at}
 use Rattle.renumbering_laws.specs.Moving.{move_rules}
-use Rattle.renumbering_laws.specs.Renumbering.{Renumbering, number, ident, meaning, change, target, macro_use_as}
+use Rattle.renumbering_laws.specs.Renumbering.{Renumbering, number, ident, meaning, change, target, macro_use_as, pending_as, pass_as}
 use Rattle.renumbering_laws.specs.States.{AtForms, ClocksMove, TablesMove, EntriesMove, CountsOn}
 
 -- the old number of a form by its new one; needed as a body keeps how many uses each form had begun
@@ -29,6 +29,13 @@ module _ (r : Renumbering) (w : IsOnto r) where
 
   abbrev pub framed_as : FramedIdent → FramedIdent
   framed_as l = record { frames = frames_as l.frames; ident = ident r l.ident }
+
+  -- what is pending of a unit or a body, and what is left of it
+  abbrev pub scoped_pending : Pending Ident FramedIdent → Pending Ident FramedIdent
+  scoped_pending p = pending_as r (ident r) framed_as p
+
+  abbrev pub scoped_pass : Pass Ident FramedIdent → Pass Ident FramedIdent
+  scoped_pass p = pass_as r (ident r) framed_as p
 
   abbrev pub transformer_as : Transformer Frames Ident → Transformer Frames Ident
   transformer_as m = record { env = frames_as m.env; rules = move_rules (change r) m.rules }
