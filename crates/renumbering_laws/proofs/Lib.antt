@@ -30,3 +30,5 @@ pub mod DatumLaws  -- The tree of a datum under other numbers
 pub mod PairingLaws  -- A pairing is a renumbering with an inverse
 pub mod PairedLaws  -- Paired units and forms give a renumbering
 pub mod ProgramArrowLaws  -- The arrows of the units of a program under other numbers
+pub mod RenumberingRows  -- A form under other numbers, computed
+pub mod WiderLaws  -- What wider laws would break, computed

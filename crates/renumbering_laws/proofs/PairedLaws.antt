@@ -1,9 +1,9 @@
--- Units and forms that are paired one to one give a renumbering with an inverse, so the law speaks of them; it keeps the prelude
--- where this stands in no pair.
+-- Units and forms that are paired give a renumbering with an inverse, which keeps the prelude where this stands in no pair.
 use Rattle.std.proofs.Common.{◌≡◌, ℕ, List, refl}
 use Rattle.scheme_model.specs.Program.{prelude_unit}
 use Rattle.renumbering_laws.specs.Pairings.{back, IsAside, paired}
 use Rattle.renumbering_laws.specs.NewStates.{HasInverse}
+use Rattle.renumbering_laws.specs.Units.{KeepsPrelude}
 use Rattle.renumbering_laws.proofs.PairingLaws.{back_forth, forth_back, keeps}
 
 module _ (units : List (ℕ × ℕ)) (forms : ℕ → List (ℕ × ℕ)) where
@@ -16,5 +16,5 @@ module _ (units : List (ℕ × ℕ)) (forms : ℕ → List (ℕ × ℕ)) where
     definitions = λ u n. refl;
   }
 
-  pub keeps_prelude : IsAside prelude_unit units → (paired units forms).unit prelude_unit ≡ prelude_unit
-  keeps_prelude h = keeps units prelude_unit h
+  pub keeps_prelude : IsAside prelude_unit units → IsAside 0 (forms prelude_unit) → KeepsPrelude (paired units forms)
+  keeps_prelude h k = record { unit = keeps units prelude_unit h; form = keeps (forms prelude_unit) 0 k }
