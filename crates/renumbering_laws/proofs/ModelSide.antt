@@ -152,11 +152,21 @@ module _ (r : Renumbering) (o : IsOneToOne r) (u : ℕ) (known : Known) where
 
     local_step : Moved (defined_local n.name x s) (defined_local n'.name x' s')
     local_step = record {
-      at = l.at; unit = l.unit; program = l.program; form = l.form;
+      at = l.at;
+      unit = l.unit;
+      program = l.program;
+      form = l.form;
       locals = tick s s' l s.locals s'.locals l.locals suc;
-      uses = l.uses; nodes = l.nodes; bodies = l.bodies; keywords = l.keywords; met = l.met; table = l.table; counts = l.counts; entry = l.entry;
+      uses = l.uses;
+      nodes = l.nodes;
+      bodies = l.bodies;
+      keywords = l.keywords;
+      met = l.met;
+      table = l.table;
+      counts = l.counts;
+      entry = l.entry;
       macros = λ m. (let a = local_number in let b = l.mine in λ j. rules_at (map (own_rules (a j ∷ b j) (deep n'.name (a j))) (with_macro (Local (a j)) x' s'.macros)) (meaning r m))
-        ∙ own_step n.name v (v ∷ s.mine) (with_macro (Local v) x s.macros) (with_macro (Local v') x' s'.macros) (added s.macros s'.macros l.macros (Local v) (Local v') refl x) m;
+          ∙ own_step n.name v (v ∷ s.mine) (with_macro (Local v) x s.macros) (with_macro (Local v') x' s'.macros) (added s.macros s'.macros l.macros (Local v) (Local v') refl x) m;
       in_body = l.in_body;
       mine = let a = local_number in let b = l.mine in λ j. a j ∷ b j;
     }
@@ -166,11 +176,13 @@ module _ (r : Renumbering) (o : IsOneToOne r) (u : ℕ) (known : Known) where
         (cond refused (Err (KeywordRedefined (named (erase n'.name) n'.occ)), s') (cond again (Err (Duplicate (named (erase n'.name) n'.occ)), s') (Ok (renamed (deep n'.name (number_at s' s'.locals)) (pending_two p)), defined_local n'.name x' s')))
     body_case true again = (ap (λ i. KeywordRedefined (named i (place r n.occ))) (erase_moved r n.name), l)
     body_case false true = (ap (λ i. Duplicate (named i (place r n.occ))) (erase_moved r n.name), l)
-    body_case false false =
-        (record {
-          pending = ap (λ w. pending_map (deep n'.name w) (deep n'.name w) (pending_two p)) local_number ∙ pending_turned Name Name r (named_as r) (deep n.name v) (deep n'.name v') (deep_moved r o n.name v) p;
-          rename = λ i. ap (λ w. deep n'.name w (named_as r i)) local_number ∙ deep_moved r o n.name v i;
-        }, local_step)
+    body_case false false = (
+      record {
+        pending = ap (λ w. pending_map (deep n'.name w) (deep n'.name w) (pending_two p)) local_number ∙ pending_turned Name Name r (named_as r) (deep n.name v) (deep n'.name v') (deep_moved r o n.name v) p;
+        rename = λ i. ap (λ w. deep n'.name w (named_as r i)) local_number ∙ deep_moved r o n.name v i;
+      },
+      local_step,
+    )
 
     in_body_goes : Defines (define_in_body n x p s) (define_in_body n' x' (pending_two p) s')
     in_body_goes =
@@ -198,12 +210,22 @@ module _ (r : Renumbering) (o : IsOneToOne r) (u : ℕ) (known : Known) where
 
     global_step : Moved (defined_global n x s) (defined_global n' x' s')
     global_step = record {
-      at = l.at; unit = l.unit; program = l.program; form = l.form; locals = l.locals; uses = l.uses; nodes = l.nodes; bodies = l.bodies; keywords = l.keywords; met = l.met;
+      at = l.at;
+      unit = l.unit;
+      program = l.program;
+      form = l.form;
+      locals = l.locals;
+      uses = l.uses;
+      nodes = l.nodes;
+      bodies = l.bodies;
+      keywords = l.keywords;
+      met = l.met;
       table = λ w i. ap (λ y. defined_in (y ∷ s'.table) (r.unit w) (ident r i)) d_same ∙ table_step r o s.table s'.table l.table d w i;
       counts = counts_step;
       entry = l.entry;
       macros = added s.macros s'.macros l.macros (Global s.unit (erase n.name)) (Global s'.unit (erase n'.name)) global_same x;
-      in_body = l.in_body; mine = l.mine;
+      in_body = l.in_body;
+      mine = l.mine;
     }
 
     abbrev after : State
@@ -274,10 +296,21 @@ module _ (r : Renumbering) (o : IsOneToOne r) (u : ℕ) (known : Known) where
 
   abbrev pub model_sides : Sides
   model_sides = record {
-    r = r; one_to_one = o;
-    E = Unit {0}; A = Name; L = Name; S = State; E' = Unit {0}; A' = Name; L' = Name; S' = State;
-    one = model known; two = model known;
-    on = named_as r; look = named_as r; unit = u;
+    r = r;
+    one_to_one = o;
+    E = Unit {0};
+    A = Name;
+    L = Name;
+    S = State;
+    E' = Unit {0};
+    A' = Name;
+    L' = Name;
+    S' = State;
+    one = model known;
+    two = model known;
+    on = named_as r;
+    look = named_as r;
+    unit = u;
     around = λ e e'. Unit {0};
     state = Moved;
     same = name_moved r o;
@@ -303,6 +336,6 @@ module _ (r : Renumbering) (o : IsOneToOne r) (u : ℕ) (known : Known) where
     bind = λ i e e' a ts s s' l. regions tt (ap (λ v. map_trees (shallow (named_as r i) v) (move_trees mv ts)) (number_now s s' l s.locals s'.locals l.locals) ∙ trees_turned Name Name Name Name (place r) (named_as r) (named_as r) (shallow i (number_at s s.locals)) (shallow (named_as r i) (number r (number_at s s.locals))) (shallow_moved r o i (number_at s s.locals)) ts) (took s s' l);
     keep = λ v x e e' a s s' l. record { at = l.at; unit = l.unit; program = l.program; form = l.form; locals = l.locals; uses = l.uses; nodes = l.nodes; bodies = l.bodies; keywords = l.keywords; met = l.met; table = l.table; counts = l.counts; entry = l.entry; macros = added s.macros s'.macros l.macros (Local v) (Local (number r v)) refl (Some x); in_body = l.in_body; mine = l.mine };
     enter = λ e e' a ts s s' l. regions tt (ap (λ v. map_trees (Inner v) (move_trees mv ts)) (number_now s s' l s.bodies s'.bodies l.bodies) ∙ trees_turned Name Name Name Name (place r) (named_as r) (named_as r) (Inner (number_at s s.bodies)) (Inner (number r (number_at s s.bodies))) (λ i. refl) ts)
-      (record { at = l.at; unit = l.unit; program = l.program; form = l.form; locals = l.locals; uses = l.uses; nodes = l.nodes; bodies = tick s s' l s.bodies s'.bodies l.bodies suc; keywords = l.keywords; met = l.met; table = l.table; counts = l.counts; entry = l.entry; macros = l.macros; in_body = refl; mine = refl });
+        (record { at = l.at; unit = l.unit; program = l.program; form = l.form; locals = l.locals; uses = l.uses; nodes = l.nodes; bodies = tick s s' l s.bodies s'.bodies l.bodies suc; keywords = l.keywords; met = l.met; table = l.table; counts = l.counts; entry = l.entry; macros = l.macros; in_body = refl; mine = refl });
     define = λ n x e e' a p s s' l. define_goes n x p s s' l;
   }

@@ -1,5 +1,5 @@
 -- Units and forms that are paired give a renumbering with an inverse, which keeps the prelude where this stands in no pair.
-use Rattle.std.proofs.Common.{◌≡◌, ℕ, List, refl}
+use Rattle.std.proofs.Common.{ℕ, List, refl}
 use Rattle.scheme_model.specs.Program.{prelude_unit}
 use Rattle.renumbering_laws.specs.Pairings.{back, IsAside, paired}
 use Rattle.renumbering_laws.specs.NewStates.{HasInverse}

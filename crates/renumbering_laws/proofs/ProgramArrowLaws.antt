@@ -5,7 +5,7 @@ use Rattle.scheme_model.specs.Live.{unit_leaves, keyword_targets, NameUse}
 use Rattle.scheme_model.specs.Program.{UnitResult}
 use Rattle.scheme_model.specs.ProgramArrows.{program_leaves, program_keywords, arrows_with}
 use Rattle.scheme_model.proofs.RenamingLaws.{append_map}
-use Rattle.renumbering_laws.specs.Renumbering.{Renumbering, IsOneToOne, target, formed_as}
+use Rattle.renumbering_laws.specs.Renumbering.{Renumbering, IsOneToOne, target}
 use Rattle.renumbering_laws.specs.States.{TablesMove}
 use Rattle.renumbering_laws.specs.Arrows.{leaf_as, name_use_as, arrow_as, UnitsMove}
 use Rattle.renumbering_laws.proofs.ArrowLaws.{unit_leaves_moved, keywords_moved, arrows_renumbered}

@@ -1,16 +1,16 @@
 -- Each state corresponds to itself under new numbers, so the law speaks of every state.
-use Rattle.std.proofs.Common.{◌≡◌, ℕ, suc, ◌+◌, List, [], ◌∷◌, map, Bool, true, false, cond, Option, Some, refl, sym, ap, ◌∙◌, subst, arith, eq-eqb}
+use Rattle.std.proofs.Common.{◌≡◌, ℕ, suc, ◌+◌, List, [], ◌∷◌, map, Bool, true, false, cond, Option, Some, refl, sym, ap, ◌∙◌, arith, eq-eqb}
 use Rattle.std.specs.Prelude.{◌&&◌, ◌==◌}
 use Rattle.std.proofs.lemmas.Bool.Decides.{nat_tests}
 use Rattle.scheme_model.specs.Identifiers.{Number, same_number}
 use Rattle.scheme_model.specs.Ident.{Ident, same_ident}
-use Rattle.scheme_model.specs.Meaning.{Meaning, same_meaning}
+use Rattle.scheme_model.specs.Meaning.{Meaning}
 use Rattle.scheme_model.specs.RulesShape.{option_map}
 use Rattle.scheme_model.specs.Substitution.{Table, definition_count, KeptMacro, State, rules_at}
 use Rattle.scheme_model.specs.ScopedExpansion.{BodyDefinitions, UsePlace, ScopedMacro, ScopedState, around, find, macro_at}
 use Rattle.scheme_model.proofs.RenamingLaws.{cond_map}
 use Rattle.renumbering_laws.specs.Moving.{move_rules}
-use Rattle.renumbering_laws.specs.Renumbering.{Renumbering, IsOneToOne, number, ident, meaning, change, target, macro_use_as}
+use Rattle.renumbering_laws.specs.Renumbering.{Renumbering, IsOneToOne, number, ident, meaning, target, macro_use_as}
 use Rattle.renumbering_laws.specs.States.{defined_as, names_change, AtForms, TablesMove, EntriesMove, CountsOn, StatesMove}
 use Rattle.renumbering_laws.specs.ScopedStates.{frames_as, transformer_as, ScopedMacrosMove, found_number, ScopedMove}
 use Rattle.renumbering_laws.specs.NewStates.{HasInverse, at_new, entries_new, kept_new, state_new, scoped_new, use_new, body_definition_new, scoped_state_new}
@@ -58,7 +58,10 @@ module _ (r : Renumbering) (w : HasInverse r) where
 
   pub states_move : (s : State) → StatesMove r s.unit s (state_new r w s)
   states_move s = record {
-    at = refl; unit = refl; program = refl; form = refl;
+    at = refl;
+    unit = refl;
+    program = refl;
+    form = refl;
     locals = at_forms s.unit (λ (n : ℕ). n) s.locals;
     uses = at_forms s.unit (λ (n : ℕ). n) s.uses;
     nodes = at_forms s.unit (λ (n : ℕ). n) s.nodes;
@@ -69,7 +72,8 @@ module _ (r : Renumbering) (w : HasInverse r) where
     counts = counts_new s.table s.unit;
     entry = entries_move s.entry;
     macros = rules_new s.macros;
-    in_body = refl; mine = refl;
+    in_body = refl;
+    mine = refl;
   }
 
   -- ---- scopes
@@ -95,7 +99,10 @@ module _ (r : Renumbering) (w : HasInverse r) where
 
   pub scoped_states_move : (s : ScopedState) → ScopedMove r w.forms s.unit s (scoped_state_new r w s)
   scoped_states_move s = record {
-    at = refl; unit = refl; program = refl; form = refl;
+    at = refl;
+    unit = refl;
+    program = refl;
+    form = refl;
     locals = at_forms s.unit (λ (n : ℕ). n) s.locals;
     uses = refl;
     nodes = at_forms s.unit (λ (n : ℕ). n) s.nodes;

@@ -1,9 +1,8 @@
 -- A form under other numbers, computed: `(define (f x) (let-syntax ((m (syntax-rules () ((_ y) (f y))))) (m x)))` as form 5 of unit 3, and as
 -- form 2 of unit 4.
-use Rattle.std.proofs.Common.{◌≡◌, ℕ, List, [], ◌∷◌, map, true, false, Option, Some, None, Result, Ok, refl}
+use Rattle.std.proofs.Common.{◌≡◌, ℕ, List, [], ◌∷◌, true, Option, Some, None, refl}
 use Rattle.std.specs.Prelude.{codes, if◌then◌else◌, ◌==◌}
 use Rattle.scheme_model.specs.declared.Occ.{Occ}
-use Rattle.scheme_model.specs.Identifiers.{Number}
 use Rattle.scheme_model.specs.Ident.{Ident, Written, Inserted}
 use Rattle.scheme_model.specs.Trees.{Tree, name, list, Trees, no_trees, tree, proper}
 use Rattle.scheme_model.specs.Meaning.{Meaning, Standard, Local, Global}
@@ -49,7 +48,20 @@ module _ (u form : ℕ) where
 
   abbrev start : ScopedState
   start = record {
-    unit = u; program = true; form = 0; locals = λ f. 0; uses = λ f. 0; nodes = λ f. 0; bodies = λ f. 0; keywords = λ f. []; met = λ f. []; table = []; entry = λ v s. Some (Standard s); macros = []; places = []; definitions = [];
+    unit = u;
+    program = true;
+    form = 0;
+    locals = λ f. 0;
+    uses = λ f. 0;
+    nodes = λ f. 0;
+    bodies = λ f. 0;
+    keywords = λ f. [];
+    met = λ f. [];
+    table = [];
+    entry = λ v s. Some (Standard s);
+    macros = [];
+    places = [];
+    definitions = [];
   }
 
   abbrev formed : Option (List Formed)

@@ -200,19 +200,39 @@ module _ (r : Renumbering) (o : IsOneToOne r) (w : IsOnto r) where
 
       global_step : Moved (definition_added None n x fs s) (definition_added None n' x' fs' s')
       global_step = record {
-        at = l.at; unit = l.unit; program = l.program; form = l.form; locals = l.locals; uses = l.uses; nodes = l.nodes; bodies = l.bodies; keywords = l.keywords; met = l.met;
+        at = l.at;
+        unit = l.unit;
+        program = l.program;
+        form = l.form;
+        locals = l.locals;
+        uses = l.uses;
+        nodes = l.nodes;
+        bodies = l.bodies;
+        keywords = l.keywords;
+        met = l.met;
         table = λ v i. ap (λ y. defined_in (y ∷ s'.table) (r.unit v) (ident r i)) d_same ∙ table_step r o s.table s'.table l.table d v i;
         counts = counts_step;
         entry = l.entry;
         macros = added s.macros s'.macros l.macros (Global s.unit n.name) (Global s'.unit n'.name) global_same fs fs' k x;
-        places = l.places; definitions = l.definitions;
+        places = l.places;
+        definitions = l.definitions;
       }
 
       local_step : (b : Number) → Moved (definition_added (Some b) n x fs s) (definition_added (Some (number r b)) n' x' fs' s')
       local_step b = record {
-        at = l.at; unit = l.unit; program = l.program; form = l.form;
+        at = l.at;
+        unit = l.unit;
+        program = l.program;
+        form = l.form;
         locals = tick s s' l s.locals s'.locals l.locals suc;
-        uses = l.uses; nodes = l.nodes; bodies = l.bodies; keywords = l.keywords; met = l.met; table = l.table; counts = l.counts; entry = l.entry;
+        uses = l.uses;
+        nodes = l.nodes;
+        bodies = l.bodies;
+        keywords = l.keywords;
+        met = l.met;
+        table = l.table;
+        counts = l.counts;
+        entry = l.entry;
         macros = added s.macros s'.macros l.macros (Local (next_number s s.locals)) (Local (next_number s' s'.locals)) (ap Local local_same) fs fs' k x;
         places = l.places;
         definitions = found_step s.definitions s'.definitions l.definitions (record { body = b; ident = n.name; binder = next_number s s.locals }) (record { body = number r b; ident = n'.name; binder = next_number s' s'.locals }) refl refl local_same;
@@ -291,10 +311,21 @@ module _ (r : Renumbering) (o : IsOneToOne r) (w : IsOnto r) where
 
     abbrev pub scoped_sides : Sides
     scoped_sides = record {
-      r = r; one_to_one = o;
-      E = Frames; A = Ident; L = FramedIdent; S = ScopedState; E' = Frames; A' = Ident; L' = FramedIdent; S' = ScopedState;
-      one = counted known; two = counted known;
-      on = ident r; look = framed_as r w; unit = u;
+      r = r;
+      one_to_one = o;
+      E = Frames;
+      A = Ident;
+      L = FramedIdent;
+      S = ScopedState;
+      E' = Frames;
+      A' = Ident;
+      L' = FramedIdent;
+      S' = ScopedState;
+      one = counted known;
+      two = counted known;
+      on = ident r;
+      look = framed_as r w;
+      unit = u;
       around = FramesMove;
       state = Moved;
       same = ident_moved r o;
@@ -320,6 +351,6 @@ module _ (r : Renumbering) (o : IsOneToOne r) (w : IsOnto r) where
       bind = λ i e e' a ts s s' l. regions (let b = number_now s s' l s.locals s'.locals l.locals in λ j. Bind (ident r i) (b j) ∷ a j) refl (took s s' l);
       keep = λ v x e e' a s s' l. record { at = l.at; unit = l.unit; program = l.program; form = l.form; locals = l.locals; uses = l.uses; nodes = l.nodes; bodies = l.bodies; keywords = l.keywords; met = l.met; table = l.table; counts = l.counts; entry = l.entry; macros = added s.macros s'.macros l.macros (Local v) (Local (number r v)) refl e e' a (Some x); places = l.places; definitions = l.definitions };
       enter = λ e e' a ts s s' l. regions (let b = number_now s s' l s.bodies s'.bodies l.bodies in let c = l.uses in λ j. Enter (b j) (c j) ∷ a j) refl
-        (record { at = l.at; unit = l.unit; program = l.program; form = l.form; locals = l.locals; uses = l.uses; nodes = l.nodes; bodies = tick s s' l s.bodies s'.bodies l.bodies suc; keywords = l.keywords; met = l.met; table = l.table; counts = l.counts; entry = l.entry; macros = l.macros; places = l.places; definitions = l.definitions });
+          (record { at = l.at; unit = l.unit; program = l.program; form = l.form; locals = l.locals; uses = l.uses; nodes = l.nodes; bodies = tick s s' l s.bodies s'.bodies l.bodies suc; keywords = l.keywords; met = l.met; table = l.table; counts = l.counts; entry = l.entry; macros = l.macros; places = l.places; definitions = l.definitions });
       define = λ n x e e' a p s s' l. define_goes n x e e' a s s' l p;
     }

@@ -1,5 +1,5 @@
 -- A form gone through, whatever its head, and all forms of a body or a unit, on both sides.
-use Rattle.std.proofs.Common.{ℕ, zero, suc, List, [], ◌∷◌, map, true, Option, Some, Result, Ok, refl, ap, ◌∙◌}
+use Rattle.std.proofs.Common.{ℕ, zero, suc, List, [], ◌∷◌, map, true, Option, Some, Result, refl, ap, ◌∙◌}
 use Rattle.scheme_model.specs.Keywords.{CoreKeyword, IsQuote, IsQuasiquote, IsLambda, IsCaseLambda, IsIf, IsSet, IsBegin, IsDefine, IsDefineValues, IsDefineRecordType, IsDefineSyntax, IsLetSyntax, IsLetrecSyntax, IsCondExpand, IsSyntaxError, IsInclude}
 use Rattle.scheme_model.specs.Trees.{Tree, name, atom, list, vector, Trees, no_trees, tree, Tail}
 use Rattle.scheme_model.specs.ExpansionFaults.{Named, Fault}
@@ -15,7 +15,7 @@ use Rattle.renumbering_laws.proofs.Sides.{no_macro, a_macro, Sides, Macros}
 use Rattle.renumbering_laws.proofs.MovingSteps.{Reads}
 use Rattle.renumbering_laws.proofs.MovedShapes.{proper_of-map, definition_of-map, values_of-map, record_of-map, syntax_of-map}
 use Rattle.renumbering_laws.proofs.MovedRequirements.{chosen_of-map}
-use Rattle.renumbering_laws.proofs.SideSteps.{moved, goes, goes_bind, meets_bind, Told, goes_of, goes_read, here_seen, counting_goes}
+use Rattle.renumbering_laws.proofs.SideSteps.{moved, goes_bind, meets_bind, Told, goes_of, goes_read, here_seen, counting_goes}
 use Rattle.renumbering_laws.proofs.SideUses.{head_moved, keyword_seen, head_goes, target_goes, use_goes, comparisons_goes}
 use Rattle.renumbering_laws.proofs.SideForms.{parts_of_seen, forms_at_seen, or_none_seen, pending_two, Ran, ran, ran_at, OneGo, TwoGo, RanLaw, caught_goes, noted_seen, binder_seen, Renames, define_step, put_goes, first_goes, use_put_goes, define_goes, values_goes, record_goes, note_goes, rules_parts_goes, rules_at_goes}
 

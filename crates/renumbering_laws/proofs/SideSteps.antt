@@ -3,14 +3,12 @@ use Rattle.std.proofs.Common.{◌≡◌, ℕ, zero, suc, ◌+◌, Bool, true, fa
 use Rattle.std.specs.Prelude.{nat_le}
 use Rattle.scheme_model.specs.declared.Occ.{Occ}
 use Rattle.scheme_model.specs.Ident.{Ident, Written, Inserted}
-use Rattle.scheme_model.specs.Trees.{Tree, name, atom, list, vector, Trees, no_trees, tree, Tail, proper, dotted, map_tree, map_trees, map_tail}
-use Rattle.scheme_model.specs.ExpansionFaults.{Named, named_map, Fault, BadRules, TwoEllipses, DuplicateVariable, EllipsisDepth, IdleEllipsis, NoRule, EllipsisLength, BadForm, DuplicateBinder, BadPlace, BadRecord, BadQuasi, KeywordRedefined, Duplicate, KeywordAsValue, UseBudget, NodeBudget, DepthBudget, SyntaxError, IncludeRefused, OutOfTurns, fault_map}
-use Rattle.scheme_model.specs.RulesShape.{Rule, Rules, rule_map, rules_map, option_map}
+use Rattle.scheme_model.specs.Trees.{Tree, name, atom, list, vector}
+use Rattle.scheme_model.specs.ExpansionFaults.{Fault, NodeBudget}
 use Rattle.scheme_model.specs.Steps.{Broken, Step, ◌>>=◌, done, fails}
 use Rattle.scheme_model.specs.Order.{Here, given, counting, max_nodes, read_name, or_here, here_at}
 use Rattle.scheme_model.specs.Expression.{node}
-use Rattle.scheme_model.proofs.RenamingLaws.{map_turned}
-use Rattle.renumbering_laws.specs.Moving.{Change, move_tree, move_trees, move_tail, move_named, move_fault, move_rule, move_rules}
+use Rattle.renumbering_laws.specs.Moving.{Change, move_tree}
 use Rattle.renumbering_laws.specs.Renumbering.{place, ident, with_places, broken_as, result_as}
 use Rattle.renumbering_laws.proofs.MovedParts.{move_result, Moves}
 use Rattle.renumbering_laws.proofs.Sides.{Sides}

@@ -1,14 +1,14 @@
 -- The forms of a unit on both sides: what they set aside, what each comes to, and where work ends.
-use Rattle.std.proofs.Common.{◌≡◌, ℕ, ◌+◌, List, [], ◌∷◌, map, Bool, true, false, cond, Option, Some, None, Result, Ok, Err, refl, sym, ap, ◌∙◌, subst}
+use Rattle.std.proofs.Common.{◌≡◌, ℕ, ◌+◌, List, [], ◌∷◌, map, Bool, true, false, cond, Option, Some, None, Result, Ok, Err, refl, sym, ap, subst}
 use Rattle.std.specs.Prelude.{nat_lt}
 use Rattle.scheme_model.specs.Trees.{Tree}
 use Rattle.scheme_model.specs.RulesShape.{option_map}
 use Rattle.scheme_model.specs.Cores.{Parts, Part}
 use Rattle.scheme_model.specs.Steps.{Broken}
-use Rattle.scheme_model.specs.Order.{Item, Left, Note, Pass, run}
+use Rattle.scheme_model.specs.Order.{Item, Left, Note, Pass}
 use Rattle.scheme_model.specs.Expression.{expand, item_part}
 use Rattle.scheme_model.specs.Substitution.{note_map}
-use Rattle.scheme_model.specs.UnitExpansion.{Formed, max_depth, Work, ◌then◌, going, max_total, nodes_in, unless_over, LeftOf, one_form, passes, with_part, before_parts, items_parts, form_parts, finished, unit}
+use Rattle.scheme_model.specs.UnitExpansion.{Formed, max_depth, Work, ◌then◌, max_total, nodes_in, unless_over, LeftOf, one_form, passes, with_part, before_parts, items_parts, form_parts, finished, unit}
 use Rattle.scheme_model.proofs.RenamingLaws.{map_turned}
 use Rattle.renumbering_laws.specs.Renumbering.{Renumbering, result_as, part_as, parts_as, left_as, item_as, formed_as, numbered_as, left_of_as, pass_as}
 use Rattle.renumbering_laws.proofs.Sides.{Sides}

@@ -1,5 +1,5 @@
 -- An identifier seen by what it came from, or by its symbol, before a change and after it.
-use Rattle.std.proofs.Common.{◌≡◌, map, Option, Some, None, refl, ap}
+use Rattle.std.proofs.Common.{◌≡◌, Option, Some, None, refl, ap}
 use Rattle.scheme_model.specs.declared.Occ.{Occ}
 use Rattle.scheme_model.specs.Trees.{Tree, name, atom, list, vector, Trees, no_trees, tree, Tail, proper, dotted, map_tree, map_trees, map_tail}
 use Rattle.scheme_model.specs.ExpansionFaults.{Named, named_map, Fault, BadRules, TwoEllipses, DuplicateVariable, EllipsisDepth, IdleEllipsis, NoRule, EllipsisLength, BadForm, DuplicateBinder, BadPlace, BadRecord, BadQuasi, KeywordRedefined, Duplicate, KeywordAsValue, UseBudget, NodeBudget, DepthBudget, SyntaxError, IncludeRefused, OutOfTurns, fault_map}

@@ -1,5 +1,5 @@
 -- A unit of a program under another number: the states in which it begins correspond, and its forms come to the same.
-use Rattle.std.proofs.Common.{◌≡◌, [], map, refl, sym, subst}
+use Rattle.std.proofs.Common.{[], map, refl, sym, subst}
 use Rattle.scheme_model.specs.RulesShape.{option_map}
 use Rattle.scheme_model.specs.Ident.{Written}
 use Rattle.scheme_model.specs.Requirements.{Known}
@@ -20,8 +20,22 @@ module _ (r : Renumbering) (o : IsOneToOne r) (known : Known) (p q : Prepared) (
   module _ (g h : Progress) (moves : UnitMoves r p q g.table h.table) (so_far : ProgressMoves r g h) where
     begins : StatesRest r p.number (start_of p g.table g.macros entry) (start_of q h.table h.macros entry')
     begins f = record {
-      at = refl; unit = moves.number; program = moves.kind; form = refl; locals = λ g. refl; uses = λ g. refl; nodes = λ g. refl; bodies = λ g. refl; keywords = λ g. refl; met = λ g. refl;
-      table = so_far.table; counts = moves.counts; entry = entries; macros = so_far.macros; in_body = refl; mine = refl;
+      at = refl;
+      unit = moves.number;
+      program = moves.kind;
+      form = refl;
+      locals = λ g. refl;
+      uses = λ g. refl;
+      nodes = λ g. refl;
+      bodies = λ g. refl;
+      keywords = λ g. refl;
+      met = λ g. refl;
+      table = so_far.table;
+      counts = moves.counts;
+      entry = entries;
+      macros = so_far.macros;
+      in_body = refl;
+      mine = refl;
     }
 
     pub unit_moved : FormsMove r p q
@@ -33,8 +47,22 @@ module _ (r : Renumbering) (o : IsOneToOne r) (known : Known) (p q : Prepared) (
   module _ (w : IsOnto r) (g h : ScopedProgress) (moves : UnitMoves r p q g.table h.table) (so_far : ScopedProgressMoves r w g h) where
     scoped_begins : ScopedRest r w p.number (scoped_start_of p g entry) (scoped_start_of q h entry')
     scoped_begins f = record {
-      at = refl; unit = moves.number; program = moves.kind; form = refl; locals = λ g. refl; uses = refl; nodes = λ g. refl; bodies = λ g. refl; keywords = λ g. refl; met = λ g. refl;
-      table = so_far.table; counts = moves.counts; entry = entries; macros = so_far.macros; places = so_far.places; definitions = so_far.definitions;
+      at = refl;
+      unit = moves.number;
+      program = moves.kind;
+      form = refl;
+      locals = λ g. refl;
+      uses = refl;
+      nodes = λ g. refl;
+      bodies = λ g. refl;
+      keywords = λ g. refl;
+      met = λ g. refl;
+      table = so_far.table;
+      counts = moves.counts;
+      entry = entries;
+      macros = so_far.macros;
+      places = so_far.places;
+      definitions = so_far.definitions;
     }
 
     pub scoped_unit_moved : ScopedFormsMove r p q → IsRenumbered (option_map (map (formed_as r p.number))) (ScopedRest r w p.number) (scoped_unit_over known p (scoped_start_of p g entry)) (scoped_unit_over known q (scoped_start_of q h entry'))

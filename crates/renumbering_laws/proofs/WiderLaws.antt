@@ -73,7 +73,20 @@ together = refl
 
 abbrev start : ScopedState
 start = record {
-  unit = 3; program = true; form = 5; locals = λ f. 0; uses = λ f. 0; nodes = λ f. 0; bodies = λ f. 0; keywords = λ f. []; met = λ f. []; table = []; entry = λ u s. Some (Standard s); macros = []; places = []; definitions = [];
+  unit = 3;
+  program = true;
+  form = 5;
+  locals = λ f. 0;
+  uses = λ f. 0;
+  nodes = λ f. 0;
+  bodies = λ f. 0;
+  keywords = λ f. [];
+  met = λ f. [];
+  table = [];
+  entry = λ u s. Some (Standard s);
+  macros = [];
+  places = [];
+  definitions = [];
 }
 
 abbrev symbol : List ℕ → Tree Ident

@@ -1,6 +1,6 @@
 -- Renumberings: other numbers for units, for the forms of each unit and for its definitions, and what becomes of all that a form
 -- is and comes to.
-use Rattle.std.specs.Prelude.{◌≡◌, ℕ, ◌==◌, List, map, Option, Some, None, Result, Ok, Err}
+use Rattle.std.specs.Prelude.{◌≡◌, ℕ, ◌==◌, map, Option, Some, None, Result, Ok, Err}
 use Rattle.scheme_model.specs.declared.Occ.{Occ}
 use Rattle.scheme_model.specs.Identifiers.{Number, Name, Written as WrittenName, Inserted as InsertedName, Inner, Var}
 use Rattle.scheme_model.specs.Ident.{Ident, Written, Inserted}

@@ -1,7 +1,7 @@
 -- Units of a program under other numbers (R7RS 5.1, 5.6), and what was expanded before them.
-use Rattle.std.specs.Prelude.{◌≡◌, ℕ, map}
+use Rattle.std.specs.Prelude.{◌≡◌, map}
 use Rattle.scheme_model.specs.Ident.{Written}
-use Rattle.scheme_model.specs.Substitution.{definition_count, Table, Entries}
+use Rattle.scheme_model.specs.Substitution.{definition_count, Table}
 use Rattle.scheme_model.specs.Program.{Prepared, Progress, is_program, form_trees, prelude_unit}
 use Rattle.scheme_model.specs.ScopedProgram.{ScopedProgress, forms_over}
 use Rattle.renumbering_laws.specs.Renumbering.{Renumbering, ident, named_as, numbered_as}

@@ -1,6 +1,5 @@
 use Rattle.renumbering_laws.proofs.ProgramArrowLaws.{program_arrows_renumbered}
 use Rattle.renumbering_laws.proofs.laws.arrows_are_renumbered.Goals as goal
-
 use Rattle.std.proofs.Common.{map, refl}
 use Rattle.renumbering_laws.specs.Arrows.{name_use_as}
 

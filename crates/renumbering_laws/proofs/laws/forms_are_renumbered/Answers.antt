@@ -1,7 +1,6 @@
 use Rattle.renumbering_laws.proofs.SideLaws.{set_aside_law, finished_law, unit_law}
 use Rattle.renumbering_laws.proofs.ScopedSide.{scoped_sides}
 use Rattle.renumbering_laws.proofs.laws.forms_are_renumbered.Goals as goal
-
 use Rattle.std.proofs.Common.{[], refl}
 
 pub returns : goal.returns
