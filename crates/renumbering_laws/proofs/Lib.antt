@@ -32,3 +32,4 @@ pub mod PairedLaws  -- Paired units and forms give a renumbering
 pub mod ProgramArrowLaws  -- The arrows of the units of a program under other numbers
 pub mod RenumberingRows  -- A form under other numbers, computed
 pub mod WiderLaws  -- What wider laws would break, computed
+pub mod ArrowOrders  -- Arrows are told by which leaves, keywords and names there are, and not by their order

@@ -22,7 +22,7 @@ ghost use Rattle.renumbering_laws.specs.ScopedStates.{IsOnto, scoped_pending, sc
 ghost use Rattle.renumbering_laws.specs.NewStates.{HasInverse, state_new, scoped_state_new};
 ghost use Rattle.renumbering_laws.specs.Units.{KeepsPrelude, ProgressMoves, ScopedProgressMoves, UnitMoves, FormsMove, ScopedFormsMove};
 ghost use Rattle.renumbering_laws.specs.Pairings.{ArePairs, IsAside, Sends, forth, paired};
-ghost use Rattle.renumbering_laws.specs.Arrows.{UnitsMove, name_use_as, arrow_as};
+ghost use Rattle.renumbering_laws.specs.Arrows.{leaf_as, name_use_as, arrow_as, UnitsMove, SameMembers, UnitsMoveAround, BoundAlike};
 
 /// A form of a unit comes to the same under other numbers of units, of the forms of each and of its definitions (R7RS 4.3, 5.3). In states
 /// that correspond, going through it sets the same aside, and notes, meets and defines the same; what it set aside is expanded to the
@@ -79,8 +79,12 @@ pub fn units_are_renumbered()
     ensures same_forms { (r : Renumbering) (p q : Prepared) → q.number ≡ r.unit p.number → q.forms ≡ p.forms → ((n : ℕ) → r.form p.number n ≡ n) → FormsMove r p q × ScopedFormsMove r p q }
 {}
 
-/// The arrows of units whose forms come to the same are the same, renumbered, where the names in imports and exports and what units define are.
+/// The arrows of units whose forms come to the same are the same, renumbered, where the names in imports and exports and what units define
+/// are (DrRacket's Check Syntax). Where the units come in another order, the same arrows are told in another order.
 pub fn arrows_are_renumbered()
-    ensures { (r : Renumbering) (us vs : List UnitResult) (names : List NameUse) (table table' : Table) → IsOneToOne r → UnitsMove r us vs → TablesMove r table table' →
+    ensures in_order { (r : Renumbering) (us vs : List UnitResult) (names : List NameUse) (table table' : Table) → IsOneToOne r → UnitsMove r us vs → TablesMove r table table' →
         arrows_with (program_leaves vs) (program_keywords vs) (map (name_use_as r) names) table' ≡ map (arrow_as r) (arrows_with (program_leaves us) (program_keywords us) names table) }
+    ensures in_any_order { (r : Renumbering) (us vs : List UnitResult) (names names' : List NameUse) (table table' : Table) →
+        IsOneToOne r → UnitsMoveAround r us vs → BoundAlike (map (leaf_as r) (program_leaves us)) (program_leaves vs) → SameMembers (map (name_use_as r) names) names' → TablesMove r table table' →
+        SameMembers (map (arrow_as r) (arrows_with (program_leaves us) (program_keywords us) names table)) (arrows_with (program_leaves vs) (program_keywords vs) names' table') }
 {}
