@@ -1,6 +1,6 @@
 -- Arrows are told by which leaves, keywords and names there are, and not by their order.
-use Rattle.std.proofs.Common.{◌≡◌, ◌⊎◌, inl, inr, ◌↔◌, List, [], ◌∷◌, ◌++◌, map, Bool, true, false, cond, Option, Some, None, refl, sym, ap, ◌∙◌, subst}
-use Rattle.std.specs.Prelude.{◌||◌, not}
+use Rattle.std.proofs.Common.{◌≡◌, ◌⊎◌, inl, inr, List, [], ◌∷◌, ◌++◌, map, Bool, true, false, Option, Some, None, refl, sym, ap, ◌∙◌, subst}
+use Rattle.std.specs.Prelude.{◌||◌}
 use Rattle.scheme_model.specs.declared.Occ.{Occ}
 use Rattle.scheme_model.specs.Meaning.{Meaning, Local, Global, Standard, Free}
 use Rattle.scheme_model.specs.Cores.{Target}
@@ -15,7 +15,7 @@ use Rattle.renumbering_laws.proofs.ArrowLaws.{unit_leaves_moved, keywords_moved,
 
 -- ---- members
 
-abbrev Sub : {X : Type 0} → List X → List X → Type 0
+abbrev pub Sub : {X : Type 0} → List X → List X → Type 0
 Sub {X} xs ys = (x : X) → IsIn x xs → IsIn x ys
 
 in_left : {X : Type 0} (x : X) (xs ys : List X) → IsIn x xs → IsIn x (xs ++ ys)
@@ -43,19 +43,19 @@ append_sub xs ys zs ws f g x h = go (in_either x xs ys h)
     go (inl k) = in_left x zs ws (f x k)
     go (inr k) = in_right x zs ws (g x k)
 
-in_map : {X Y : Type 0} (g : X → Y) (x : X) (xs : List X) → IsIn x xs → IsIn (g x) (map g xs)
+pub in_map : {X Y : Type 0} (g : X → Y) (x : X) (xs : List X) → IsIn x xs → IsIn (g x) (map g xs)
 in_map g x [] h = absurd h
 in_map g x (y ∷ ys) (inl e) = inl (ap g e)
 in_map g x (y ∷ ys) (inr h) = inr (in_map g x ys h)
 
-from_map : {X Y : Type 0} (g : X → Y) (xs : List X) (y : Y) → IsIn y (map g xs) → (x : X) × IsIn x xs × (g x ≡ y)
+pub from_map : {X Y : Type 0} (g : X → Y) (xs : List X) (y : Y) → IsIn y (map g xs) → (x : X) × IsIn x xs × (g x ≡ y)
 from_map g [] y h = absurd h
 from_map g (x ∷ xs) y (inl e) = (x, inl refl, e)
 from_map g (x ∷ xs) y (inr h) = let q = from_map g xs y h in (q.0, inr q.1, q.2)
 
 -- ---- what is gathered of each element
 
-abbrev gathered : {X Y : Type 0} → (X → List Y) → List X → List Y
+abbrev pub gathered : {X Y : Type 0} → (X → List Y) → List X → List Y
 gathered f [] = []
 gathered f (x ∷ xs) = f x ++ gathered f xs
 
@@ -138,7 +138,7 @@ arrows_sub b live ls ms ks js ns ps f g h =
 
 -- ---- live occurrences
 
-any_in : {X : Type 0} (f : X → Bool) (xs : List X) → any f xs ≡ true → (x : X) × IsIn x xs × (f x ≡ true)
+pub any_in : {X : Type 0} (f : X → Bool) (xs : List X) → any f xs ≡ true → (x : X) × IsIn x xs × (f x ≡ true)
 any_in f [] h = absurd cc
 any_in {X} f (x ∷ xs) h = go (any_in f xs) (f x) refl h
   where
@@ -146,7 +146,7 @@ any_in {X} f (x ∷ xs) h = go (any_in f xs) (f x) refl h
     go more true e k = (x, inl refl, e)
     go more false e k = let q = more k in (q.0, inr q.1, q.2)
 
-in_any : {X : Type 0} (f : X → Bool) (xs : List X) (x : X) → IsIn x xs → f x ≡ true → any f xs ≡ true
+pub in_any : {X : Type 0} (f : X → Bool) (xs : List X) (x : X) → IsIn x xs → f x ≡ true → any f xs ≡ true
 in_any f [] x h e = absurd h
 in_any f (y ∷ ys) x (inl d) e = let t = ap f d ∙ e in λ j. t j || any f ys
 in_any f (y ∷ ys) x (inr h) e = go (f y) (in_any f ys x h e)
@@ -155,7 +155,7 @@ in_any f (y ∷ ys) x (inr h) e = go (f y) (in_any f ys x h e)
     go true k = refl
     go false k = k
 
-any_same : {X : Type 0} (f : X → Bool) (xs ys : List X) → SameMembers xs ys → any f ys ≡ any f xs
+pub any_same : {X : Type 0} (f : X → Bool) (xs ys : List X) → SameMembers xs ys → any f ys ≡ any f xs
 any_same f xs ys s = go (any f xs) (any f ys) refl refl
   where
     go : (t u : Bool) → any f xs ≡ t → any f ys ≡ u → u ≡ t
@@ -197,15 +197,15 @@ module _ (r : Renumbering) (us vs : List UnitResult) (moves : UnitsMoveAround r 
         there : IsIn x (map g (of us)) → IsIn x (of vs)
         there h =
             let p = from_map g (of us) x h in let q = from_gathered part us p.0 (subst (IsIn p.0) (by_parts us) p.1) in let v = moves.there q.0 q.1 in
-            subst (IsIn x) (sym (by_parts vs)) (in_gathered part v.0 vs v.1 x (subst (IsIn x) (sym (moved q.0 v.0 v.2)) (subst (λ y. IsIn y (map g (part q.0))) p.2 (in_map g p.0 (part q.0) q.2))))
+            subst (IsIn x) (sym (by_parts vs)) (in_gathered part v.0 vs v.1 x (subst (IsIn x) (sym (moved q.0 v.0 v.2.0)) (subst (λ y. IsIn y (map g (part q.0))) p.2 (in_map g p.0 (part q.0) q.2))))
 
         back : IsIn x (of vs) → IsIn x (map g (of us))
         back h =
             let q = from_gathered part vs x (subst (IsIn x) (by_parts vs) h) in let u = moves.back q.0 q.1 in
-            let p = from_map g (part u.0) x (subst (IsIn x) (moved u.0 q.0 u.2) q.2) in
+            let p = from_map g (part u.0) x (subst (IsIn x) (moved u.0 q.0 u.2.0) q.2) in
             subst (λ y. IsIn y (map g (of us))) p.2 (in_map g p.0 (of us) (subst (IsIn p.0) (sym (by_parts us)) (in_gathered part u.0 us u.1 p.0 p.1)))
 
-  leaves_by_units : (ws : List UnitResult) → program_leaves ws ≡ gathered (λ u. unit_leaves u.forms) ws
+  pub leaves_by_units : (ws : List UnitResult) → program_leaves ws ≡ gathered (λ u. unit_leaves u.forms) ws
   leaves_by_units [] = refl
   leaves_by_units (u ∷ ws) = ap (λ ls. unit_leaves u.forms ++ ls) (leaves_by_units ws)
 

@@ -19,6 +19,7 @@ named_pending r p = pending_as r (named_as r) (named_as r) p
 abbrev pub named_pass : Renumbering → Pass Name Name → Pass Name Name
 named_pass r p = pass_as r (named_as r) (named_as r) p
 
+-- each name with its place
 abbrev pub names_change : Renumbering → Change Name Name
 names_change r = with_places r (named_as r)
 

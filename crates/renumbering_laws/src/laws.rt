@@ -13,7 +13,8 @@ ghost use Rattle.scheme_model.specs.CountedExpansion.{counted};
 ghost use Rattle.scheme_model.specs.UnitExpansion.{unit};
 ghost use Rattle.scheme_model.specs.FormsAlike.{finish_by};
 ghost use Rattle.scheme_model.specs.Live.{NameUse};
-ghost use Rattle.scheme_model.specs.Program.{Prepared, Progress, UnitResult, start_of, form_trees, unit_over, prelude_unit, progress_before};
+ghost use Rattle.scheme_model.specs.Entries.{Entry};
+ghost use Rattle.scheme_model.specs.Program.{Prepared, Progress, UnitResult, ExportSpec, names_of_unit, export_all, start_of, form_trees, unit_over, prelude_unit, progress_before};
 ghost use Rattle.scheme_model.specs.ScopedProgram.{ScopedProgress, scoped_start_of, scoped_unit_over, scoped_before};
 ghost use Rattle.scheme_model.specs.ProgramArrows.{program_leaves, program_keywords, arrows_with};
 ghost use Rattle.renumbering_laws.specs.Renumbering.{Renumbering, IsOneToOne, ident, named_as, result_as, left_as, parts_as, formed_as, numbered_as, IsRenumbered};
@@ -21,8 +22,9 @@ ghost use Rattle.renumbering_laws.specs.States.{named_pending, named_pass, Table
 ghost use Rattle.renumbering_laws.specs.ScopedStates.{IsOnto, scoped_pending, scoped_pass, ScopedMove, ScopedRest};
 ghost use Rattle.renumbering_laws.specs.NewStates.{HasInverse, state_new, scoped_state_new};
 ghost use Rattle.renumbering_laws.specs.Units.{KeepsPrelude, ProgressMoves, ScopedProgressMoves, UnitMoves, FormsMove, ScopedFormsMove};
+ghost use Rattle.renumbering_laws.specs.Exports.{entry_as, export_as, exported_as};
 ghost use Rattle.renumbering_laws.specs.Pairings.{ArePairs, IsAside, Sends, forth, paired};
-ghost use Rattle.renumbering_laws.specs.Arrows.{leaf_as, name_use_as, arrow_as, UnitsMove, SameMembers, UnitsMoveAround, BoundAlike};
+ghost use Rattle.renumbering_laws.specs.Arrows.{leaf_as, name_use_as, arrow_as, UnitsMove, SameMembers, UnitsMoveAround, BoundAlike, AreApart};
 
 /// A form of a unit comes to the same under other numbers of units, of the forms of each and of its definitions (R7RS 4.3, 5.3). In states
 /// that correspond, going through it sets the same aside, and notes, meets and defines the same; what it set aside is expanded to the
@@ -79,12 +81,20 @@ pub fn units_are_renumbered()
     ensures same_forms { (r : Renumbering) (p q : Prepared) → q.number ≡ r.unit p.number → q.forms ≡ p.forms → ((n : ℕ) → r.form p.number n ≡ n) → FormsMove r p q × ScopedFormsMove r p q }
 {}
 
+/// What a unit exports, and the faults of its exports, are the same, renumbered, where what it imports and what units define are (R7RS 5.6).
+pub fn exports_are_renumbered()
+    ensures { (r : Renumbering) (table table' : Table) (u : ℕ) (imports : List Entry) (exports : List ExportSpec) → TablesMove r table table' →
+        export_all (names_of_unit table' (r.unit u) (map (entry_as r) imports)) [] (map (export_as r u) exports) ≡ exported_as r u (export_all (names_of_unit table u imports) [] exports) }
+{}
+
 /// The arrows of units whose forms come to the same are the same, renumbered, where the names in imports and exports and what units define
-/// are (DrRacket's Check Syntax). Where the units come in another order, the same arrows are told in another order.
+/// are (DrRacket's Check Syntax). Where the units come in another order, the same arrows are told in another order, since each local is
+/// bound in its unit.
 pub fn arrows_are_renumbered()
     ensures in_order { (r : Renumbering) (us vs : List UnitResult) (names : List NameUse) (table table' : Table) → IsOneToOne r → UnitsMove r us vs → TablesMove r table table' →
         arrows_with (program_leaves vs) (program_keywords vs) (map (name_use_as r) names) table' ≡ map (arrow_as r) (arrows_with (program_leaves us) (program_keywords us) names table) }
     ensures in_any_order { (r : Renumbering) (us vs : List UnitResult) (names names' : List NameUse) (table table' : Table) →
         IsOneToOne r → UnitsMoveAround r us vs → BoundAlike (map (leaf_as r) (program_leaves us)) (program_leaves vs) → SameMembers (map (name_use_as r) names) names' → TablesMove r table table' →
         SameMembers (map (arrow_as r) (arrows_with (program_leaves us) (program_keywords us) names table)) (arrows_with (program_leaves vs) (program_keywords vs) names' table') }
+    ensures bound_alike { (r : Renumbering) (us vs : List UnitResult) → IsOneToOne r → UnitsMoveAround r us vs → AreApart us → BoundAlike (map (leaf_as r) (program_leaves us)) (program_leaves vs) }
 {}
