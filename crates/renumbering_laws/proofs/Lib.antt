@@ -1,15 +1,15 @@
 pub mod MovedParts  -- What changes of identifiers and of places make of all else that is read of a form
 pub mod MovingSteps  -- Steps of laws of changes
 pub mod Turned  -- An identifier seen by what it came from, or by its symbol, before a change and after it
-pub mod MovedShapes  -- Reading the shape of a core form commutes with a renaming that tells identifiers apart
-pub mod MovedPatterns  -- What rules tell of their patterns and templates, once each identifier is renamed
-pub mod MovedRules  -- Reading and checking the rules of a macro commutes with a renaming that tells identifiers apart
-pub mod MovedComparisons  -- Which literals of rules are compared with which identifiers of a use, once both sides are renamed
-pub mod MovedMatches  -- Matching commutes with renamings of the rules and of the form under which rules tell their identifiers alike, and literals mean the same
-pub mod MovedBuilds  -- Building an instance of a template commutes with renamings of the template and of what its variables stand for
-pub mod MovedLeaves  -- The leaves of rules that mean something where their macro is defined, once each identifier is renamed
+pub mod MovedShapes  -- Reading the shape of a core form commutes with a change that tells identifiers apart
+pub mod MovedPatterns  -- What rules tell of their patterns and templates, once each identifier and each place is changed
+pub mod MovedRules  -- Reading and checking the rules of a macro commutes with a change that tells identifiers apart
+pub mod MovedComparisons  -- Which literals of rules are compared with which identifiers of a use, once both sides are changed
+pub mod MovedMatches  -- Matching commutes with changes of the rules and of the form under which rules tell their identifiers alike, and literals mean the same
+pub mod MovedBuilds  -- Building an instance of a template commutes with changes of the template and of what its variables stand for
+pub mod MovedLeaves  -- The leaves of rules that mean something where their macro is defined, once each identifier and each place is changed
 pub mod MovedQuasi  -- Reading a quasiquotation commutes with a change under which each identifier marks the same
-pub mod MovedRequirements  -- Reading `cond-expand` commutes with a renaming that keeps symbols
+pub mod MovedRequirements  -- Reading `cond-expand` commutes with a change that keeps symbols
 pub mod OneToOne  -- A one to one renumbering tells numbers, identifiers and meanings apart
 pub mod Sides  -- Two records of operations, of which the second does what the first does, renumbered
 pub mod SideSteps  -- Steps on both sides

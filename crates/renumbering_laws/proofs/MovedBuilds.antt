@@ -1,4 +1,4 @@
--- Building an instance of a template commutes with renamings of the template and of what its variables stand for.
+-- Building an instance of a template commutes with changes of the template and of what its variables stand for.
 use Rattle.std.proofs.Common.{◌≡◌, ℕ, zero, suc, ◌+◌, List, [], ◌∷◌, map, Bool, Option, Some, None, refl, sym, ap, ◌∙◌, subst}
 use Rattle.std.specs.Prelude.{◌||◌, ◌&&◌, nat_le, is_some}
 use Rattle.scheme_model.specs.declared.Occ.{Occ}

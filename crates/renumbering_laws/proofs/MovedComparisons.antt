@@ -1,4 +1,4 @@
--- Which literals of rules are compared with which identifiers of a use, once both sides are renamed.
+-- Which literals of rules are compared with which identifiers of a use, once both sides are changed.
 use Rattle.std.proofs.Common.{◌≡◌, ℕ, zero, suc, ◌-◌, ◌*◌, List, [], ◌∷◌, ◌++◌, map, Bool, true, false, refl, sym, ap, ◌∙◌}
 use Rattle.std.specs.Prelude.{nat_le}
 use Rattle.scheme_model.specs.Trees.{Tree, name, atom, list, vector, Trees, no_trees, tree, Tail, proper, dotted}

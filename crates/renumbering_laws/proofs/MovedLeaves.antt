@@ -1,4 +1,4 @@
--- The leaves of rules that mean something where their macro is defined, once each identifier is renamed.
+-- The leaves of rules that mean something where their macro is defined, once each identifier and each place is changed.
 use Rattle.std.proofs.Common.{◌≡◌, List, [], ◌∷◌, ◌++◌, map, Bool, true, false, refl, ap, ◌∙◌}
 use Rattle.std.specs.Prelude.{◌||◌}
 use Rattle.scheme_model.specs.Trees.{Tree, name, atom, list, vector, Trees, no_trees, tree, Tail, proper, dotted}

@@ -1,4 +1,4 @@
--- Matching commutes with renamings of the rules and of the form under which rules tell their identifiers alike, and literals
+-- Matching commutes with changes of the rules and of the form under which rules tell their identifiers alike, and literals
 -- mean the same.
 use Rattle.std.proofs.Common.{◌≡◌, ℕ, ◌-◌, List, [], ◌∷◌, map, Bool, true, false, cond, Option, Some, None, refl, sym, ap, ◌∙◌, subst}
 use Rattle.std.specs.Prelude.{nat_le}

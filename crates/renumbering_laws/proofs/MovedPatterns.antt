@@ -1,4 +1,4 @@
--- What rules tell of their patterns and templates, once each identifier is renamed: ellipses, variables, depths.
+-- What rules tell of their patterns and templates, once each identifier and each place is changed: ellipses, variables, depths.
 use Rattle.std.proofs.Common.{◌≡◌, ℕ, suc, ◌+◌, List, [], ◌∷◌, map, Bool, true, false, not, cond, Option, Some, None, refl, ap, ◌∙◌}
 use Rattle.std.specs.Prelude.{◌||◌, ◌&&◌, nat_lt}
 use Rattle.scheme_model.specs.declared.Occ.{Occ}

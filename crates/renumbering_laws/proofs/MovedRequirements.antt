@@ -1,4 +1,4 @@
--- Reading `cond-expand` commutes with a renaming that keeps symbols.
+-- Reading `cond-expand` commutes with a change that keeps symbols.
 use Rattle.std.proofs.Common.{◌≡◌, ℕ, List, Bool, true, false, Option, Ok, codes, refl, ap}
 use Rattle.std.specs.Str.{bytes_eq}
 use Rattle.scheme_model.specs.Trees.{Atom, Numeral, Quoted, Character, Boolean, Bytes, Tree, name, atom, list, vector, Trees, no_trees, tree, Tail, proper, dotted}

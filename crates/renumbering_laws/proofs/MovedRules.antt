@@ -1,4 +1,4 @@
--- Reading and checking the rules of a macro commutes with a renaming that tells identifiers apart.
+-- Reading and checking the rules of a macro commutes with a change that tells identifiers apart.
 use Rattle.std.proofs.Common.{◌≡◌, ℕ, ◌+◌, List, [], ◌∷◌, map, Bool, cond, Option, Some, None, Result, Ok, Err, codes, refl, sym, ap, ◌∙◌, subst}
 use Rattle.std.specs.Prelude.{◌||◌}
 use Rattle.std.specs.Str.{bytes_eq}
