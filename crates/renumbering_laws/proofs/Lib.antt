@@ -25,7 +25,6 @@ pub mod ScopedSide  -- Expansion by scopes, where a local is told by its count a
 pub mod ArrowLaws  -- Arrows of renumbered leaves, keywords and names are those before, renumbered
 pub mod PreludeLaws  -- The prelude under a renumbering that keeps its unit and its form
 pub mod RenumberedStates  -- Each state corresponds to itself under new numbers, so the law speaks of every state
-pub mod UnitLaws  -- A unit of a program under another number
 pub mod DatumLaws  -- The tree of a datum as a form with another number of a unit with another number
 pub mod PairingLaws  -- A pairing is a renumbering with an inverse
 pub mod PairedLaws  -- Units and forms that are paired give a renumbering with an inverse, which keeps the prelude where this stands in no pair
@@ -35,3 +34,5 @@ pub mod WiderLaws  -- What wider laws would break, computed
 pub mod ArrowOrders  -- Arrows are told by which leaves, keywords and names there are, and not by their order
 pub mod BoundLocals  -- Where each unit binds locals of its own number, each local is bound at one place, in whatever order units come
 pub mod ExportLaws  -- What a unit exports under other numbers
+pub mod FormLaws  -- The law for a form, for what it set aside and for the forms of a unit, by scopes and by substitution, with what is defined since
+pub mod UnitLaws  -- A unit of a program under another number

@@ -9,14 +9,14 @@ use Rattle.scheme_model.specs.Requirements.{Known}
 use Rattle.scheme_model.specs.Trees.{map_trees}
 use Rattle.scheme_model.specs.RulesShape.{Rules, option_map}
 use Rattle.scheme_model.specs.Cores.{LocalNumber, Definition}
-use Rattle.scheme_model.specs.Order.{Pending, Renamed, is_some}
-use Rattle.scheme_model.specs.Substitution.{Defined, Clock, at_form, defined_in, definition_count, State, KeptMacro, number_at, means, rules_at, transformer_of, with_macro, any, asks, refused_in_body, refused_in_unit, is_mine, is_own, rules_mapped, own_rules, deep, shallow, pending_map, renamed, unchanged, defined_local, define_in_body, defined_global, define_in_unit, define, is_variable, model}
+use Rattle.scheme_model.specs.Order.{Pending, Renamed, Region, is_some}
+use Rattle.scheme_model.specs.Substitution.{Table, Defined, Clock, at_form, defined_in, definition_count, State, KeptMacro, number_at, means, rules_at, transformer_of, with_macro, any, asks, refused_in_body, refused_in_unit, is_mine, is_own, rules_mapped, own_rules, deep, shallow, pending_map, renamed, unchanged, defined_local, define_in_body, defined_global, define_in_unit, define, is_variable, model}
 use Rattle.scheme_model.proofs.RenamingLaws.{cond_map}
 use Rattle.scheme_model.proofs.IdentLaws.{number_told}
 use Rattle.renumbering_laws.specs.Moving.{Change, move_trees, move_named, move_rules}
 use Rattle.renumbering_laws.specs.Renumbering.{Renumbering, IsOneToOne, number, place, ident, named_as, meaning, target, bound, macro_use_as, counted_as, pending_as}
-use Rattle.renumbering_laws.specs.States.{defined_as, names_change, AtForms, ClocksMove, CountsOn, StatesMove}
-use Rattle.renumbering_laws.proofs.Sides.{no_macro, a_macro, regions, DefinedMoves, Sides, Macros}
+use Rattle.renumbering_laws.specs.States.{defined_as, names_change, AtForms, ClocksMove, CountsOn, DefinedAlike, StatesMove}
+use Rattle.renumbering_laws.proofs.Sides.{no_macro, a_macro, regions, DefinedMoves, Sides, Macros, Regions}
 use Rattle.renumbering_laws.proofs.OneToOne.{name_moved, same_moved}
 use Rattle.renumbering_laws.proofs.Turned.{trees_turned, rules_turned}
 use Rattle.renumbering_laws.proofs.NameLaws.{some_kept, erase_moved, strip_moved, plain_moved, at_forms_step, found_moved, means_moved, shallow_moved, deep_moved, asks_moved, mine_moved, own_moved, any_moved, pending_turned, variable_moved, table_step}
@@ -31,9 +31,16 @@ module _ (r : Renumbering) (o : IsOneToOne r) (u : ℕ) (known : Known) where
   abbrev pending_two : Pending Name Name → Pending Name Name
   pending_two p = pending_as r (named_as r) (named_as r) p
 
+  -- what is defined since is the same, renumbered
+  abbrev Grow : State → State → State → State → Type 0
+  Grow s s' t t' = (from from' : Table) → DefinedAlike r from from' s.table s'.table → DefinedAlike r from from' t.table t'.table
+
+  still : (s s' : State) → Grow s s' s s'
+  still s s' from from' g = g
+
   -- what comes of a definition on both sides
-  abbrev Defines : Result (Renamed Name Name) (Fault Ident) × State → Result (Renamed Name Name) (Fault Ident) × State → Type 0
-  Defines q q' = DefinedMoves r (named_as r) (named_as r) q.0 q'.0 × Moved q.1 q'.1
+  abbrev Defines : State → State → Result (Renamed Name Name) (Fault Ident) × State → Result (Renamed Name Name) (Fault Ident) × State → Type 0
+  Defines s s' q q' = DefinedMoves r (named_as r) (named_as r) q.0 q'.0 × Moved q.1 q'.1 × Grow s s' q.1 q'.1
 
   -- ---- numbers
 
@@ -171,22 +178,23 @@ module _ (r : Renumbering) (o : IsOneToOne r) (u : ℕ) (known : Known) where
       mine = let a = local_number in let b = l.mine in λ j. a j ∷ b j;
     }
 
-    body_case : (refused again : Bool) → Defines
+    body_case : (refused again : Bool) → Defines s s'
         (cond refused (Err (KeywordRedefined (named (erase n.name) n.occ)), s) (cond again (Err (Duplicate (named (erase n.name) n.occ)), s) (Ok (renamed (deep n.name v) p), defined_local n.name x s)))
         (cond refused (Err (KeywordRedefined (named (erase n'.name) n'.occ)), s') (cond again (Err (Duplicate (named (erase n'.name) n'.occ)), s') (Ok (renamed (deep n'.name (number_at s' s'.locals)) (pending_two p)), defined_local n'.name x' s')))
-    body_case true again = (ap (λ i. KeywordRedefined (named i (place r n.occ))) (erase_moved r n.name), l)
-    body_case false true = (ap (λ i. Duplicate (named i (place r n.occ))) (erase_moved r n.name), l)
+    body_case true again = (ap (λ i. KeywordRedefined (named i (place r n.occ))) (erase_moved r n.name), l, still s s')
+    body_case false true = (ap (λ i. Duplicate (named i (place r n.occ))) (erase_moved r n.name), l, still s s')
     body_case false false = (
       record {
         pending = ap (λ w. pending_map (deep n'.name w) (deep n'.name w) (pending_two p)) local_number ∙ pending_turned Name Name r (named_as r) (deep n.name v) (deep n'.name v') (deep_moved r o n.name v) p;
         rename = λ i. ap (λ w. deep n'.name w (named_as r i)) local_number ∙ deep_moved r o n.name v i;
       },
       local_step,
+      still s s',
     )
 
-    in_body_goes : Defines (define_in_body n x p s) (define_in_body n' x' (pending_two p) s')
+    in_body_goes : Defines s s' (define_in_body n x p s) (define_in_body n' x' (pending_two p) s')
     in_body_goes =
-        subst (λ (t : Bool × Bool). Defines (define_in_body n x p s) (cond t.0 (Err (KeywordRedefined (named (erase n'.name) n'.occ)), s') (cond t.1 (Err (Duplicate (named (erase n'.name) n'.occ)), s') (Ok (renamed (deep n'.name (number_at s' s'.locals)) (pending_two p)), defined_local n'.name x' s'))))
+        subst (λ (t : Bool × Bool). Defines s s' (define_in_body n x p s) (cond t.0 (Err (KeywordRedefined (named (erase n'.name) n'.occ)), s') (cond t.1 (Err (Duplicate (named (erase n'.name) n'.occ)), s') (Ok (renamed (deep n'.name (number_at s' s'.locals)) (pending_two p)), defined_local n'.name x' s'))))
         (sym (let a = body_refused_same in let b = ap (λ vs. is_mine vs n'.name) l.mine ∙ mine_moved r o s.mine n.name in λ j. (a j, b j)))
         (body_case body_refused (is_mine s.mine n.name))
 
@@ -228,6 +236,9 @@ module _ (r : Renumbering) (o : IsOneToOne r) (u : ℕ) (known : Known) where
       mine = l.mine;
     }
 
+    global_grows : Grow s s' (defined_global n x s) (defined_global n' x' s')
+    global_grows from from' g = record { added = d ∷ g.added; here = ap (λ t. d ∷ t) g.here; there = (let a = d_same in let b = g.there in λ j. a j ∷ b j) }
+
     abbrev after : State
     after = defined_global n x s
 
@@ -250,22 +261,22 @@ module _ (r : Renumbering) (o : IsOneToOne r) (u : ℕ) (known : Known) where
     twice_same =
         ap is_some (ap (λ w. defined_in s'.table w (erase n'.name)) l.unit ∙ found_moved r s.table s'.table s.entry s'.entry l.table l.entry s.unit n.name) ∙ some_kept (defined_as r) (defined_in s.table s.unit (erase n.name))
 
-    unit_case : (refused again : Bool) → Defines
+    unit_case : (refused again : Bool) → Defines s s'
         (cond refused (Err (KeywordRedefined (named (erase n.name) n.occ)), s) (cond again (Err (Duplicate (named (erase n.name) n.occ)), s) (Ok (unchanged p), after)))
         (cond refused (Err (KeywordRedefined (named (erase n'.name) n'.occ)), s') (cond again (Err (Duplicate (named (erase n'.name) n'.occ)), s') (Ok (unchanged (pending_two p)), after')))
-    unit_case true again = (ap (λ i. KeywordRedefined (named i (place r n.occ))) (erase_moved r n.name), l)
-    unit_case false true = (ap (λ i. Duplicate (named i (place r n.occ))) (erase_moved r n.name), l)
-    unit_case false false = (record { pending = refl; rename = λ i. refl }, global_step)
+    unit_case true again = (ap (λ i. KeywordRedefined (named i (place r n.occ))) (erase_moved r n.name), l, still s s')
+    unit_case false true = (ap (λ i. Duplicate (named i (place r n.occ))) (erase_moved r n.name), l, still s s')
+    unit_case false false = (record { pending = refl; rename = λ i. refl }, global_step, global_grows)
 
-    in_unit_goes : Defines (define_in_unit n x p s) (define_in_unit n' x' (pending_two p) s')
+    in_unit_goes : Defines s s' (define_in_unit n x p s) (define_in_unit n' x' (pending_two p) s')
     in_unit_goes =
-        subst (λ (t : Bool × Bool). Defines (define_in_unit n x p s) (cond t.0 (Err (KeywordRedefined (named (erase n'.name) n'.occ)), s') (cond t.1 (Err (Duplicate (named (erase n'.name) n'.occ)), s') (Ok (unchanged (pending_two p)), after'))))
+        subst (λ (t : Bool × Bool). Defines s s' (define_in_unit n x p s) (cond t.0 (Err (KeywordRedefined (named (erase n'.name) n'.occ)), s') (cond t.1 (Err (Duplicate (named (erase n'.name) n'.occ)), s') (Ok (unchanged (pending_two p)), after'))))
         (sym (let a = unit_refused_same in let b = twice_same in λ j. (a j, b j))) (unit_case unit_refused (is_some (defined_in s.table s.unit (erase n.name))))
 
-    pub define_goes : Defines (define n x p s) (define n' x' (pending_two p) s')
-    define_goes = subst (λ b. Defines (define n x p s) (cond b (define_in_body n' x' (pending_two p) s') (define_in_unit n' x' (pending_two p) s'))) (sym l.in_body) (go s.in_body)
+    pub define_goes : Defines s s' (define n x p s) (define n' x' (pending_two p) s')
+    define_goes = subst (λ b. Defines s s' (define n x p s) (cond b (define_in_body n' x' (pending_two p) s') (define_in_unit n' x' (pending_two p) s'))) (sym l.in_body) (go s.in_body)
       where
-        go : (b : Bool) → Defines (cond b (define_in_body n x p s) (define_in_unit n x p s)) (cond b (define_in_body n' x' (pending_two p) s') (define_in_unit n' x' (pending_two p) s'))
+        go : (b : Bool) → Defines s s' (cond b (define_in_body n x p s) (define_in_unit n x p s)) (cond b (define_in_body n' x' (pending_two p) s') (define_in_unit n' x' (pending_two p) s'))
         go true = in_body_goes
         go false = in_unit_goes
 
@@ -337,5 +348,59 @@ module _ (r : Renumbering) (o : IsOneToOne r) (u : ℕ) (known : Known) where
     keep = λ v x e e' a s s' l. record { at = l.at; unit = l.unit; program = l.program; form = l.form; locals = l.locals; uses = l.uses; nodes = l.nodes; bodies = l.bodies; keywords = l.keywords; met = l.met; table = l.table; counts = l.counts; entry = l.entry; macros = added s.macros s'.macros l.macros (Local v) (Local (number r v)) refl (Some x); in_body = l.in_body; mine = l.mine };
     enter = λ e e' a ts s s' l. regions tt (ap (λ v. map_trees (Inner v) (move_trees mv ts)) (number_now s s' l s.bodies s'.bodies l.bodies) ∙ trees_turned Name Name Name Name (place r) (named_as r) (named_as r) (Inner (number_at s s.bodies)) (Inner (number r (number_at s s.bodies))) (λ i. refl) ts)
         (record { at = l.at; unit = l.unit; program = l.program; form = l.form; locals = l.locals; uses = l.uses; nodes = l.nodes; bodies = tick s s' l s.bodies s'.bodies l.bodies suc; keywords = l.keywords; met = l.met; table = l.table; counts = l.counts; entry = l.entry; macros = l.macros; in_body = refl; mine = refl });
-    define = λ n x e e' a p s s' l. define_goes n x p s s' l;
+    define = λ n x e e' a p s s' l. (let d = define_goes n x p s s' l in (d.0, d.1));
   }
+
+  -- ---- and what is defined since these tables
+
+  module _ (from from' : Table) where
+    abbrev Since : State → State → Type 0
+    Since s s' = Moved s s' × DefinedAlike r from from' s.table s'.table
+
+    pub with_since : (x y : Region (Unit {0}) Name State) → Regions (λ (a b : Unit {0}). Unit {0}) mv Moved x y → DefinedAlike r from from' x.state.table y.state.table → Regions (λ (a b : Unit {0}). Unit {0}) mv Since x y
+    with_since x y (regions k d m) g = regions k d (m, g)
+
+    abbrev pub model_sides_since : Sides
+    model_sides_since = record {
+      r = r;
+      one_to_one = o;
+      E = Unit {0};
+      A = Name;
+      L = Name;
+      S = State;
+      E' = Unit {0};
+      A' = Name;
+      L' = Name;
+      S' = State;
+      one = model known;
+      two = model known;
+      on = named_as r;
+      look = named_as r;
+      unit = u;
+      around = λ e e'. Unit {0};
+      state = Since;
+      same = name_moved r o;
+      strip = strip_moved r;
+      plain = erase_moved r;
+      insert = λ i k. refl;
+      place = λ e e' a i. refl;
+      means = λ e e' a s s' l i. model_sides.means e e' a s s' l.0 i;
+      transformer = λ s s' l m. model_sides.transformer s s' l.0 m;
+      known = refl;
+      ask = λ qs qs' s s' l. l;
+      is_assigned = λ e e' a s s' l i. model_sides.is_assigned e e' a s s' l.0 i;
+      counted = λ s s' l. model_sides.counted s s' l.0;
+      turn = λ f s s' l. (model_sides.turn f s s' l.0, l.1);
+      spend = λ n s s' l. (model_sides.spend n s s' l.0, l.1);
+      meet = λ t s s' l. (model_sides.meet t s s' l.0, l.1);
+      meet_use = λ x s s' l. (model_sides.meet_use x s s' l.0, l.1);
+      next_use = λ s s' l. model_sides.next_use s s' l.0;
+      begin_use = λ e e' a s s' l. (model_sides.begin_use e e' a s s' l.0, l.1);
+      next_local = λ s s' l. model_sides.next_local s s' l.0;
+      take_local = λ s s' l. (model_sides.take_local s s' l.0, l.1);
+      next_bound = λ e e' a s s' l. model_sides.next_bound e e' a s s' l.0;
+      bind = λ i e e' a ts s s' l. with_since _ _ (model_sides.bind i e e' a ts s s' l.0) l.1;
+      keep = λ v x e e' a s s' l. (model_sides.keep v x e e' a s s' l.0, l.1);
+      enter = λ e e' a ts s s' l. with_since _ _ (model_sides.enter e e' a ts s s' l.0) l.1;
+      define = λ n x e e' a p s s' l. (let d = define_goes n x p s s' l.0 in (d.0, (d.1, d.2 from from' l.1)));
+    }

@@ -8,7 +8,7 @@ use Rattle.scheme_model.specs.Meaning.{Meaning, Local, Global, Standard, Free, s
 use Rattle.scheme_model.specs.Requirements.{Known}
 use Rattle.scheme_model.specs.RulesShape.{Rules, option_map}
 use Rattle.scheme_model.specs.Cores.{LocalNumber, Definition}
-use Rattle.scheme_model.specs.Order.{Pending, Renamed, Transformer, is_some}
+use Rattle.scheme_model.specs.Order.{Pending, Renamed, Region, Transformer, is_some}
 use Rattle.scheme_model.specs.Substitution.{Defined, Table, Entries, Clock, at_form, defined_in, definition_count, is_variable, any, unchanged}
 use Rattle.scheme_model.specs.Scopes.{own_of, given_or, imported_as, defined_or}
 use Rattle.scheme_model.specs.ScopedExpansion.{Bind, Enter, Frames, FramedIdent, BodyDefinition, BodyDefinitions, UsePlace, ScopedMacro, ScopedState, next_number, around, find, defined_as as local_defined, means_inside, means_outside, means_at, macro_at, macro_added, body_around, bound_next, assigned, definition_added, meaning_next, is_defined}
@@ -16,9 +16,9 @@ use Rattle.scheme_model.specs.CountedExpansion.{means_here, refused_here, define
 use Rattle.scheme_model.proofs.RenamingLaws.{cond_map}
 use Rattle.renumbering_laws.specs.Moving.{Change, move_named, move_rules}
 use Rattle.renumbering_laws.specs.Renumbering.{Renumbering, IsOneToOne, number, place, ident, meaning, change, target, bound, macro_use_as, counted_as, pending_as}
-use Rattle.renumbering_laws.specs.States.{defined_as, AtForms, ClocksMove, TablesMove, EntriesMove, CountsOn}
+use Rattle.renumbering_laws.specs.States.{defined_as, AtForms, ClocksMove, TablesMove, EntriesMove, CountsOn, DefinedAlike}
 use Rattle.renumbering_laws.specs.ScopedStates.{IsOnto, frames_as, framed_as, transformer_as, PlacesMove, ScopedMacrosMove, found_number, FindsMove, ScopedMove}
-use Rattle.renumbering_laws.proofs.Sides.{no_macro, a_macro, regions, DefinedMoves, Sides, Macros}
+use Rattle.renumbering_laws.proofs.Sides.{no_macro, a_macro, regions, DefinedMoves, Sides, Macros, Regions}
 use Rattle.renumbering_laws.proofs.OneToOne.{number_moved, ident_moved, same_moved}
 use Rattle.renumbering_laws.proofs.NameLaws.{some_kept, at_forms_step, any_moved, variable_moved, table_step}
 
@@ -97,9 +97,16 @@ module _ (r : Renumbering) (o : IsOneToOne r) (w : IsOnto r) where
         (outside_moved s.table s'.table s.entry s'.entry l.table l.entry s.places s'.places l.places s.definitions s'.definitions l.definitions i) in
         λ j. of_form (a j) (b j) (c j)) ∙ of_form_moved s.unit s.form (means_at s fs i)
 
+    -- what is defined since is the same, renumbered
+    abbrev Grow : ScopedState → ScopedState → ScopedState → ScopedState → Type 0
+    Grow s s' t t' = (from from' : Table) → DefinedAlike r from from' s.table s'.table → DefinedAlike r from from' t.table t'.table
+
+    still : (s s' : ScopedState) → Grow s s' s s'
+    still s s' from from' g = g
+
     -- what comes of a definition on both sides
-    abbrev Defines : Result (Renamed Ident FramedIdent) (Fault Ident) × ScopedState → Result (Renamed Ident FramedIdent) (Fault Ident) × ScopedState → Type 0
-    Defines q q' = DefinedMoves r (ident r) (framed_as r w) q.0 q'.0 × Moved q.1 q'.1
+    abbrev Defines : ScopedState → ScopedState → Result (Renamed Ident FramedIdent) (Fault Ident) × ScopedState → Result (Renamed Ident FramedIdent) (Fault Ident) × ScopedState → Type 0
+    Defines s s' q q' = DefinedMoves r (ident r) (framed_as r w) q.0 q'.0 × Moved q.1 q'.1 × Grow s s' q.1 q'.1
 
     -- ---- numbers
 
@@ -242,6 +249,10 @@ module _ (r : Renumbering) (o : IsOneToOne r) (w : IsOnto r) where
       added_step None = global_step
       added_step (Some b) = local_step b
 
+      added_grows : (b : Option Number) → Grow s s' (definition_added b n x fs s) (definition_added (option_map (number r) b) n' x' fs' s')
+      added_grows None from from' g = record { added = d ∷ g.added; here = ap (λ t. d ∷ t) g.here; there = (let a = d_same in let b = g.there in λ j. a j ∷ b j) }
+      added_grows (Some b) from from' g = g
+
       next_same : (b : Option Number) → meaning_next s' (option_map (number r) b) n'.name ≡ meaning r (meaning_next s b n.name)
       next_same None = global_same
       next_same (Some b) = ap Local local_same
@@ -275,20 +286,20 @@ module _ (r : Renumbering) (o : IsOneToOne r) (w : IsOnto r) where
             (λ q. means_here after q.frames q.ident) (λ q. means_here after' q.frames q.ident)
             (λ i j. (let a = meant i in let c = meant j in λ t. same_meaning (a t) (c t)) ∙ same_moved r o (means_here after i.frames i.ident) (means_here after j.frames j.ident)) p.notes
 
-        case : (refused again : Bool) → Defines
+        case : (refused again : Bool) → Defines s s'
             (cond refused (Err (KeywordRedefined n), s) (cond again (Err (Duplicate n), s) (Ok (unchanged p), after)))
             (cond refused (Err (KeywordRedefined n'), s') (cond again (Err (Duplicate n'), s') (Ok (unchanged (pending_two p)), after')))
-        case true again = (refl, l)
-        case false true = (refl, l)
-        case false false = (record { pending = refl; rename = λ i. refl }, added_step b)
+        case true again = (refl, l, still s s')
+        case false true = (refl, l, still s s')
+        case false false = (record { pending = refl; rename = λ i. refl }, added_step b, added_grows b)
 
-        at_body : Defines (define_here b n x fs p s) (define_here (option_map (number r) b) n' x' fs' (pending_two p) s')
+        at_body : Defines s s' (define_here b n x fs p s) (define_here (option_map (number r) b) n' x' fs' (pending_two p) s')
         at_body =
-            subst (λ (t : Bool × Bool). Defines (define_here b n x fs p s) (cond t.0 (Err (KeywordRedefined n'), s') (cond t.1 (Err (Duplicate n'), s') (Ok (unchanged (pending_two p)), after'))))
+            subst (λ (t : Bool × Bool). Defines s s' (define_here b n x fs p s) (cond t.0 (Err (KeywordRedefined n'), s') (cond t.1 (Err (Duplicate n'), s') (Ok (unchanged (pending_two p)), after'))))
             (sym (let a = refused_same in let c = twice_same b in λ j. (a j, c j))) (case (any (refused_here after new (is_some x)) p.notes) (is_defined s b n.name))
 
-      pub define_goes : (p : Pending Ident FramedIdent) → Defines (define_here (body_around fs) n x fs p s) (define_here (body_around fs') n' x' fs' (pending_two p) s')
-      define_goes p = subst (λ b. Defines (define_here (body_around fs) n x fs p s) (define_here b n' x' fs' (pending_two p) s')) (sym (body_moved fs fs' k)) (at_body (body_around fs) p)
+      pub define_goes : (p : Pending Ident FramedIdent) → Defines s s' (define_here (body_around fs) n x fs p s) (define_here (body_around fs') n' x' fs' (pending_two p) s')
+      define_goes p = subst (λ b. Defines s s' (define_here (body_around fs) n x fs p s) (define_here b n' x' fs' (pending_two p) s')) (sym (body_moved fs fs' k)) (at_body (body_around fs) p)
 
     -- ---- the operations
 
@@ -352,5 +363,59 @@ module _ (r : Renumbering) (o : IsOneToOne r) (w : IsOnto r) where
       keep = λ v x e e' a s s' l. record { at = l.at; unit = l.unit; program = l.program; form = l.form; locals = l.locals; uses = l.uses; nodes = l.nodes; bodies = l.bodies; keywords = l.keywords; met = l.met; table = l.table; counts = l.counts; entry = l.entry; macros = added s.macros s'.macros l.macros (Local v) (Local (number r v)) refl e e' a (Some x); places = l.places; definitions = l.definitions };
       enter = λ e e' a ts s s' l. regions (let b = number_now s s' l s.bodies s'.bodies l.bodies in let c = l.uses in λ j. Enter (b j) (c j) ∷ a j) refl
           (record { at = l.at; unit = l.unit; program = l.program; form = l.form; locals = l.locals; uses = l.uses; nodes = l.nodes; bodies = tick s s' l s.bodies s'.bodies l.bodies suc; keywords = l.keywords; met = l.met; table = l.table; counts = l.counts; entry = l.entry; macros = l.macros; places = l.places; definitions = l.definitions });
-      define = λ n x e e' a p s s' l. define_goes n x e e' a s s' l p;
+      define = λ n x e e' a p s s' l. (let d = define_goes n x e e' a s s' l p in (d.0, d.1));
     }
+
+    -- ---- and what is defined since these tables
+
+    module _ (from from' : Table) where
+      abbrev Since : ScopedState → ScopedState → Type 0
+      Since s s' = Moved s s' × DefinedAlike r from from' s.table s'.table
+
+      pub with_since : (x y : Region Frames Ident ScopedState) → Regions FramesMove mv Moved x y → DefinedAlike r from from' x.state.table y.state.table → Regions FramesMove mv Since x y
+      with_since x y (regions k d m) g = regions k d (m, g)
+
+      abbrev pub scoped_sides_since : Sides
+      scoped_sides_since = record {
+        r = r;
+        one_to_one = o;
+        E = Frames;
+        A = Ident;
+        L = FramedIdent;
+        S = ScopedState;
+        E' = Frames;
+        A' = Ident;
+        L' = FramedIdent;
+        S' = ScopedState;
+        one = counted known;
+        two = counted known;
+        on = ident r;
+        look = framed_as r w;
+        unit = u;
+        around = FramesMove;
+        state = Since;
+        same = ident_moved r o;
+        strip = symbol_moved r;
+        plain = λ i. refl;
+        insert = λ i k. refl;
+        place = λ e e' a i. scoped_sides.place e e' a i;
+        means = λ e e' a s s' l i. scoped_sides.means e e' a s s' l.0 i;
+        transformer = λ s s' l m. scoped_sides.transformer s s' l.0 m;
+        known = refl;
+        ask = λ qs qs' s s' l. l;
+        is_assigned = λ e e' a s s' l i. scoped_sides.is_assigned e e' a s s' l.0 i;
+        counted = λ s s' l. scoped_sides.counted s s' l.0;
+        turn = λ f s s' l. (scoped_sides.turn f s s' l.0, l.1);
+        spend = λ n s s' l. (scoped_sides.spend n s s' l.0, l.1);
+        meet = λ t s s' l. (scoped_sides.meet t s s' l.0, l.1);
+        meet_use = λ x s s' l. (scoped_sides.meet_use x s s' l.0, l.1);
+        next_use = λ s s' l. scoped_sides.next_use s s' l.0;
+        begin_use = λ e e' a s s' l. (scoped_sides.begin_use e e' a s s' l.0, l.1);
+        next_local = λ s s' l. scoped_sides.next_local s s' l.0;
+        take_local = λ s s' l. (scoped_sides.take_local s s' l.0, l.1);
+        next_bound = λ e e' a s s' l. scoped_sides.next_bound e e' a s s' l.0;
+        bind = λ i e e' a ts s s' l. with_since _ _ (scoped_sides.bind i e e' a ts s s' l.0) l.1;
+        keep = λ v x e e' a s s' l. (scoped_sides.keep v x e e' a s s' l.0, l.1);
+        enter = λ e e' a ts s s' l. with_since _ _ (scoped_sides.enter e e' a ts s s' l.0) l.1;
+        define = λ n x e e' a p s s' l. (let d = define_goes n x e e' a s s' l.0 p in (d.0, (d.1, d.2 from from' l.1)));
+      }

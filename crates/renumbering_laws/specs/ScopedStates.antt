@@ -9,7 +9,7 @@ use Rattle.scheme_model.specs.Substitution.{definition_count}
 use Rattle.scheme_model.specs.ScopedExpansion.{Frame, Bind, Enter, Frames, FramedIdent, BodyDefinitions, UsePlace, ScopedMacro, ScopedState, around, find, macro_at}
 use Rattle.renumbering_laws.specs.Moving.{move_rules}
 use Rattle.renumbering_laws.specs.Renumbering.{Renumbering, number, ident, meaning, change, target, macro_use_as, pending_as, pass_as}
-use Rattle.renumbering_laws.specs.States.{AtForms, ClocksMove, TablesMove, EntriesMove, CountsOn}
+use Rattle.renumbering_laws.specs.States.{AtForms, ClocksMove, TablesMove, EntriesMove, CountsOn, DefinedAlike}
 
 -- the old number of a form by its new one; needed as a body keeps how many uses each form had begun
 pub record IsOnto (r : Renumbering) : Type 0 where
@@ -80,3 +80,10 @@ module _ (r : Renumbering) (w : IsOnto r) where
   -- between forms: whichever form work turns to
   abbrev pub ScopedRest : ℕ → ScopedState → ScopedState → Type 0
   ScopedRest u s s' = (f : ℕ) → ScopedMove u (record s { form = f }) (record s' { form = r.form u f })
+
+  -- where work from s and s' on went
+  abbrev pub ScopedGo : ℕ → ScopedState → ScopedState → ScopedState → ScopedState → Type 0
+  ScopedGo u s s' t t' = ScopedMove u t t' × DefinedAlike r s.table s'.table t.table t'.table
+
+  abbrev pub ScopedGoRest : ℕ → ScopedState → ScopedState → ScopedState → ScopedState → Type 0
+  ScopedGoRest u s s' t t' = ScopedRest u t t' × DefinedAlike r s.table s'.table t.table t'.table

@@ -1,5 +1,5 @@
 -- States of expansion by substitution that correspond: what one has under old numbers, the other has under new ones.
-use Rattle.std.specs.Prelude.{◌≡◌, ℕ, ◌+◌, List, map, false}
+use Rattle.std.specs.Prelude.{◌≡◌, ℕ, ◌+◌, List, ◌++◌, map, false}
 use Rattle.scheme_model.specs.Ident.{Ident}
 use Rattle.scheme_model.specs.Identifiers.{Name}
 use Rattle.scheme_model.specs.Meaning.{Meaning}
@@ -64,6 +64,19 @@ pub record StatesMove (r : Renumbering) (u : ℕ) (s s' : State) : Type 0 where
   pub in_body : s'.in_body ≡ s.in_body
   pub mine : s'.mine ≡ map (number r) s.mine
 
+-- what was defined since these tables, latest first: the same, renumbered
+pub record DefinedAlike (r : Renumbering) (from from' t t' : Table) : Type 0 where
+  pub added : List Defined
+  pub here : t ≡ added ++ from
+  pub there : t' ≡ map (defined_as r) added ++ from'
+
 -- between forms: whichever form work turns to
 abbrev pub StatesRest : Renumbering → ℕ → State → State → Type 0
 StatesRest r u s s' = (f : ℕ) → StatesMove r u (record s { form = f; in_body = false }) (record s' { form = r.form u f; in_body = false })
+
+-- where work from s and s' on went
+abbrev pub StatesGo : Renumbering → ℕ → State → State → State → State → Type 0
+StatesGo r u s s' t t' = StatesMove r u t t' × DefinedAlike r s.table s'.table t.table t'.table
+
+abbrev pub StatesGoRest : Renumbering → ℕ → State → State → State → State → Type 0
+StatesGoRest r u s s' t t' = StatesRest r u t t' × DefinedAlike r s.table s'.table t.table t'.table

@@ -18,8 +18,8 @@ ghost use Rattle.scheme_model.specs.Program.{Prepared, Progress, UnitResult, Exp
 ghost use Rattle.scheme_model.specs.ScopedProgram.{ScopedProgress, scoped_start_of, scoped_unit_over, scoped_before};
 ghost use Rattle.scheme_model.specs.ProgramArrows.{program_leaves, program_keywords, arrows_with};
 ghost use Rattle.renumbering_laws.specs.Renumbering.{Renumbering, IsOneToOne, ident, named_as, result_as, left_as, parts_as, formed_as, numbered_as, IsRenumbered};
-ghost use Rattle.renumbering_laws.specs.States.{named_pending, named_pass, TablesMove, EntriesMove, StatesMove, StatesRest};
-ghost use Rattle.renumbering_laws.specs.ScopedStates.{IsOnto, scoped_pending, scoped_pass, ScopedMove, ScopedRest};
+ghost use Rattle.renumbering_laws.specs.States.{named_pending, named_pass, TablesMove, EntriesMove, StatesMove, StatesRest, StatesGo, StatesGoRest};
+ghost use Rattle.renumbering_laws.specs.ScopedStates.{IsOnto, scoped_pending, scoped_pass, ScopedMove, ScopedRest, ScopedGo, ScopedGoRest};
 ghost use Rattle.renumbering_laws.specs.NewStates.{HasInverse, state_new, scoped_state_new};
 ghost use Rattle.renumbering_laws.specs.Units.{KeepsPrelude, ProgressMoves, ScopedProgressMoves, UnitMoves, FormsMove, ScopedFormsMove};
 ghost use Rattle.renumbering_laws.specs.Exports.{entry_as, export_as, exported_as};
@@ -29,25 +29,25 @@ ghost use Rattle.renumbering_laws.specs.Arrows.{leaf_as, name_use_as, arrow_as, 
 /// A form of a unit comes to the same under other numbers of units, of the forms of each and of its definitions (R7RS 4.3, 5.3). In states
 /// that correspond, going through it sets the same aside, and notes, meets and defines the same; what it set aside is expanded to the
 /// same; and so are the forms of a unit, to where work on it ends. All that is told is renumbered, a fault too, no count changes, and
-/// the states that are left correspond. Units are renumbered one to one, and so are the forms of each, in any order; of definitions, only
-/// the numbers that the unit has yet to give are looked at.
+/// the states that are left correspond, with the same definitions made since. Units are renumbered one to one, and so are the forms of
+/// each, in any order; of definitions, only the numbers that the unit has yet to give are looked at.
 pub fn forms_are_renumbered()
     ensures set_aside { (r : Renumbering) (w : IsOnto r) (known : Known) (u turns : ℕ) (p : Pending Ident FramedIdent) (s t : ScopedState) → IsOneToOne r → ScopedMove r w u s t →
-        IsRenumbered (scoped_pass r w) (ScopedMove r w u) (run (counted known) turns [] p s) (run (counted known) turns [] (scoped_pending r w p) t) }
+        IsRenumbered (scoped_pass r w) (ScopedGo r w u s t) (run (counted known) turns [] p s) (run (counted known) turns [] (scoped_pending r w p) t) }
     ensures finished { (r : Renumbering) (w : IsOnto r) (known : Known) (u turns : ℕ) (l : Result (Left Ident) Broken) (s t : ScopedState) → IsOneToOne r → ScopedMove r w u s t →
-        IsRenumbered (result_as r (parts_as r)) (ScopedMove r w u) (finish_by (counted known) turns [] l s) (finish_by (counted known) turns [] (result_as r (left_as r (ident r)) l) t) }
+        IsRenumbered (result_as r (parts_as r)) (ScopedGo r w u s t) (finish_by (counted known) turns [] l s) (finish_by (counted known) turns [] (result_as r (left_as r (ident r)) l) t) }
     ensures whole_unit { (r : Renumbering) (w : IsOnto r) (known : Known) (u turns : ℕ) (ts : List (ℕ × Tree Ident)) (s t : ScopedState) → IsOneToOne r → ScopedRest r w u s t →
-        IsRenumbered (option_map (map (formed_as r u))) (ScopedRest r w u) (unit (counted known) turns [] ts s) (unit (counted known) turns [] (map (numbered_as r u (ident r)) ts) t) }
+        IsRenumbered (option_map (map (formed_as r u))) (ScopedGoRest r w u s t) (unit (counted known) turns [] ts s) (unit (counted known) turns [] (map (numbered_as r u (ident r)) ts) t) }
 {}
 
 /// So it does where binders are substituted; a form's new number then needs no old one.
 pub fn substituted_forms_are_renumbered()
     ensures set_aside { (r : Renumbering) (known : Known) (u turns : ℕ) (p : Pending Name Name) (s t : State) → IsOneToOne r → StatesMove r u s t →
-        IsRenumbered (named_pass r) (StatesMove r u) (run (model known) turns tt p s) (run (model known) turns tt (named_pending r p) t) }
+        IsRenumbered (named_pass r) (StatesGo r u s t) (run (model known) turns tt p s) (run (model known) turns tt (named_pending r p) t) }
     ensures finished { (r : Renumbering) (known : Known) (u turns : ℕ) (l : Result (Left Name) Broken) (s t : State) → IsOneToOne r → StatesMove r u s t →
-        IsRenumbered (result_as r (parts_as r)) (StatesMove r u) (finish_by (model known) turns tt l s) (finish_by (model known) turns tt (result_as r (left_as r (named_as r)) l) t) }
+        IsRenumbered (result_as r (parts_as r)) (StatesGo r u s t) (finish_by (model known) turns tt l s) (finish_by (model known) turns tt (result_as r (left_as r (named_as r)) l) t) }
     ensures whole_unit { (r : Renumbering) (known : Known) (u turns : ℕ) (ts : List (ℕ × Tree Name)) (s t : State) → IsOneToOne r → StatesRest r u s t →
-        IsRenumbered (option_map (map (formed_as r u))) (StatesRest r u) (unit (model known) turns tt ts s) (unit (model known) turns tt (map (numbered_as r u (named_as r)) ts) t) }
+        IsRenumbered (option_map (map (formed_as r u))) (StatesGoRest r u s t) (unit (model known) turns tt ts s) (unit (model known) turns tt (map (numbered_as r u (named_as r)) ts) t) }
 {}
 
 /// Each state corresponds to one under new numbers, where each of these has one old one and definitions keep theirs. So the laws above speak
@@ -72,10 +72,10 @@ pub fn pairs_are_renumberings()
 pub fn units_are_renumbered()
     ensures scoped { (r : Renumbering) (w : IsOnto r) (known : Known) (p q : Prepared) (g h : ScopedProgress) (entry entry' : Entries) →
         IsOneToOne r → UnitMoves r p q g.table h.table → ScopedFormsMove r p q → ScopedProgressMoves r w g h → EntriesMove r entry entry' →
-        IsRenumbered (option_map (map (formed_as r p.number))) (ScopedRest r w p.number) (scoped_unit_over known p (scoped_start_of p g entry)) (scoped_unit_over known q (scoped_start_of q h entry')) }
+        IsRenumbered (option_map (map (formed_as r p.number))) (ScopedGoRest r w p.number (scoped_start_of p g entry) (scoped_start_of q h entry')) (scoped_unit_over known p (scoped_start_of p g entry)) (scoped_unit_over known q (scoped_start_of q h entry')) }
     ensures substituted { (r : Renumbering) (known : Known) (p q : Prepared) (g h : Progress) (entry entry' : Entries) →
         IsOneToOne r → UnitMoves r p q g.table h.table → FormsMove r p q → ProgressMoves r g h → EntriesMove r entry entry' →
-        IsRenumbered (option_map (map (formed_as r p.number))) (StatesRest r p.number) (unit_over known (form_trees p.number 0 p.forms) (start_of p g.table g.macros entry)) (unit_over known (form_trees q.number 0 q.forms) (start_of q h.table h.macros entry')) }
+        IsRenumbered (option_map (map (formed_as r p.number))) (StatesGoRest r p.number (start_of p g.table g.macros entry) (start_of q h.table h.macros entry')) (unit_over known (form_trees p.number 0 p.forms) (start_of p g.table g.macros entry)) (unit_over known (form_trees q.number 0 q.forms) (start_of q h.table h.macros entry')) }
     ensures prelude { (r : Renumbering) (w : IsOnto r) → IsOneToOne r → KeepsPrelude r → ScopedProgressMoves r w scoped_before scoped_before }
     ensures substituted_prelude { (r : Renumbering) → IsOneToOne r → KeepsPrelude r → ProgressMoves r progress_before progress_before }
     ensures same_forms { (r : Renumbering) (p q : Prepared) → q.number ≡ r.unit p.number → q.forms ≡ p.forms → ((n : ℕ) → r.form p.number n ≡ n) → FormsMove r p q × ScopedFormsMove r p q }
