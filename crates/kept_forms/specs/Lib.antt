@@ -1,0 +1,2 @@
+pub mod KeptForms
+pub mod Carried
