@@ -1,0 +1,2 @@
+pub mod Bares
+pub mod Uses
