@@ -1,2 +1,6 @@
 pub mod Bares
 pub mod Uses
+pub mod Fronts
+pub mod OneForm
+pub mod Between
+pub mod KeptUnits

@@ -10,7 +10,7 @@ use Rattle.scheme_model.specs.Requirements.{Known}
 use Rattle.scheme_model.specs.RulesShape.{Rules}
 use Rattle.scheme_model.specs.Cores.{Bound, LocalNumber, Definition, Parts, Part}
 use Rattle.scheme_model.specs.Steps.{Broken}
-use Rattle.scheme_model.specs.Order.{Item, Expression, Value, Function, Assigned, AssignedFunction, ValuesOf, Record, Macro, Note, LookedUp, Compared, WaitingUse, Left, Pending, Renamed, Transformer, Asked, Meant, Headed, RulesOf, Alike, Assigns, Library, Ops, is_some, head_of, meet_all, meet_waiting, run}
+use Rattle.scheme_model.specs.Order.{Item, Expression, Value, Function, Assigned, AssignedFunction, ValuesOf, Record, Macro, Note, LookedUp, Compared, WaitingUse, Left, Pass, Pending, Renamed, Transformer, Asked, Meant, Headed, RulesOf, Alike, Assigns, Library, Ops, is_some, head_of, meet_all, meet_waiting, run}
 use Rattle.scheme_model.specs.Expression.{meaning_of, expand, item_part}
 use Rattle.scheme_model.specs.UnitExpansion.{max_depth, max_total, Work, ◌then◌, going, nodes_in, unless_over, one_form, passes, before_parts, with_part, items_parts, form_parts, finished, unit}
 use Rattle.scheme_model.specs.Substitution.{any, unchanged, at_form, Clock}
@@ -20,6 +20,7 @@ use Rattle.scheme_model.proofs.Clocks.{leq_counted, next_counted}
 use Rattle.scheme_model.proofs.FrameEras.{Era, Before, before_more, unit_worked}
 use Rattle.scheme_model.proofs.FrameAsks.{AllOf, all_of_more}
 use Rattle.scheme_model.proofs.FrameHeads.{IfMacro}
+use Rattle.scheme_model.proofs.UnitEnds.{OnWork}
 use Rattle.scheme_model.proofs.CountedForms.{OkAll}
 use Rattle.form_laws.specs.Begins.{Each, BindsInUnit, MacroInUnit}
 use Rattle.form_laws.proofs.Sides.{Both, Results, NoteLike, BinderLike, ItemLike, PendingLike, RenamedLike, LeftLike, TransformerLike, Answer, Sides}
@@ -215,7 +216,7 @@ module _ (w : Era) (known : Known) where
   left_of_unit (Ok l) (Err e) h = absurd h
   left_of_unit (Err x) q h = tt
 
-  pub run_placed : (turns : ℕ) (t : Tree Ident) (ns : List (Note FramedIdent)) (s : ScopedState) → IsPlaced s → let q = run (counted known) turns [] (one_form t ns) s in IsPlaced q.1 × MacrosOfUnit q.0.left
+  run_placed : (turns : ℕ) (t : Tree Ident) (ns : List (Note FramedIdent)) (s : ScopedState) → IsPlaced s → let q = run (counted known) turns [] (one_form t ns) s in IsPlaced q.1 × MacrosOfUnit q.0.left
   run_placed turns t ns s h =
       let law = run_runs ops ops fits sides [] [] tt turns (one_form t ns) (one_form t ns) s refl (record { todo = refl; aside = tt; uses = refl; notes = refl }) in
       let x = law.same s (refl, h) tt in
@@ -261,23 +262,36 @@ module _ (w : Era) (known : Known) where
         then_placed (unless_over ops fs (item_part (expand ops turns) ops max_depth [] i s)) (before_parts (items_parts ops fs (item_part (expand ops turns) ops max_depth []) is)) (over_placed fs (item_part (expand ops turns) ops max_depth [] i s) (item_placed turns i s h))
         (λ p t k. before_placed (items_parts ops fs (item_part (expand ops turns) ops max_depth []) is) (items_placed is) p t k)
 
-    pub parts_placed : (r : Result (Left Ident) Broken) (s : ScopedState) → IsPlaced s → IsPlaced (form_parts (counted known) (expand (counted known) turns) [] fs r s).1
-    parts_placed (Err e) s h = h
-    parts_placed (Ok l) s h = items_placed l.items (meet_all ops [] l.uses s) (met_placed l.uses s h)
+    parts_goes : (r : Result (Left Ident) Broken) (s : ScopedState) → IsPlaced s → Goes (form_parts ops (expand ops turns) [] fs r s)
+    parts_goes (Err e) s h = h
+    parts_goes (Ok l) s h = items_placed l.items (meet_all ops [] l.uses s) (met_placed l.uses s h)
 
-    pub pass_placed : (t : Tree Ident) (ns : List (Note FramedIdent)) (s : ScopedState) → IsPlaced s → IsPlaced (unless_over (counted known) fs (run (counted known) turns [] (one_form t ns) s)).1
-    pass_placed t ns s h = over_placed fs (run (counted known) turns [] (one_form t ns) s) (run_placed turns t ns s h).0
+    on_placed : {X : Type 0} (q : Option X × ScopedState) → Goes q → OnWork IsPlaced (λ t x. IsPlaced t) q
+    on_placed (None, s) h = h
+    on_placed (Some x, s) h = h
+
+    pub parts_placed : (r : Result (Left Ident) Broken) (s : ScopedState) → IsPlaced s → OnWork IsPlaced (λ t x. IsPlaced t) (form_parts (counted known) (expand (counted known) turns) [] fs r s)
+    parts_placed r s h = on_placed (form_parts ops (expand ops turns) [] fs r s) (parts_goes r s h)
+
+    pub pass_placed : (t : Tree Ident) (ns : List (Note FramedIdent)) (s : ScopedState) → IsPlaced s
+        → OnWork IsPlaced (λ u q. IsPlaced u × MacrosOfUnit q.left) (unless_over (counted known) fs (run (counted known) turns [] (one_form t ns) s))
+    pass_placed t ns s h = let q = run ops turns [] (one_form t ns) s in go q (run_placed turns t ns s h) (nat_lt max_total (nodes_in ops fs q.1))
+      where
+        go : (q : Pass Ident FramedIdent × ScopedState) → IsPlaced q.1 × MacrosOfUnit q.0.left → (b : Bool) → OnWork IsPlaced (λ u q. IsPlaced u × MacrosOfUnit q.left) (cond {A = Option (Pass Ident FramedIdent) × ScopedState} b (None, q.1) (Some q.0, q.1))
+        go q k true = k.0
+        go q k false = k
 
     passes_placed : (ts : List (ℕ × Tree Ident)) (ns : List (Note FramedIdent)) (s : ScopedState) → IsPlaced s → Goes (passes ops turns [] fs ts ns s)
     passes_placed [] ns s h = h
     passes_placed (t ∷ ts) ns s h =
-        then_placed (unless_over ops fs (run ops turns [] (one_form t.1 ns) (ops.turn t.0 s))) (λ q t1. passes ops turns [] fs ts q.notes t1 then λ rest. going ((t.0, q.left) ∷ rest)) (pass_placed t.1 ns (ops.turn t.0 s) h)
+        let q = run ops turns [] (one_form t.1 ns) (ops.turn t.0 s) in
+        then_placed (unless_over ops fs q) (λ q t1. passes ops turns [] fs ts q.notes t1 then λ rest. going ((t.0, q.left) ∷ rest)) (over_placed fs q (run_placed turns t.1 ns (ops.turn t.0 s) h).0)
         (λ q t1 k. then_placed (passes ops turns [] fs ts q.notes t1) (λ rest. going ((t.0, q.left) ∷ rest)) (passes_placed ts q.notes t1 k) (λ rest t2 z. z))
 
     finished_placed : (rs : List (ℕ × Result (Left Ident) Broken)) (s : ScopedState) → IsPlaced s → Goes (finished ops (expand ops turns) [] fs rs s)
     finished_placed [] s h = h
     finished_placed (r ∷ rs) s h =
-        then_placed (form_parts ops (expand ops turns) [] fs r.1 (ops.turn r.0 s)) (λ parts t. finished ops (expand ops turns) [] fs rs t then λ rest. going (record { form = r.0; result = parts; counted = ops.counted t } ∷ rest)) (parts_placed r.1 (ops.turn r.0 s) h)
+        then_placed (form_parts ops (expand ops turns) [] fs r.1 (ops.turn r.0 s)) (λ parts t. finished ops (expand ops turns) [] fs rs t then λ rest. going (record { form = r.0; result = parts; counted = ops.counted t } ∷ rest)) (parts_goes r.1 (ops.turn r.0 s) h)
         (λ parts t k. then_placed (finished ops (expand ops turns) [] fs rs t) (λ rest. going (record { form = r.0; result = parts; counted = ops.counted t } ∷ rest)) (finished_placed rs t k) (λ rest t2 z. z))
 
   pub unit_placed : (turns : ℕ) (ts : List (ℕ × Tree Ident)) (s : ScopedState) → IsPlaced s → IsPlaced (unit (counted known) turns [] ts s).1
