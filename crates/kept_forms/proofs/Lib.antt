@@ -4,3 +4,4 @@ pub mod Fronts
 pub mod OneForm
 pub mod Between
 pub mod KeptUnits
+pub mod Programs

@@ -1,0 +1,154 @@
+-- Each unit of a program begins so that its forms may be kept, whatever was worked on before it.
+use Rattle.std.proofs.Common.{◌≡◌, ℕ, zero, suc, List, [], ◌∷◌, map, Bool, true, false, cond, ltb, arith, Option, Some, None, refl, sym, ap, ◌∙◌, subst}
+use Rattle.std.specs.Prelude.{◌==◌, ◌||◌}
+use Rattle.std.proofs.lemmas.Bool.{false_from_ne_true}
+use Rattle.std.proofs.lemmas.Bool.Decides.{nat_tests}
+use Rattle.scheme_model.specs.Identifiers.{Number}
+use Rattle.scheme_model.specs.Ident.{Ident, Written}
+use Rattle.scheme_model.specs.Trees.{Tree}
+use Rattle.scheme_model.specs.Requirements.{Known}
+use Rattle.scheme_model.specs.Order.{is_some}
+use Rattle.scheme_model.specs.UnitExpansion.{Formed, unit}
+use Rattle.scheme_model.specs.Substitution.{Table, Entries}
+use Rattle.scheme_model.specs.ScopedExpansion.{UsePlace, ScopedState}
+use Rattle.scheme_model.specs.CountedExpansion.{counted}
+use Rattle.scheme_model.specs.Entries.{Entry}
+use Rattle.scheme_model.specs.Program.{Placed, Prepared, WholeFault, fault_before, SetResult, UnitResult, result_at, unit_entries, with_entries, enough_turns, broken_result, unit_result, is_ready, first_ready}
+use Rattle.scheme_model.specs.ScopedProgram.{ScopedProgress, forms_over, scoped_start_of, scoped_unit_over, scoped_start_after, scoped_expanded, scoped_by_fault, scoped_worked, scoped_work, scoped_before}
+use Rattle.scheme_model.proofs.FrameEras.{Era, Worked, Before}
+use Rattle.scheme_model.proofs.FrameAsks.{AllOf, all_of_more}
+use Rattle.scheme_model.proofs.EntryLaws.{NoLocal, unit_entries_fit}
+use Rattle.scheme_model.proofs.FrameLeaves.{TreeAll}
+use Rattle.scheme_model.proofs.FrameUnit.{UnitLeaf}
+use Rattle.scheme_model.proofs.FrameUnits.{FormHeld}
+use Rattle.scheme_model.proofs.FrameBetween.{none_yet}
+use Rattle.scheme_model.proofs.FramePrograms.{done, coming, locals_none, start_unit, forms_held, not_done, work_gone, between_before}
+use Rattle.kept_forms.specs.KeptForms.{FormOrKept, form_of, unit_keeping}
+use Rattle.kept_forms.specs.Carried.{UnitKept, UnitBegins, SameWork}
+use Rattle.kept_forms.proofs.Uses.{IsPlaced, unit_placed}
+use Rattle.kept_forms.proofs.Between.{Between}
+use Rattle.kept_forms.proofs.KeptUnits.{unit_like, unit_begins}
+
+-- ---- the uses of units that were worked on
+
+abbrev PlacesDone : ScopedProgress → Type 0
+PlacesDone g = AllOf (λ (p : UsePlace). done g.results p.use_number.unit ≡ true) g.places
+
+or_true : (t : Bool) → (t || true) ≡ true
+or_true true = refl
+or_true false = refl
+
+-- z wasn't worked on yet
+module _ (rs : List UnitResult) (z : ℕ) (new : done rs z ≡ false) where
+  other : (u : ℕ) → done rs u ≡ true → (u == z) ≡ false
+  other u h = false_from_ne_true (u == z) (λ e.
+      let same : u ≡ z = grind (arith, nat_tests) in
+      let p : true ≡ false = sym (subst (λ (v : ℕ). done rs v ≡ true) same h) ∙ new in absurd cc)
+
+  number_then : (k : Number) → done rs k.unit ≡ true → Before (coming rs z) none_yet k
+  number_then k d = (ap (λ t. cond t (ltb k.count 0) true) (other k.unit d), ap (λ t. k.unit == z || t) d ∙ or_true (k.unit == z))
+
+start_placed : (known : Known) (g : ScopedProgress) (p : Prepared) → done g.results p.number ≡ false → (entry : Entries) → PlacesDone g → IsPlaced (coming g.results p.number) known (scoped_start_of p g entry)
+start_placed known g p new entry h =
+    (refl, all_of_more (λ (u : UsePlace). done g.results u.use_number.unit ≡ true) (λ (u : UsePlace). Before (coming g.results p.number) none_yet u.use_number) (λ u q. number_then g.results p.number new u.use_number q) g.places h)
+
+turned : (m n : ℕ) → (m == n) ≡ (n == m)
+turned m n = grind (arith, nat_tests)
+
+done_still : (rs : List UnitResult) (r : UnitResult) (u : ℕ) → done rs u ≡ true → done (r ∷ rs) u ≡ true
+done_still rs r u h = go (r.unit.number == u)
+  where
+    go : (t : Bool) → is_some (cond t (Some r) (result_at rs u)) ≡ true
+    go true = refl
+    go false = h
+
+done_more : (rs : List UnitResult) (r : UnitResult) (n : ℕ) → r.unit.number ≡ n → (u : ℕ) → Worked (coming rs n) u → done (r ∷ rs) u ≡ true
+done_more rs r n e u h = go (u == n) (ap (λ m. m == u) e ∙ turned n u) h
+  where
+    go : (t : Bool) → (r.unit.number == u) ≡ t → (t || done rs u) ≡ true → is_some (cond (r.unit.number == u) (Some r) (result_at rs u)) ≡ true
+    go true q k = ap (λ t. is_some (cond t (Some r) (result_at rs u))) q
+    go false q k = ap (λ t. is_some (cond t (Some r) (result_at rs u))) q ∙ k
+
+result_number : (p : Prepared) (imports : List Entry × List SetResult) (table : Table) (forms : Option (List Formed)) → (unit_result p imports table forms).unit.number ≡ p.number
+result_number p imports table None = refl
+result_number p imports table (Some forms) = refl
+
+module _ (all : List Placed) (ps : List Prepared) (known : Known) where
+  fault_placed : (g : ScopedProgress) → PlacesDone g → (p : Prepared) → done g.results p.number ≡ false → (f : Option WholeFault) → PlacesDone (scoped_by_fault all known p f g)
+  fault_placed g h p new (Some f) =
+      all_of_more (λ (u : UsePlace). done g.results u.use_number.unit ≡ true) (λ (u : UsePlace). done (broken_result p f ∷ g.results) u.use_number.unit ≡ true) (λ u q. done_still g.results (broken_result p f) u.use_number.unit q) g.places h
+  fault_placed g h p new None =
+      let imports = unit_entries all g.results p in
+      let start = scoped_start_of p g (with_entries p.number imports.0 g.entry) in
+      let q = scoped_unit_over known p start in
+      let r = unit_result p imports q.1.table q.0 in
+      let w = coming g.results p.number in
+      all_of_more (λ (u : UsePlace). Before w q.1.uses u.use_number) (λ (u : UsePlace). done (r ∷ g.results) u.use_number.unit ≡ true)
+      (λ u b. done_more g.results r p.number (result_number p imports q.1.table q.0) u.use_number.unit b.1) q.1.places
+      (unit_placed w known enough_turns (forms_over (Written p.number) p.number 0 p.forms) start (start_placed known g p new (with_entries p.number imports.0 g.entry) h)).1
+
+  abbrev OrReady : (Prepared → Bool) → Option Prepared → Type 0
+  OrReady f None = Unit {0}
+  OrReady f (Some p) = f p ≡ true
+
+  first_is : (f : Prepared → Bool) (qs : List Prepared) → OrReady f (first_ready f qs)
+  first_is f [] = tt
+  first_is f (q ∷ qs) = go (f q) refl (first_is f qs)
+    where
+      go : (t : Bool) → f q ≡ t → OrReady f (first_ready f qs) → OrReady f (cond t (Some q) (first_ready f qs))
+      go true e r = e
+      go false e r = r
+
+  worked_placed : (g : ScopedProgress) → PlacesDone g → (o : Option Prepared) → OrReady (is_ready all ps g.results) o → PlacesDone (scoped_worked all ps known o g)
+  worked_placed g h None r = h
+  worked_placed g h (Some p) r = fault_placed g h p (not_done all ps known (done g.results p.number) _ r) (fault_before all ps p)
+
+  work_placed : (n : ℕ) (g : ScopedProgress) → PlacesDone g → PlacesDone (scoped_work all ps known n g)
+  work_placed zero g h = h
+  work_placed (suc n) g h =
+      let o = first_ready (is_ready all ps g.results) ps in
+      work_placed n (scoped_worked all ps known o g) (worked_placed g h o (first_is (is_ready all ps g.results) ps))
+
+  -- ---- a unit that is ready
+
+  held_forms : (w : Era) (s : ScopedState) (xs : List FormOrKept) → AllOf (FormHeld w known s) (map form_of xs) → AllOf (λ (x : FormOrKept). TreeAll (UnitLeaf w known s) x.tree) xs
+  held_forms w s [] h = tt
+  held_forms w s (x ∷ xs) h = (h.0, held_forms w s xs h.1)
+
+  module _ (n : ℕ) (p : Prepared) (xs : List FormOrKept) where
+    abbrev g : ScopedProgress
+    g = scoped_work all ps known n scoped_before
+
+    abbrev s : ScopedState
+    s = scoped_start_after all p g
+
+    module _ (ready : is_ready all ps g.results p ≡ true) (forms : map form_of xs ≡ forms_over (Written p.number) p.number 0 p.forms) (kept : UnitKept known enough_turns xs s) where
+      abbrev w : Era
+      w = coming g.results p.number
+
+      new : done g.results p.number ≡ false
+      new = not_done all ps known (done g.results p.number) _ ready
+
+      between : Between w known s []
+      between =
+          let h = (work_gone all ps known n scoped_before between_before).between in
+          let imports = unit_entries all g.results p in
+          record {
+            unit_state = start_unit known g h p new imports (unit_entries_fit NoLocal (λ x. tt) all g.results h.exports p);
+            formed = h.formed;
+            locals = locals_none w s g.macros (h.fine p.number new).macros;
+            placed = start_placed known g p new (with_entries p.number imports.0 g.entry) (work_placed n scoped_before tt);
+            stood = tt;
+          }
+
+      held : AllOf (λ (x : FormOrKept). TreeAll (UnitLeaf w known s) x.tree) xs
+      held =
+          let h = (work_gone all ps known n scoped_before between_before).between in
+          let imports = unit_entries all g.results p in
+          held_forms w s xs (subst (AllOf (FormHeld w known s)) (sym forms) (forms_held known g h p new imports (unit_entries_fit NoLocal (λ x. tt) all g.results h.exports p)))
+
+      pub same_unit : SameWork (unit_keeping known enough_turns xs s) (scoped_unit_over known p s)
+      same_unit = subst (λ (ts : List (ℕ × Tree Ident)). SameWork (unit_keeping known enough_turns xs s) (unit (counted known) enough_turns [] ts s)) forms (unit_like w known enough_turns xs s between held kept)
+
+      pub forms_begin : UnitBegins known enough_turns xs s
+      forms_begin = unit_begins w known enough_turns xs s between held kept
