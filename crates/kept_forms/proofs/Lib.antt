@@ -5,3 +5,4 @@ pub mod OneForm
 pub mod Between
 pub mod KeptUnits
 pub mod Programs
+pub mod KeptRows

@@ -1,2 +1,3 @@
 pub mod KeptForms
 pub mod Carried
+pub mod Worked

@@ -1,0 +1,138 @@
+-- Small units of which one form is kept, computed.
+use Rattle.std.proofs.Common.{◌≡◌, ℕ, List, [], ◌∷◌, map, false, Option, Some, None, Result, Ok, Err, refl}
+use Rattle.std.specs.Prelude.{codes}
+use Rattle.scheme_model.specs.Ident.{Ident}
+use Rattle.scheme_model.specs.Trees.{Tree}
+use Rattle.scheme_model.specs.Requirements.{Known}
+use Rattle.scheme_model.specs.Cores.{Bound, LocalNumber, Definition, Parts, no_parts, part, Part, Expression as expression_part, Define as define_part, Values as values_part, Fields as fields_part, Syntax as syntax_part}
+use Rattle.scheme_model.specs.Steps.{Broken}
+use Rattle.scheme_model.specs.Order.{Left}
+use Rattle.scheme_model.specs.UnitExpansion.{Formed, unit}
+use Rattle.scheme_model.specs.ScopedExpansion.{ScopedState}
+use Rattle.scheme_model.specs.CountedExpansion.{counted}
+use Rattle.scheme_model.specs.Questions.{Around}
+use Rattle.scheme_model.specs.FormsAlike.{set_aside, finish, set_aside_asking}
+use Rattle.form_laws.proofs.QuestionRows.{empty, word, form}
+use Rattle.kept_forms.specs.KeptForms.{KeptForm, FormOrKept, form_of, around_form, unit_keeping}
+use Rattle.kept_forms.specs.Carried.{kept_aside, kept_parts}
+use Rattle.kept_forms.specs.Worked.{unit_worked}
+
+abbrev nowhere : Known
+nowhere n = false
+
+abbrev left_or : Left Ident → Result (Left Ident) Broken → Left Ident
+left_or l (Ok m) = m
+left_or l (Err e) = l
+
+abbrev no_left : Left Ident
+no_left = record { uses = []; items = [] }
+
+-- what is kept of the second form of a unit of two
+abbrev second_kept : Tree Ident → Tree Ident → KeptForm
+second_kept t u =
+    let a = set_aside (around_form nowhere 0 [] empty) 20 t in
+    let w = around_form nowhere 1 a.0.notes a.1 in
+    let b = set_aside w 20 u in
+    let c = finish (around_form nowhere 0 [] b.1) 20 a.0.left in
+    record { aside = kept_aside w 20 u; parts = Some (kept_parts (around_form nowhere 1 [] c.1) 20 (left_or no_left (set_aside_asking w 20 u).0.left)) }
+
+abbrev anew : ℕ → Tree Ident → FormOrKept
+anew n t = record { form = n; tree = t; kept = None }
+
+abbrev keeping : ℕ → Tree Ident → KeptForm → FormOrKept
+keeping n t k = record { form = n; tree = t; kept = Some k }
+
+abbrev kept_unit : List FormOrKept → Option (List Formed)
+kept_unit xs = (unit_keeping nowhere 20 xs empty).0
+
+abbrev fresh_unit : List FormOrKept → Option (List Formed)
+fresh_unit xs = (unit (counted nowhere) 20 [] (map form_of xs) empty).0
+
+-- the numbers of what the forms define
+abbrev numbers : Option (List Formed) → List (List ℕ)
+numbers None = []
+numbers (Some rs) = map (λ (r : Formed). by_result r.result) rs
+  where
+    number : Bound → ℕ
+    number (LocalNumber v) = 1000
+    number (Definition u n) = n
+
+    by_part : Part → List ℕ → List ℕ
+    by_part (expression_part c) ns = ns
+    by_part (define_part b c) ns = number b.bound ∷ ns
+    by_part (values_part bs c) ns = ns
+    by_part (fields_part r) ns = ns
+    by_part (syntax_part m) ns = number m.binder.bound ∷ ns
+
+    by_parts : Parts → List ℕ
+    by_parts no_parts = []
+    by_parts (part p ps) = by_part p (by_parts ps)
+
+    by_result : Result Parts Broken → List ℕ
+    by_result (Ok ps) = by_parts ps
+    by_result (Err e) = []
+
+-- ---- a definition in front
+
+-- (f y), and in its place (define x y)
+abbrev before : Tree Ident
+before = form (word (codes "f") ∷ word (codes "y") ∷ [])
+
+abbrev after : Tree Ident
+after = form (word (codes "define") ∷ word (codes "x") ∷ word (codes "y") ∷ [])
+
+-- (define (g z) (f z))
+abbrev defining : Tree Ident
+defining = form (word (codes "define") ∷ form (word (codes "g") ∷ word (codes "z") ∷ []) ∷ form (word (codes "f") ∷ word (codes "z") ∷ []) ∷ [])
+
+abbrev changed : List FormOrKept
+changed = anew 0 after ∷ keeping 1 defining (second_kept before defining) ∷ []
+
+as_anew : kept_unit changed ≡ fresh_unit changed
+as_anew = refl
+
+-- g was the unit's first definition, and is its second now
+moves : numbers (kept_unit changed) ≡ (0 ∷ []) ∷ (1 ∷ []) ∷ []
+moves = refl
+
+-- ---- a macro use behind
+
+-- (define-syntax m (syntax-rules () ((_) x))), (m) and (m)
+abbrev macro : Tree Ident
+macro = form (word (codes "define-syntax") ∷ word (codes "m") ∷ form (word (codes "syntax-rules") ∷ form [] ∷ form (form (word (codes "_") ∷ []) ∷ word (codes "x") ∷ []) ∷ []) ∷ [])
+
+abbrev uses : Tree Ident
+uses = form (word (codes "m") ∷ [])
+
+abbrev with_uses : List FormOrKept
+with_uses = anew 0 macro ∷ keeping 1 uses (second_kept macro uses) ∷ anew 2 uses ∷ []
+
+uses_as_anew : kept_unit with_uses ≡ fresh_unit with_uses
+uses_as_anew = refl
+
+abbrev uses_told : Option (List Formed) → List ℕ
+uses_told None = []
+uses_told (Some rs) = map (λ (r : Formed). r.counted.uses) rs
+
+-- both uses are told, and one is worked
+told : uses_told (kept_unit with_uses) ≡ 0 ∷ 1 ∷ 1 ∷ []
+told = refl
+
+one_worked : unit_worked nowhere 20 with_uses empty ≡ 1
+one_worked = refl
+
+-- ---- too many nodes
+
+abbrev large : KeptForm → ℕ → KeptForm
+large k n = record { aside = record k.aside { moment = record k.aside.moment { nodes = n } }; parts = k.parts }
+
+-- with 3 nodes of the first form's, which is gone through without counting any
+abbrev of_nodes : ℕ → List FormOrKept
+of_nodes n = anew 0 after ∷ keeping 1 defining (large (record { aside = kept_aside (around_form nowhere 1 [] empty) 20 defining; parts = None }) n) ∷ []
+
+abbrev ends : Option (List Formed) → List ℕ
+ends None = 0 ∷ []
+ends (Some rs) = []
+
+too_many : ends (kept_unit (of_nodes 500001)) ≡ 0 ∷ []
+too_many = refl
