@@ -31,7 +31,8 @@ use Rattle.form_laws.specs.Begins.{Each, With, TreeWith, ItemWith, UseWith, IsTo
 use Rattle.form_laws.proofs.Beginnings.{fine_begins}
 use Rattle.kept_forms.specs.KeptForms.{around_form}
 use Rattle.kept_forms.proofs.Bares.{with_more}
-use Rattle.kept_forms.proofs.Uses.{IsPlaced, MacrosOfUnit, pass_placed, parts_placed}
+use Rattle.kept_forms.proofs.OneSide.{MacrosOfUnit}
+use Rattle.kept_forms.proofs.Uses.{IsPlaced, pass_placed, parts_placed}
 
 -- ---- work, and what is known of it
 
@@ -100,7 +101,7 @@ module _ (w : Era) (known : Known) where
 
   -- what was left of a form stands in the unit
   abbrev pub Stays : ScopedState → ℕ → Result (Left Ident) Broken → Type 0
-  Stays s form r = SetStands w known s (form, r) × MacrosOfUnit w known r
+  Stays s form r = SetStands w known s (form, r) × MacrosOfUnit r
 
   pub stays_later : (s t : ScopedState) → Grows w s t → (form : ℕ) (r : Result (Left Ident) Broken) → Stays s form r → Stays t form r
   stays_later s t g form r h = ((sets_later w known s t g ((form, r) ∷ []) (h.0, tt)).0, h.1)

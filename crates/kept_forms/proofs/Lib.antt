@@ -1,4 +1,5 @@
 pub mod Bares
+pub mod OneSide
 pub mod Uses
 pub mod Fronts
 pub mod OneForm
