@@ -6,4 +6,5 @@ pub mod OneForm
 pub mod Between
 pub mod KeptUnits
 pub mod Programs
+pub mod UsesCounted
 pub mod KeptRows
