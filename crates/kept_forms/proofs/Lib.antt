@@ -7,4 +7,5 @@ pub mod Between
 pub mod KeptUnits
 pub mod Programs
 pub mod UsesCounted
+pub mod WorkedLaw
 pub mod KeptRows

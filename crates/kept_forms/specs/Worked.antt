@@ -1,5 +1,5 @@
 -- How many macro uses are worked in a unit of which some forms are kept: none for what is put into its place.
-use Rattle.std.specs.Prelude.{ℕ, ◌+◌, ◌-◌, List, [], ◌∷◌, map, sum, Option, Some, None}
+use Rattle.std.specs.Prelude.{ℕ, ◌+◌, ◌-◌, List, [], ◌∷◌, Option, Some, None}
 use Rattle.scheme_model.specs.Requirements.{Known}
 use Rattle.scheme_model.specs.Order.{Note}
 use Rattle.scheme_model.specs.UnitExpansion.{unless_over}
@@ -50,4 +50,5 @@ not_kept (Some k) n = rest_of k.parts k.aside.moment.uses n
 
 -- where each has counted so many by then
 abbrev pub uses_not_kept : List FormOrKept → ScopedState → ℕ
-uses_not_kept xs t = sum (map (λ (x : FormOrKept). not_kept x.kept (t.uses x.form)) xs)
+uses_not_kept [] t = 0
+uses_not_kept (x ∷ xs) t = not_kept x.kept (t.uses x.form) + uses_not_kept xs t
