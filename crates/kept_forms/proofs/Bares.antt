@@ -1,6 +1,6 @@
 -- Surroundings that differ in the times at which bodies were entered alone: what is asked has the same answer in both, a form that may
 -- begin in one may begin in the other, and a form that goes to a moment goes to the same in both.
-use Rattle.std.proofs.Common.{◌≡◌, ℕ, List, [], ◌∷◌, ◌++◌, map, Bool, true, false, cond, Option, Some, None, Result, Ok, Err, refl, sym, ap, ◌∙◌, subst}
+use Rattle.std.proofs.Common.{◌≡◌, List, [], ◌∷◌, ◌++◌, map, Bool, true, false, cond, Option, Some, None, Result, Ok, Err, refl, sym, ap, ◌∙◌, subst}
 use Rattle.scheme_model.specs.Identifiers.{Number, same_number}
 use Rattle.scheme_model.specs.Ident.{Ident, Written, Inserted}
 use Rattle.scheme_model.specs.Trees.{Tree}
@@ -8,16 +8,16 @@ use Rattle.scheme_model.specs.ExpansionFaults.{Named}
 use Rattle.scheme_model.specs.Meaning.{Meaning, Local, Global, Standard, Free, same_meaning}
 use Rattle.scheme_model.specs.RulesShape.{Rules, option_map}
 use Rattle.scheme_model.specs.Steps.{Broken}
-use Rattle.scheme_model.specs.Order.{Item, Note, LookedUp, Compared, WaitingUse, Left, Transformer, is_some}
+use Rattle.scheme_model.specs.Order.{Note, LookedUp, Compared, Left, Transformer, is_some}
 use Rattle.scheme_model.specs.Substitution.{at_form, defined_in, definition_count, any, is_refused}
 use Rattle.scheme_model.specs.FrameImages.{is_before}
 use Rattle.scheme_model.specs.Scopes.{local_or}
 use Rattle.scheme_model.specs.ScopedExpansion.{Bind, Enter, Frames, UsePlace, FramedIdent, ScopedMacro, ScopedState, around, find, macro_at, is_defined}
-use Rattle.scheme_model.specs.OwnAnswers.{own_local, root_means, own_means}
+use Rattle.scheme_model.specs.OwnAnswers.{root_means, own_means}
 use Rattle.scheme_model.specs.Questions.{Moment, Around, at_moment, own_at, found, outcome_by, unit_outcome, Question, LooksUp, UsesRules, Compares, IsAssigned, Requires, Defines, Means, Expands, Ends, bare, bare_macro, answer, SameAnswer}
 use Rattle.scheme_model.specs.FormsAlike.{start, again, bare_place, bare_kept, bare_ident, bare_note, bare_state}
 use Rattle.scheme_model.proofs.IdentKinds.{Kind, tree_kind, rules_kind, item_kind, use_kind}
-use Rattle.form_laws.specs.Begins.{Each, With, plain_of, TreeWith, RulesWith, ItemWith, UseWith, IsCounted, IsToCome, IsMade, IsRooted, IsEntry, MacroStands, Begins, PlaceStands, NoteStands, FormBegins, LeftBegins, RestBegins, SameForm}
+use Rattle.form_laws.specs.Begins.{Each, With, RulesWith, ItemWith, UseWith, IsCounted, IsMade, IsRooted, IsEntry, MacroStands, Begins, PlaceStands, NoteStands, FormBegins, LeftBegins, RestBegins, SameForm}
 use Rattle.form_laws.proofs.Bare.{bare_twice, macro_bare, some_mapped, own_bare, any_bare}
 
 -- ---- without these times

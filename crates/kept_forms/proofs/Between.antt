@@ -1,33 +1,30 @@
 -- What holds of a unit at work between two of its forms, so that the next one may begin.
-use Rattle.std.proofs.Common.{◌≡◌, ℕ, List, [], ◌∷◌, map, Bool, true, false, cond, Option, Some, None, Result, Ok, Err, refl, sym, ap, ◌∙◌, subst}
+use Rattle.std.proofs.Common.{◌≡◌, ℕ, List, [], ◌∷◌, false, cond, Option, Some, None, Result, Ok, Err, refl, sym, ap, ◌∙◌, subst}
 use Rattle.scheme_model.specs.Identifiers.{Number}
 use Rattle.scheme_model.specs.Ident.{Ident, Written, Inserted}
 use Rattle.scheme_model.specs.Trees.{Tree}
 use Rattle.scheme_model.specs.Requirements.{Known}
-use Rattle.scheme_model.specs.Cores.{Parts}
 use Rattle.scheme_model.specs.Steps.{Broken}
 use Rattle.scheme_model.specs.Order.{Item, Note, LookedUp, Compared, WaitingUse, Left, Pass, run}
 use Rattle.scheme_model.specs.Expression.{expand}
 use Rattle.scheme_model.specs.UnitExpansion.{unless_over, one_form, form_parts}
 use Rattle.scheme_model.specs.Substitution.{Clock}
 use Rattle.scheme_model.specs.FrameImages.{is_before}
-use Rattle.scheme_model.specs.ScopedExpansion.{UsePlace, FramedIdent, ScopedState, around, scoped}
+use Rattle.scheme_model.specs.ScopedExpansion.{UsePlace, FramedIdent, ScopedState, around}
 use Rattle.scheme_model.specs.CountedExpansion.{counted}
 use Rattle.scheme_model.proofs.Clocks.{apart}
 use Rattle.scheme_model.proofs.IdentKinds.{tree_kind, item_kind, use_kind}
-use Rattle.scheme_model.proofs.FrameEras.{Era, Before, Below}
+use Rattle.scheme_model.proofs.FrameEras.{Era, Before}
 use Rattle.scheme_model.proofs.FrameAsks.{AllOf}
 use Rattle.scheme_model.proofs.EntryLaws.{GivenNoLocal}
-use Rattle.scheme_model.proofs.FrameRoots.{AtRoot, Rooted}
 use Rattle.scheme_model.proofs.FrameStates.{FineState, Grows}
 use Rattle.scheme_model.proofs.FrameLeaves.{TreeAll, lift_tree, lifted_tree, Held}
 use Rattle.scheme_model.proofs.FrameHeld.{NoteAll, ItemHeld}
 use Rattle.scheme_model.proofs.FrameUnit.{UnitLeaf, UnitPlace, UnitState}
 use Rattle.scheme_model.proofs.UnitEnds.{Both, both_end, both_go, OnWork}
-use Rattle.scheme_model.proofs.CountedForms.{OkAll}
 use Rattle.scheme_model.proofs.CountedStates.{Formed, LocalsKept, locals_later, form_begins}
 use Rattle.scheme_model.proofs.CountedUnits.{SetStands, sets_later, pass_same, aside_same}
-use Rattle.form_laws.specs.Begins.{Each, With, TreeWith, ItemWith, UseWith, IsToCome, IsRooted, Begins, PlaceStands, NoteStands, MacroInUnit, FormBegins, LeftBegins, RestBegins}
+use Rattle.form_laws.specs.Begins.{Each, ItemWith, UseWith, IsRooted, Begins, NoteStands, FormBegins, RestBegins}
 use Rattle.form_laws.proofs.Beginnings.{fine_begins}
 use Rattle.kept_forms.specs.KeptForms.{around_form}
 use Rattle.kept_forms.proofs.Bares.{with_more}

@@ -1,17 +1,17 @@
 -- Small units of which one form is kept, computed.
-use Rattle.std.proofs.Common.{◌≡◌, ℕ, List, [], ◌∷◌, map, false, Option, Some, None, Result, Ok, Err, refl}
+use Rattle.std.proofs.Common.{◌≡◌, ℕ, List, [], ◌∷◌, map, Bool, true, false, Option, Some, None, Result, Ok, Err, refl}
 use Rattle.std.specs.Prelude.{codes}
 use Rattle.scheme_model.specs.Ident.{Ident}
-use Rattle.scheme_model.specs.Trees.{Tree}
+use Rattle.scheme_model.specs.Trees.{Tree, vector, no_trees}
 use Rattle.scheme_model.specs.Requirements.{Known}
-use Rattle.scheme_model.specs.Cores.{Bound, LocalNumber, Definition, Parts, no_parts, part, Part, Expression as expression_part, Define as define_part, Values as values_part, Fields as fields_part, Syntax as syntax_part}
+use Rattle.scheme_model.specs.Cores.{Quote, Bound, LocalNumber, Definition, Parts, no_parts, part, Part, Expression as expression_part, Define as define_part, Values as values_part, Fields as fields_part, Syntax as syntax_part}
 use Rattle.scheme_model.specs.Steps.{Broken}
 use Rattle.scheme_model.specs.Order.{Left}
 use Rattle.scheme_model.specs.UnitExpansion.{Formed, unit}
 use Rattle.scheme_model.specs.ScopedExpansion.{ScopedState}
 use Rattle.scheme_model.specs.CountedExpansion.{counted}
-use Rattle.scheme_model.specs.Questions.{Around}
-use Rattle.scheme_model.specs.FormsAlike.{set_aside, finish, set_aside_asking}
+use Rattle.scheme_model.specs.Questions.{Moment}
+use Rattle.scheme_model.specs.FormsAlike.{set_aside, finish, set_aside_asking, start}
 use Rattle.form_laws.proofs.QuestionRows.{empty, word, form}
 use Rattle.kept_forms.specs.KeptForms.{KeptForm, FormOrKept, form_of, around_form, unit_keeping}
 use Rattle.kept_forms.specs.Carried.{kept_aside, kept_parts}
@@ -123,16 +123,35 @@ one_worked = refl
 
 -- ---- too many nodes
 
-abbrev large : KeptForm → ℕ → KeptForm
-large k n = record { aside = record k.aside { moment = record k.aside.moment { nodes = n } }; parts = k.parts }
+-- a form that had counted so many nodes when it was gone through, and so many behind each of its items
+abbrev at_nodes : ℕ → Moment
+at_nodes n = record (start empty) { nodes = n }
 
--- with 3 nodes of the first form's, which is gone through without counting any
-abbrev of_nodes : ℕ → List FormOrKept
-of_nodes n = anew 0 after ∷ keeping 1 defining (large (record { aside = kept_aside (around_form nowhere 1 [] empty) 20 defining; parts = None }) n) ∷ []
+abbrev counting : ℕ → List ℕ → List FormOrKept
+counting n ns =
+    keeping 0 before (record {
+      aside = record { pass = record { notes = []; left = Ok no_left }; moment = at_nodes n; before = 0 };
+      parts = Some (record { met = at_nodes n; items = map (λ m. record { part = Ok (expression_part (Quote (vector no_trees None))); moment = at_nodes m }) ns });
+    }) ∷ anew 1 before ∷ []
 
-abbrev ends : Option (List Formed) → List ℕ
-ends None = 0 ∷ []
-ends (Some rs) = []
+abbrev goes : Option (List Formed) × ScopedState → Bool × ℕ
+goes (None, s) = (false, s.nodes 0)
+goes (Some rs, s) = (true, s.nodes 0)
 
-too_many : ends (kept_unit (of_nodes 500001)) ≡ 0 ∷ []
-too_many = refl
+abbrev work : ℕ → List ℕ → Bool × ℕ
+work n ns = goes (unit_keeping nowhere 20 (counting n ns) empty)
+
+-- it ends behind the form
+ends_behind_form : work 500001 [] ≡ (false, 500001)
+ends_behind_form = refl
+
+-- it ends behind the second item
+ends_behind_item : work 1 (2 ∷ 500001 ∷ 500002 ∷ []) ≡ (false, 500001)
+ends_behind_item = refl
+
+-- the core of the other form, (f y), has 3 nodes
+goes_on : work 1 (2 ∷ 499997 ∷ []) ≡ (true, 499997)
+goes_on = refl
+
+ends_in_the_other : work 1 (2 ∷ 499998 ∷ []) ≡ (false, 499998)
+ends_in_the_other = refl

@@ -1,16 +1,14 @@
 -- A unit of which some forms are kept comes to what it comes to where every form is expanded, and each of its forms may begin where its
 -- turn comes.
-use Rattle.std.proofs.Common.{◌≡◌, ℕ, List, [], ◌∷◌, map, Option, Some, None, Result, Ok, Err, refl, sym, ap, ◌∙◌, subst}
+use Rattle.std.proofs.Common.{◌≡◌, ℕ, List, [], ◌∷◌, map, Option, Some, None, Result, refl, sym, ap, ◌∙◌, subst}
 use Rattle.scheme_model.specs.Ident.{Ident}
-use Rattle.scheme_model.specs.Trees.{Tree}
 use Rattle.scheme_model.specs.Requirements.{Known}
 use Rattle.scheme_model.specs.Steps.{Broken}
 use Rattle.scheme_model.specs.Order.{Left, Note, Pass}
 use Rattle.scheme_model.specs.Expression.{expand}
-use Rattle.scheme_model.specs.UnitExpansion.{Formed, ◌then◌, going, unless_over, passes, form_parts, finished, unit}
+use Rattle.scheme_model.specs.UnitExpansion.{unless_over, passes, finished, unit}
 use Rattle.scheme_model.specs.ScopedExpansion.{FramedIdent, ScopedState}
 use Rattle.scheme_model.specs.CountedExpansion.{counted}
-use Rattle.scheme_model.specs.Questions.{Around}
 use Rattle.scheme_model.specs.FormsAlike.{set_aside, bare_note, bare_state}
 use Rattle.scheme_model.proofs.FrameEras.{Era}
 use Rattle.scheme_model.proofs.FrameAsks.{AllOf, all_of_more}
@@ -18,8 +16,7 @@ use Rattle.scheme_model.proofs.FrameStates.{Grows, grows_itself, grows_then}
 use Rattle.scheme_model.proofs.FrameLeaves.{TreeAll, tree_more}
 use Rattle.scheme_model.proofs.FrameUnit.{UnitLeaf, leaf_later}
 use Rattle.scheme_model.proofs.UnitEnds.{Both, both_end, both_go, both_at, both_then, both_over, OnWork}
-use Rattle.form_laws.specs.Begins.{FormBegins, RestBegins}
-use Rattle.kept_forms.specs.KeptForms.{FormOrKept, form_of, around_form, goes_through, LeftOrKept, rest_kept, passes_keeping, comes_to, finished_keeping, numbers_of, unit_keeping}
+use Rattle.kept_forms.specs.KeptForms.{FormOrKept, form_of, around_form, goes_through, LeftOrKept, passes_keeping, finished_keeping, numbers_of, unit_keeping}
 use Rattle.kept_forms.specs.Carried.{Onwards, PassesKept, RestsKept, UnitKept, PassesBegin, RestsBegin, UnitBegins, SameWork}
 use Rattle.kept_forms.proofs.Bares.{bare_around, form_begins_too, rest_begins_too}
 use Rattle.kept_forms.proofs.Fronts.{EndedLike, GivesLike, nodes_like}

@@ -11,7 +11,7 @@ use Rattle.scheme_model.specs.Substitution.{definition_count}
 use Rattle.scheme_model.specs.ScopedExpansion.{FramedIdent, ScopedState}
 use Rattle.scheme_model.specs.CountedExpansion.{counted}
 use Rattle.scheme_model.specs.Questions.{Around, SameAnswer, Asking, asking}
-use Rattle.scheme_model.specs.FormsAlike.{bound_moved, binder_with, item_with, left_with, or_fault, set_aside, no_questions, set_aside_asking, finish_asking, questions_of_pass, questions_of_left, again, bare_note, bare_state}
+use Rattle.scheme_model.specs.FormsAlike.{bound_moved, binder_with, item_with, left_with, or_fault, set_aside, no_questions, set_aside_asking, questions_of_pass, questions_of_left, again, bare_note, bare_state}
 use Rattle.scheme_model.proofs.FrameAsks.{AllOf}
 use Rattle.scheme_model.proofs.UnitEnds.{Both, both_go, both_at}
 use Rattle.form_laws.specs.Begins.{Each, ItemWith, IsRooted, MacroInUnit, Begins, FormBegins, LeftBegins, RestBegins, SameForm}
@@ -25,7 +25,7 @@ use Rattle.form_laws.proofs.FormLaws.{set_itself, set_law, finish_law}
 use Rattle.kept_forms.specs.KeptForms.{KeptForm, KeptParts, put_aside, goes_through, kept_moved, put_parts, comes_to}
 use Rattle.kept_forms.specs.Carried.{kept_aside, kept_parts, PassStays, RestStays, PassKept, RestKept}
 use Rattle.kept_forms.proofs.Bares.{bare_around, notes_joined, form_begins_too, rest_begins_too, definitions_too, again_too, answers_too, form_too, answers_itself}
-use Rattle.kept_forms.proofs.Fronts.{EndedLike, GivesLike, across, FrontLike, Fronts, items_like}
+use Rattle.kept_forms.proofs.Fronts.{EndedLike, GivesLike, across, Fronts, items_like}
 
 -- ---- moved by nothing
 

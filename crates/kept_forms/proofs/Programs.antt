@@ -1,11 +1,14 @@
 -- Each unit of a program begins so that its forms may be kept, whatever was worked on before it.
-use Rattle.std.proofs.Common.{◌≡◌, ℕ, zero, suc, List, [], ◌∷◌, map, Bool, true, false, cond, ltb, arith, Option, Some, None, refl, sym, ap, ◌∙◌, subst}
+use Rattle.std.proofs.Common.{◌≡◌, ℕ, zero, suc, ◌+◌, ◌≤◌, List, [], ◌∷◌, map, Bool, true, false, cond, ltb, arith, Option, Some, None, refl, sym, ap, ◌∙◌, subst}
 use Rattle.std.specs.Prelude.{◌==◌, ◌||◌}
 use Rattle.std.proofs.lemmas.Bool.{false_from_ne_true}
 use Rattle.std.proofs.lemmas.Bool.Decides.{nat_tests}
 use Rattle.scheme_model.specs.Identifiers.{Number}
 use Rattle.scheme_model.specs.Ident.{Ident, Written}
-use Rattle.scheme_model.specs.Trees.{Tree}
+use Rattle.scheme_model.specs.Trees.{Tree, placed_in}
+use Rattle.scheme_model.specs.Data.{place_of}
+use Rattle.scheme_model.specs.DataTrees.{tree_of}
+use Rattle.scheme_model.specs.Declarations.{UnitForm}
 use Rattle.scheme_model.specs.Requirements.{Known}
 use Rattle.scheme_model.specs.Order.{is_some}
 use Rattle.scheme_model.specs.UnitExpansion.{Formed, unit}
@@ -14,20 +17,73 @@ use Rattle.scheme_model.specs.ScopedExpansion.{UsePlace, ScopedState}
 use Rattle.scheme_model.specs.CountedExpansion.{counted}
 use Rattle.scheme_model.specs.Entries.{Entry}
 use Rattle.scheme_model.specs.Program.{Placed, Prepared, WholeFault, fault_before, SetResult, UnitResult, result_at, unit_entries, with_entries, enough_turns, broken_result, unit_result, is_ready, first_ready}
-use Rattle.scheme_model.specs.ScopedProgram.{ScopedProgress, forms_over, scoped_start_of, scoped_unit_over, scoped_start_after, scoped_expanded, scoped_by_fault, scoped_worked, scoped_work, scoped_before}
+use Rattle.scheme_model.specs.ScopedProgram.{ScopedProgress, forms_over, scoped_start_of, scoped_unit_over, scoped_start_after, scoped_by_fault, scoped_worked, scoped_work, scoped_before}
 use Rattle.scheme_model.proofs.FrameEras.{Era, Worked, Before}
 use Rattle.scheme_model.proofs.FrameAsks.{AllOf, all_of_more}
 use Rattle.scheme_model.proofs.EntryLaws.{NoLocal, unit_entries_fit}
 use Rattle.scheme_model.proofs.FrameLeaves.{TreeAll}
+use Rattle.scheme_model.proofs.UnitEnds.{OnWork}
 use Rattle.scheme_model.proofs.FrameUnit.{UnitLeaf}
 use Rattle.scheme_model.proofs.FrameUnits.{FormHeld}
 use Rattle.scheme_model.proofs.FrameBetween.{none_yet}
 use Rattle.scheme_model.proofs.FramePrograms.{done, coming, locals_none, start_unit, forms_held, not_done, work_gone, between_before}
 use Rattle.kept_forms.specs.KeptForms.{FormOrKept, form_of, unit_keeping}
-use Rattle.kept_forms.specs.Carried.{UnitKept, UnitBegins, SameWork}
+use Rattle.form_laws.specs.Begins.{Each}
+use Rattle.kept_forms.specs.Carried.{Onwards, UnitKept, UnitBegins, SameWork}
+use Rattle.kept_forms.specs.Worked.{unit_worked, not_kept, uses_not_kept, UsesTold}
 use Rattle.kept_forms.proofs.Uses.{IsPlaced, unit_placed}
 use Rattle.kept_forms.proofs.Between.{Between}
 use Rattle.kept_forms.proofs.KeptUnits.{unit_like, unit_begins}
+use Rattle.kept_forms.proofs.UsesCounted.{Not, Distinct, of_form}
+use Rattle.kept_forms.proofs.WorkedLaw.{Zero, worked_law, told_law}
+
+-- ---- forms of units have numbers of their own
+
+abbrev number_of : ℕ × Tree Ident → ℕ
+number_of t = t.0
+
+module _ (written : List ℕ → Ident) (u : ℕ) where
+  from_here : (fs : List UnitForm) (k form : ℕ) → k ≤ form → AllOf (λ (t : ℕ × Tree Ident). k ≤ t.0) (forms_over written u form fs)
+  from_here [] k form le = tt
+  from_here (x ∷ fs) k form le = go x.declared (from_here fs k (suc form) (omega (arith, le)))
+    where
+      go : (b : Bool) → AllOf (λ (t : ℕ × Tree Ident). k ≤ t.0) (forms_over written u (suc form) fs)
+          → AllOf (λ (t : ℕ × Tree Ident). k ≤ t.0) (cond b (forms_over written u (suc form) fs) ((form, tree_of written (placed_in u form (place_of x.datum).first) x.datum) ∷ forms_over written u (suc form) fs))
+      go true h = h
+      go false h = (le, h)
+
+  forms_distinct : (fs : List UnitForm) (form : ℕ) → Distinct number_of (forms_over written u form fs)
+  forms_distinct [] form = tt
+  forms_distinct (x ∷ fs) form = go x.declared (forms_distinct fs (suc form))
+    where
+      go : (b : Bool) → Distinct number_of (forms_over written u (suc form) fs) → Distinct number_of (cond b (forms_over written u (suc form) fs) ((form, tree_of written (placed_in u form (place_of x.datum).first) x.datum) ∷ forms_over written u (suc form) fs))
+      go true h = h
+      go false h =
+          (all_of_more (λ (t : ℕ × Tree Ident). suc form ≤ t.0) (λ (t : ℕ × Tree Ident). form ≡ t.0 → ⊥) (λ t le e. omega (arith, le, e)) (forms_over written u (suc form) fs) (from_here fs (suc form) (suc form) (omega arith)), h)
+
+not_among : (g : ℕ) (xs : List FormOrKept) → Not number_of g (map form_of xs) → Not of_form g xs
+not_among g [] h = tt
+not_among g (x ∷ xs) h = (h.0, not_among g xs h.1)
+
+distinct_forms : (xs : List FormOrKept) → Distinct number_of (map form_of xs) → Distinct of_form xs
+distinct_forms [] h = tt
+distinct_forms (x ∷ xs) h = (not_among x.form xs h.0, distinct_forms xs h.1)
+
+-- ---- what is told of the same work
+
+not_kept_same : (xs : List FormOrKept) (s t : ScopedState) → t.uses ≡ s.uses → uses_not_kept xs t ≡ uses_not_kept xs s
+not_kept_same [] s t e = refl
+not_kept_same (x ∷ xs) s t e = let b = not_kept_same xs s t e in λ j. not_kept x.kept (e j x.form) + b j
+
+value_or : {X : Type 0} → X → Option X → X
+value_or x None = x
+value_or x (Some y) = y
+
+told_same : (q m : Option (List Formed) × ScopedState) → m.0 ≡ q.0 → m.1.uses ≡ q.1.uses → OnWork (λ t. Unit {0}) (λ t rs. UsesTold rs t) q → Onwards (λ rs t. UsesTold rs t) m
+unfolding value_or
+told_same q (None, t) e d h = tt
+told_same (None, s) (Some y, t) e d h = let z : Some y ≡ None = e in absurd cc
+told_same (Some x, s) (Some y, t) e d h = subst (λ (z : List Formed × (ℕ → ℕ)). Each (λ (r : Formed). r.counted.uses ≡ z.1 r.form) z.0) (λ j. (value_or x (sym e j), sym d j)) h
 
 -- ---- the uses of units that were worked on
 
@@ -152,3 +208,18 @@ module _ (all : List Placed) (ps : List Prepared) (known : Known) where
 
       pub forms_begin : UnitBegins known enough_turns xs s
       forms_begin = unit_begins w known enough_turns xs s between held kept
+
+      -- ---- the uses that are worked
+
+      zero_all : (ys : List FormOrKept) → Zero s ys
+      zero_all [] = tt
+      zero_all (y ∷ ys) = (refl, zero_all ys)
+
+      distinct : Distinct of_form xs
+      distinct = distinct_forms xs (subst (Distinct number_of) (sym forms) (forms_distinct (Written p.number) p.number p.forms 0))
+
+      pub uses_worked : unit_worked known enough_turns xs s ≡ uses_not_kept xs (scoped_unit_over known p s).1
+      uses_worked = worked_law known enough_turns xs s distinct (zero_all xs) ∙ sym (not_kept_same xs (unit_keeping known enough_turns xs s).1 (scoped_unit_over known p s).1 (ap (λ (z : ScopedState). z.uses) same_unit.state))
+
+      pub uses_told : Onwards (λ rs t. UsesTold rs t) (scoped_unit_over known p s)
+      uses_told = told_same (unit_keeping known enough_turns xs s) (scoped_unit_over known p s) same_unit.result (ap (λ (z : ScopedState). z.uses) same_unit.state) (told_law known enough_turns xs s distinct (zero_all xs))

@@ -1,27 +1,20 @@
 -- In a unit at work each use whose place is kept is counted.
-use Rattle.std.proofs.Common.{◌≡◌, ℕ, suc, List, [], ◌∷◌, map, Bool, true, false, cond, Option, Some, None, Result, Ok, Err, refl, sym, ap, ◌∙◌, subst}
+use Rattle.std.proofs.Common.{◌≡◌, ℕ, suc, List, [], ◌∷◌, map, Bool, true, false, cond, Option, Some, None, Result, refl, sym, ◌∙◌, subst}
 use Rattle.std.specs.Prelude.{nat_lt}
-use Rattle.scheme_model.specs.Identifiers.{Number}
 use Rattle.scheme_model.specs.Ident.{Ident}
 use Rattle.scheme_model.specs.Trees.{Tree}
-use Rattle.scheme_model.specs.ExpansionFaults.{Named, Fault, KeywordRedefined, Duplicate}
-use Rattle.scheme_model.specs.Meaning.{same_meaning}
 use Rattle.scheme_model.specs.Requirements.{Known}
-use Rattle.scheme_model.specs.RulesShape.{Rules}
-use Rattle.scheme_model.specs.Cores.{Bound, LocalNumber, Definition, Parts, Part}
 use Rattle.scheme_model.specs.Steps.{Broken}
-use Rattle.scheme_model.specs.Order.{Item, Expression, Value, Function, Assigned, AssignedFunction, ValuesOf, Record, Macro, Note, LookedUp, Compared, WaitingUse, Left, Pass, Pending, Renamed, Transformer, Asked, Meant, Headed, RulesOf, Alike, Assigns, Library, Ops, is_some, head_of, meet_all, meet_waiting, run}
-use Rattle.scheme_model.specs.Expression.{meaning_of, expand, item_part}
-use Rattle.scheme_model.specs.UnitExpansion.{max_depth, max_total, Work, ◌then◌, going, nodes_in, unless_over, one_form, passes, before_parts, with_part, items_parts, form_parts, finished, unit}
-use Rattle.scheme_model.specs.Substitution.{any, unchanged, at_form, Clock}
-use Rattle.scheme_model.specs.ScopedExpansion.{Frames, FramedIdent, UsePlace, ScopedState, next_number, macro_at, body_around, definition_added, meaning_next, is_defined, bound_next}
-use Rattle.scheme_model.specs.CountedExpansion.{refused_here, counted}
+use Rattle.scheme_model.specs.Order.{Note, Left, Pass, Ops, run}
+use Rattle.scheme_model.specs.Expression.{expand}
+use Rattle.scheme_model.specs.UnitExpansion.{max_total, Work, ◌then◌, going, nodes_in, unless_over, one_form, passes, form_parts, finished, unit}
+use Rattle.scheme_model.specs.Substitution.{at_form, Clock}
+use Rattle.scheme_model.specs.ScopedExpansion.{Frames, FramedIdent, UsePlace, ScopedState, next_number}
+use Rattle.scheme_model.specs.CountedExpansion.{counted}
 use Rattle.scheme_model.proofs.Clocks.{leq_counted, next_counted}
 use Rattle.scheme_model.proofs.FrameEras.{Era, Before, before_more, unit_worked}
 use Rattle.scheme_model.proofs.FrameAsks.{AllOf, all_of_more}
-use Rattle.scheme_model.proofs.FrameHeads.{IfMacro}
 use Rattle.scheme_model.proofs.UnitEnds.{OnWork}
-use Rattle.scheme_model.proofs.CountedForms.{OkAll}
 use Rattle.kept_forms.proofs.OneSide.{MacrosOfUnit, over_keeps, then_keeps, run_keeps, parts_keep}
 
 module _ (w : Era) (known : Known) where

@@ -1,24 +1,22 @@
 -- Each form of a unit counts its own macro uses alone, and never fewer.
-use Rattle.std.proofs.Common.{◌≡◌, ℕ, suc, ◌≤◌, List, [], ◌∷◌, map, Bool, true, false, cond, Option, Some, None, Result, Ok, Err, refl, sym, ap, ◌∙◌, subst}
-use Rattle.std.specs.Prelude.{◌==◌, nat_lt}
+use Rattle.std.proofs.Common.{◌≡◌, ℕ, suc, ◌≤◌, List, [], ◌∷◌, cond, Option, Some, None, Result, Ok, Err, refl, sym, ap, ◌∙◌, subst}
+use Rattle.std.specs.Prelude.{◌==◌}
 use Rattle.std.proofs.lemmas.Bool.{eqb-true, false_from_ne_true}
 use Rattle.scheme_model.specs.Ident.{Ident}
 use Rattle.scheme_model.specs.Trees.{Tree}
 use Rattle.scheme_model.specs.Requirements.{Known}
-use Rattle.scheme_model.specs.Cores.{Parts, Part}
 use Rattle.scheme_model.specs.Steps.{Broken}
-use Rattle.scheme_model.specs.Order.{Left, Note, Pass, run}
-use Rattle.scheme_model.specs.Expression.{expand}
-use Rattle.scheme_model.specs.UnitExpansion.{Formed, Work, ◌then◌, going, unless_over, one_form, before_parts, form_parts}
+use Rattle.scheme_model.specs.Order.{Left, Note}
+use Rattle.scheme_model.specs.UnitExpansion.{◌then◌, going, unless_over, before_parts}
 use Rattle.scheme_model.specs.Substitution.{Clock, at_form}
-use Rattle.scheme_model.specs.ScopedExpansion.{Frames, FramedIdent, UsePlace, ScopedState}
+use Rattle.scheme_model.specs.ScopedExpansion.{Frames, FramedIdent, ScopedState}
 use Rattle.scheme_model.specs.CountedExpansion.{counted}
 use Rattle.scheme_model.specs.Questions.{Moment, Around}
 use Rattle.scheme_model.specs.FormsAlike.{again}
 use Rattle.scheme_model.proofs.OpenBodies.{Leq}
 use Rattle.scheme_model.proofs.Clocks.{leq_itself, leq_then, leq_counted}
 use Rattle.scheme_model.proofs.FrameAsks.{AllOf}
-use Rattle.kept_forms.specs.KeptForms.{KeptItem, KeptParts, KeptForm, FormOrKept, around_form, goes_through, LeftOrKept, rest_kept, passes_keeping, put_items, put_parts, comes_to, finished_keeping}
+use Rattle.kept_forms.specs.KeptForms.{KeptItem, KeptParts, KeptForm, FormOrKept, around_form, goes_through, LeftOrKept, rest_kept, passes_keeping, put_items, comes_to, finished_keeping}
 use Rattle.kept_forms.proofs.OneSide.{over_keeps, then_keeps, before_keeps, run_keeps, parts_keep}
 
 -- a form at work has counted no fewer uses than these, and the other forms as many
@@ -71,6 +69,19 @@ module _ (v : Around) (turns : ℕ) where
 
     pub rest_more : (r : Result (Left Ident) Broken) → v.state.uses v.state.form ≤ (comes_to v turns fs r None).1.uses v.state.form
     rest_more r = (rest_counts r).1 v.state.form
+
+  put_form : (fs : List ℕ) (ks : List KeptItem) (s : ScopedState) → s.form ≡ v.state.form → (put_items v fs ks s).1.form ≡ v.state.form
+  put_form fs [] s h = h
+  put_form fs (k ∷ ks) s h =
+      let I : ScopedState → Type 0 = λ (t : ScopedState). t.form ≡ v.state.form in
+      then_keeps v.known I (unless_over (counted v.known) fs (k.part, again v k.moment)) (before_parts (put_items v fs ks)) (over_keeps v.known I fs (k.part, again v k.moment) refl)
+      (λ p t e. before_keeps v.known I (put_items v fs ks) (λ u b. put_form fs ks u b) p t e)
+
+  -- it is still at work
+  pub rest_form : (fs : List ℕ) (r : Result (Left Ident) Broken) (o : Option KeptParts) → (comes_to v turns fs r o).1.form ≡ v.state.form
+  rest_form fs r None = (rest_counts fs r).0
+  rest_form fs (Err e) (Some k) = refl
+  rest_form fs (Ok l) (Some k) = put_form fs k.items (again v k.met) refl
 
 -- ---- forms that aren't among these
 

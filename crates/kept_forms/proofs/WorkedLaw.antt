@@ -1,6 +1,6 @@
 -- In a unit of which some forms are kept as many macro uses are worked as the others count.
-use Rattle.std.proofs.Common.{◌≡◌, ℕ, zero, suc, ◌+◌, ◌-◌, ◌≤◌, List, [], ◌∷◌, map, Bool, true, false, cond, Option, Some, None, Result, refl, sym, ap, ◌∙◌, subst, arith}
-use Rattle.std.specs.Prelude.{nat_lt, ◌==◌}
+use Rattle.std.proofs.Common.{◌≡◌, ℕ, ◌+◌, ◌-◌, ◌≤◌, List, [], ◌∷◌, Bool, true, false, cond, Option, Some, None, Result, refl, sym, ap, ◌∙◌, subst, arith}
+use Rattle.std.specs.Prelude.{nat_lt}
 use Rattle.scheme_model.specs.Requirements.{Known}
 use Rattle.scheme_model.specs.Cores.{Parts}
 use Rattle.scheme_model.specs.Steps.{Broken}
@@ -14,8 +14,8 @@ use Rattle.scheme_model.proofs.FrameAsks.{AllOf, all_of_more}
 use Rattle.scheme_model.proofs.UnitEnds.{OnWork}
 use Rattle.form_laws.proofs.Leaving.{at_here}
 use Rattle.kept_forms.specs.KeptForms.{KeptParts, KeptForm, FormOrKept, around_form, goes_through, LeftOrKept, rest_kept, passes_keeping, comes_to, finished_keeping, numbers_of, unit_keeping}
-use Rattle.kept_forms.specs.Worked.{begun_by, unless_kept, worked_then, passes_worked, rests_worked, unit_worked, rest_of, not_kept, uses_not_kept}
-use Rattle.kept_forms.proofs.UsesCounted.{pass_others, rest_others, rest_more, Not, Distinct, of_form, of_left, passes_others, rests_others}
+use Rattle.kept_forms.specs.Worked.{begun_by, unless_kept, worked_then, passes_worked, rests_worked, unit_worked, rest_of, not_kept, uses_not_kept, UsesTold}
+use Rattle.kept_forms.proofs.UsesCounted.{pass_others, rest_others, rest_more, rest_form, Not, Distinct, of_form, of_left, passes_others, rests_others}
 
 -- ---- work that goes on
 
@@ -42,7 +42,7 @@ Same number s t xs = AllOf (λ x. t.uses (number x) ≡ s.uses (number x)) xs
 same_others : {X : Type 0} (number : X → ℕ) (g : ℕ) (s t : ScopedState) → ((f : ℕ) → (f ≡ g → ⊥) → t.uses f ≡ s.uses f) → (xs : List X) → Not number g xs → Same number s t xs
 same_others number g s t e xs h = all_of_more (λ x. g ≡ number x → ⊥) (λ x. t.uses (number x) ≡ s.uses (number x)) (λ x ne. e (number x) (λ d. ne (sym d))) xs h
 
-abbrev Zero : ScopedState → List FormOrKept → Type 0
+abbrev pub Zero : ScopedState → List FormOrKept → Type 0
 Zero s xs = AllOf (λ (x : FormOrKept). s.uses x.form ≡ 0) xs
 
 zero_still : (s t : ScopedState) (xs : List FormOrKept) → Same of_form s t xs → Zero s xs → Zero t xs
@@ -241,6 +241,23 @@ module _ (known : Known) (turns : ℕ) (fs : List ℕ) where
           subst (λ (z : ScopedState). (unless_kept r.kept (begun_by r.form s t) + rests_worked known turns fs rs t ≡ second_sum (r ∷ rs) s z) × More s z (r ∷ rs)) end
           (c, (if_more r.kept (subst (λ n. s.uses r.form ≤ n) (sym head)) m, more_from s t u.1 rs e there.1))
 
+  -- ---- what is told
+
+  told : (rs : List LeftOrKept) (s : ScopedState) → Distinct of_left rs → OnWork (λ t. Unit {0}) (λ t fs. UsesTold fs t) (finished_keeping known turns fs rs s)
+  told [] s d = tt
+  told (r ∷ rs) s d =
+      let v = around_form known r.form [] s in
+      go (comes_to v turns fs r.left r.kept) (rest_form v turns fs r.left r.kept) (λ t. told rs t d.1)
+    where
+      one : (p : Result Parts Broken) (t : ScopedState) → t.form ≡ r.form → (u : Option (List Formed) × ScopedState) → u.1.uses r.form ≡ t.uses r.form → OnWork (λ t. Unit {0}) (λ t fs. UsesTold fs t) u
+          → OnWork (λ t. Unit {0}) (λ t fs. UsesTold fs t) (u then λ rest. going (record { form = r.form; result = p; counted = (counted known).counted t } ∷ rest))
+      one p t e (None, u) b h = tt
+      one p t e (Some rest, u) b h = (ap t.uses e ∙ sym b, h)
+
+      go : (q : Option (Result Parts Broken) × ScopedState) → q.1.form ≡ r.form → ((t : ScopedState) → OnWork (λ t. Unit {0}) (λ t fs. UsesTold fs t) (finished_keeping known turns fs rs t)) → OnWork (λ t. Unit {0}) (λ t fs. UsesTold fs t) (onto r rs q)
+      go (None, t) e law = tt
+      go (Some p, t) e law = one p t e (finished_keeping known turns fs rs t) (rests_others known turns fs r.form rs t d.0) (law t)
+
   -- ---- together
 
   ended_one : (o : Option KeptForm) (n : ℕ) → FirstWithin o n → unless_kept o n ≡ not_kept o n
@@ -302,3 +319,10 @@ worked_law known turns xs s d z =
         let a = f.0 in
         let b = both_sum known turns (numbers_of xs) t (finished_keeping known turns (numbers_of xs) rs t).1 rs xs h.0 h.1 f.1 in
         omega (arith, e, a, b)
+
+pub told_law : (known : Known) (turns : ℕ) (xs : List FormOrKept) (s : ScopedState) → Distinct of_form xs → Zero s xs → OnWork (λ t. Unit {0}) (λ t rs. UsesTold rs t) (unit_keeping known turns xs s)
+told_law known turns xs s d z = go (passes_keeping known turns (numbers_of xs) xs [] s) (passed known turns (numbers_of xs) xs [] s d z).1
+  where
+    go : (q : Option (List LeftOrKept) × ScopedState) → OnWork (λ t. FirstsWithin t xs) (λ t rs. Match rs xs × FirstsAre t xs) q → OnWork (λ t. Unit {0}) (λ t rs. UsesTold rs t) (q then finished_keeping known turns (numbers_of xs))
+    go (None, t) h = tt
+    go (Some rs, t) h = told known turns (numbers_of xs) rs t (distinct_match known turns (numbers_of xs) rs xs h.0 d)

@@ -8,7 +8,7 @@ use Rattle.scheme_model.specs.Cores.{Part}
 use Rattle.scheme_model.specs.Steps.{Broken, Step}
 use Rattle.scheme_model.specs.Order.{Item, Left, Note, meet_all}
 use Rattle.scheme_model.specs.Expression.{expand, item_part}
-use Rattle.scheme_model.specs.UnitExpansion.{Formed, max_depth, unless_over}
+use Rattle.scheme_model.specs.UnitExpansion.{max_depth, unless_over}
 use Rattle.scheme_model.specs.Substitution.{definition_count}
 use Rattle.scheme_model.specs.ScopedExpansion.{FramedIdent, ScopedState}
 use Rattle.scheme_model.specs.CountedExpansion.{counted}

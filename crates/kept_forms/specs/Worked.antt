@@ -1,10 +1,11 @@
 -- How many macro uses are worked in a unit of which some forms are kept: none for what is put into its place.
-use Rattle.std.specs.Prelude.{ℕ, ◌+◌, ◌-◌, List, [], ◌∷◌, Option, Some, None}
+use Rattle.std.specs.Prelude.{◌≡◌, ℕ, ◌+◌, ◌-◌, List, [], ◌∷◌, Option, Some, None}
 use Rattle.scheme_model.specs.Requirements.{Known}
 use Rattle.scheme_model.specs.Order.{Note}
-use Rattle.scheme_model.specs.UnitExpansion.{unless_over}
+use Rattle.scheme_model.specs.UnitExpansion.{Formed, unless_over}
 use Rattle.scheme_model.specs.ScopedExpansion.{FramedIdent, ScopedState}
 use Rattle.scheme_model.specs.CountedExpansion.{counted}
+use Rattle.form_laws.specs.Begins.{Each}
 use Rattle.kept_forms.specs.KeptForms.{KeptParts, KeptForm, FormOrKept, around_form, goes_through, LeftOrKept, passes_keeping, comes_to, numbers_of}
 
 -- the uses that a form began from one state to another
@@ -52,3 +53,7 @@ not_kept (Some k) n = rest_of k.parts k.aside.moment.uses n
 abbrev pub uses_not_kept : List FormOrKept → ScopedState → ℕ
 uses_not_kept [] t = 0
 uses_not_kept (x ∷ xs) t = not_kept x.kept (t.uses x.form) + uses_not_kept xs t
+
+-- each form tells of so many
+abbrev pub UsesTold : List Formed → ScopedState → Type 0
+UsesTold rs t = Each (λ (r : Formed). r.counted.uses ≡ t.uses r.form) rs

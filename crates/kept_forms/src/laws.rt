@@ -5,9 +5,13 @@ ghost use Rattle.scheme_model.specs.Requirements.{Known};
 ghost use Rattle.scheme_model.specs.Program.{Placed, Prepared, is_ready, enough_turns};
 ghost use Rattle.scheme_model.specs.ScopedProgram.{scoped_work, scoped_before, forms_over, scoped_unit_over, scoped_start_after};
 ghost use Rattle.kept_forms.specs.KeptForms.{FormOrKept, form_of, unit_keeping};
-ghost use Rattle.kept_forms.specs.Carried.{UnitKept, UnitBegins, SameWork};
+ghost use Rattle.kept_forms.specs.Carried.{UnitKept, UnitBegins, Onwards, SameWork};
+ghost use Rattle.kept_forms.specs.Worked.{unit_worked, uses_not_kept, UsesTold};
 
-/// Law.
+/// A unit of a program of which some forms are kept comes to what it comes to where every form is expanded (R7RS 4.3, 5.1, 5.3), as long as
+/// the questions of each kept form have their answers where its turn comes: it goes through the same, each form to the same parts or the
+/// same fault, with the same counts, keywords and uses; and where the counts come to too many nodes, work ends in the same form, behind the
+/// same item. Each form may begin where its turn comes, so what it comes to there may be kept in turn.
 pub fn kept_forms_come_to_the_same()
     ensures same { (all : List Placed) (units : List Prepared) (known : Known) (n : ℕ) (p : Prepared) (xs : List FormOrKept) →
         let g = scoped_work all units known n scoped_before in let s = scoped_start_after all p g in
@@ -17,4 +21,17 @@ pub fn kept_forms_come_to_the_same()
         let g = scoped_work all units known n scoped_before in let s = scoped_start_after all p g in
         is_ready all units g.results p ≡ true → map form_of xs ≡ forms_over (Written p.number) p.number 0 p.forms → UnitKept known enough_turns xs s →
         UnitBegins known enough_turns xs s }
+{}
+
+/// As many macro uses are worked in it as the forms that aren't kept have counted where every form is expanded; of a form that is kept in
+/// its first part alone, those of the rest. Where work goes through, what the forms have counted is what they tell.
+pub fn kept_forms_are_not_worked()
+    ensures worked { (all : List Placed) (units : List Prepared) (known : Known) (n : ℕ) (p : Prepared) (xs : List FormOrKept) →
+        let g = scoped_work all units known n scoped_before in let s = scoped_start_after all p g in
+        is_ready all units g.results p ≡ true → map form_of xs ≡ forms_over (Written p.number) p.number 0 p.forms → UnitKept known enough_turns xs s →
+        unit_worked known enough_turns xs s ≡ uses_not_kept xs (scoped_unit_over known p s).1 }
+    ensures told { (all : List Placed) (units : List Prepared) (known : Known) (n : ℕ) (p : Prepared) (xs : List FormOrKept) →
+        let g = scoped_work all units known n scoped_before in let s = scoped_start_after all p g in
+        is_ready all units g.results p ≡ true → map form_of xs ≡ forms_over (Written p.number) p.number 0 p.forms → UnitKept known enough_turns xs s →
+        Onwards (λ rs t. UsesTold rs t) (scoped_unit_over known p s) }
 {}
