@@ -131,7 +131,7 @@ abbrev counting : ℕ → List ℕ → List FormOrKept
 counting n ns =
     keeping 0 before (record {
       aside = record { pass = record { notes = []; left = Ok no_left }; moment = at_nodes n; before = 0 };
-      parts = Some (record { met = at_nodes n; items = map (λ m. record { part = Ok (expression_part (Quote (vector no_trees None))); moment = at_nodes m }) ns });
+      parts = Some (record { begun = at_nodes n; met = at_nodes n; items = map (λ m. record { part = Ok (expression_part (Quote (vector no_trees None))); moment = at_nodes m }) ns });
     }) ∷ anew 1 before ∷ []
 
 abbrev goes : Option (List Formed) × ScopedState → Bool × ℕ

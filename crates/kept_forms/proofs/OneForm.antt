@@ -10,8 +10,8 @@ use Rattle.scheme_model.specs.UnitExpansion.{max_depth, form_parts}
 use Rattle.scheme_model.specs.Substitution.{definition_count}
 use Rattle.scheme_model.specs.ScopedExpansion.{FramedIdent, ScopedState}
 use Rattle.scheme_model.specs.CountedExpansion.{counted}
-use Rattle.scheme_model.specs.Questions.{Around, SameAnswer, Asking, asking}
-use Rattle.scheme_model.specs.FormsAlike.{bound_moved, binder_with, item_with, left_with, or_fault, set_aside, no_questions, set_aside_asking, questions_of_pass, questions_of_left, again, bare_note, bare_state}
+use Rattle.scheme_model.specs.Questions.{Around, SameAnswer, Asking, asking, Moment}
+use Rattle.scheme_model.specs.FormsAlike.{bound_moved, binder_with, item_with, left_with, or_fault, set_aside, no_questions, set_aside_asking, questions_of_pass, questions_of_left, again, bare_note, bare_state, start}
 use Rattle.scheme_model.proofs.FrameAsks.{AllOf}
 use Rattle.scheme_model.proofs.UnitEnds.{Both, both_go, both_at}
 use Rattle.form_laws.specs.Begins.{Each, ItemWith, IsRooted, MacroInUnit, Begins, FormBegins, LeftBegins, RestBegins, SameForm}
@@ -23,7 +23,7 @@ use Rattle.form_laws.proofs.AskingSides.{NoLocals, fits, sides}
 use Rattle.form_laws.proofs.OwnStates.{entry_given}
 use Rattle.form_laws.proofs.FormLaws.{set_itself, set_law, finish_law}
 use Rattle.kept_forms.specs.KeptForms.{KeptForm, KeptParts, put_aside, goes_through, kept_moved, put_parts, comes_to}
-use Rattle.kept_forms.specs.Carried.{kept_aside, kept_parts, PassStays, RestStays, PassKept, RestKept}
+use Rattle.kept_forms.specs.Carried.{kept_aside, kept_parts, PassStays, RestStays, PassKept, RestKept, no_counts}
 use Rattle.kept_forms.proofs.Bares.{bare_around, notes_joined, form_begins_too, rest_begins_too, definitions_too, again_too, answers_too, form_too, answers_itself}
 use Rattle.kept_forms.proofs.Fronts.{EndedLike, GivesLike, across, Fronts, items_like}
 
@@ -73,24 +73,25 @@ itself_form : (w : Around) → SameForm w w
 itself_form w = record { unit = refl; form = refl; counts = refl }
 
 module _ (w v : Around) (same : bare_around v ≡ bare_around w) (turns : ℕ) where
-  kept_like : (old : Around) (t : Tree Ident) → PassStays old w turns t → FormBegins v t → PassLike (set_aside v turns t) (put_aside w (kept_aside old turns t))
-  kept_like old t k h =
+  kept_like : (old : Around) (t : Tree Ident) → SameForm old w → PassStays old w turns t → FormBegins v t → PassLike (set_aside v turns t) (put_aside w (kept_aside old turns t))
+  kept_like old t form k h =
       let p = set_aside_asking old turns t in
-      let x = set_law old v (form_too w v same old k.same_form) turns t k.begun h (answers_too w v same old (questions_of_pass old turns t) k.answers) in
+      let x = set_law old v (form_too w v same old form) turns t k.begun h (answers_too w v same old (questions_of_pass old turns t) k.answers) in
       record {
         left = x.rest ∙ ap (λ c. or_fault (left_with (bound_moved (definition_count old.state.table old.state.unit) c)) p.0.left) (definitions_too w v same);
         notes = x.notes ∙ notes_joined p.0.notes v.notes w.notes (ap (λ (z : Around). z.notes) same);
         state = x.state ∙ again_too w v same p.1.moment;
       }
 
-  pub pass_like : (t : Tree Ident) (o : Option KeptForm) → FormBegins v t → PassKept w turns t o → PassLike (set_aside v turns t) (goes_through w turns t o)
-  pass_like t None h k =
+  -- it has counted nothing yet
+  pub pass_like : (t : Tree Ident) (o : Option KeptForm) → start w.state ≡ no_counts → FormBegins v t → PassKept w turns t o → PassLike (set_aside v turns t) (goes_through w turns t o)
+  pass_like t None new h k =
       let b = form_begins_too w v same t h in
-      let x = kept_like w t (record { same_form = itself_form w; begun = b; answers = answers_itself w w refl (questions_of_pass w turns t) }) h in
+      let x = kept_like w t (itself_form w) (record { unit = refl; form = refl; new = new; begun = b; answers = answers_itself w w refl (questions_of_pass w turns t) }) h in
       let y = set_itself w turns t b in
       let c = definition_count w.state.table w.state.unit in
       record { left = x.left ∙ rest_still (bound_moved c c) (moved_none c) (set_aside_asking w turns t).0.left ∙ sym y.rest; notes = x.notes ∙ sym y.notes; state = x.state ∙ sym y.state }
-  pass_like t (Some c) h k = subst (λ z. PassLike (set_aside v turns t) (put_aside w z)) (sym k.2) (kept_like k.0 t k.1 h)
+  pass_like t (Some c) new h k = let form : SameForm k.0 w = record { unit = k.1.unit; form = k.1.form; counts = new ∙ sym k.1.new } in subst (λ z. PassLike (set_aside v turns t) (put_aside w z)) (sym k.2) (kept_like k.0 t form k.1 h)
 
 -- ---- the first items
 
@@ -154,11 +155,11 @@ module _ (w v : Around) (same : SameForm w v) (h : Begins w.state) (k : Begins v
 
 -- ---- what it set aside, expanded
 
-rest_from : (old w v : Around) (same : bare_around v ≡ bare_around w) (turns : ℕ) (fs : List ℕ) (from to : ℕ) (l : Left Ident) → RestStays old w turns l → LeftBegins v (left_with (bound_moved from to) l) → let f = bound_moved from to in
+rest_from : (old w v : Around) (same : bare_around v ≡ bare_around w) (turns : ℕ) (fs : List ℕ) (from to : ℕ) (l : Left Ident) → SameForm old w → RestStays old w turns l → LeftBegins v (left_with (bound_moved from to) l) → let f = bound_moved from to in
     Both EndedLike GivesLike (form_parts (counted v.known) (expand (counted v.known) turns) [] fs (Ok (left_with f l)) v.state) (put_parts w fs (Ok (left_with f l)) (kept_moved f (kept_parts old turns l)))
-rest_from old w v same turns fs from to l k h =
+rest_from old w v same turns fs from to l there k h =
     let f = bound_moved from to in
-    let form = form_too w v same old k.same_form in
+    let form = form_too w v same old there in
     let s = meet_all (asking old) [] l.uses (no_questions old) in
     let t = meet_all (counted v.known) [] l.uses v.state in
     let one = item_part (expand (asking old) turns) (asking old) max_depth [] in
@@ -169,18 +170,24 @@ rest_from old w v same turns fs from to l k h =
     (all_each (SameAnswer old v) (questions_of_left old turns (Ok (front n l))) (front_answers old v form k.begun.state h.state turns l.items n s answers)) in (x.result, x.state)) in
     items_like f v w same fs one two l.items s t (again w s.moment) fronts ((fronts 0).1 ∙ again_too w v same s.moment)
 
-pub rest_like : (w v : Around) (same : bare_around v ≡ bare_around w) (turns : ℕ) (fs : List ℕ) (r : Result (Left Ident) Broken) (o : Option KeptParts) → RestBegins v r → RestKept w turns r o
+-- its turn comes where it has counted as much as where the rest was kept
+abbrev pub BegunAt : Moment → Option KeptParts → Type 0
+BegunAt m None = Unit {0}
+BegunAt m (Some k) = m ≡ k.begun
+
+pub rest_like : (w v : Around) (same : bare_around v ≡ bare_around w) (turns : ℕ) (fs : List ℕ) (r : Result (Left Ident) Broken) (o : Option KeptParts) → BegunAt (start w.state) o → RestBegins v r → RestKept w turns r o
     → Both EndedLike GivesLike (form_parts (counted v.known) (expand (counted v.known) turns) [] fs r v.state) (comes_to w turns fs r o)
-rest_like w v same turns fs (Err e) None h k = both_go (Err e) (Err e) v.state w.state refl refl (ap (λ (z : Around). z.state) same, refl)
-rest_like w v same turns fs (Err e) (Some c) h k = both_go (Err e) (Err e) v.state w.state refl refl (ap (λ (z : Around). z.state) same, refl)
-rest_like w v same turns fs (Ok m) None h k =
+rest_like w v same turns fs (Err e) None n h k = both_go (Err e) (Err e) v.state w.state refl refl (ap (λ (z : Around). z.state) same, refl)
+rest_like w v same turns fs (Err e) (Some c) n h k = both_go (Err e) (Err e) v.state w.state refl refl (ap (λ (z : Around). z.state) same, refl)
+rest_like w v same turns fs (Ok m) None n h k =
     let b : LeftBegins w m = rest_begins_too w v same (Ok m) h in
     let e = left_still (bound_moved 0 0) (moved_none 0) m in
-    let stays : RestStays w w turns m = record { same_form = itself_form w; begun = b; answers = answers_itself w w refl (questions_of_left w turns (Ok m)) } in
-    let x = rest_from w w v same turns fs 0 0 m stays (subst (LeftBegins v) (sym e) h) in
-    let y = rest_from w w w refl turns fs 0 0 m stays (subst (LeftBegins w) (sym e) b) in
+    let stays : RestStays w w turns m = record { unit = refl; form = refl; begun = b; answers = answers_itself w w refl (questions_of_left w turns (Ok m)) } in
+    let x = rest_from w w v same turns fs 0 0 m (itself_form w) stays (subst (LeftBegins v) (sym e) h) in
+    let y = rest_from w w w refl turns fs 0 0 m (itself_form w) stays (subst (LeftBegins w) (sym e) b) in
     subst (λ (l : Left Ident). Both EndedLike GivesLike (form_parts (counted v.known) (expand (counted v.known) turns) [] fs (Ok l) v.state) (form_parts (counted w.known) (expand (counted w.known) turns) [] fs (Ok l) w.state)) e (across x y)
-rest_like w v same turns fs (Ok m) (Some c) h k =
+rest_like w v same turns fs (Ok m) (Some c) n h k =
     let a = k.5 in let b = k.6 in
+    let form : SameForm k.0 w = record { unit = k.4.unit; form = k.4.form; counts = n ∙ ap (λ (z : KeptParts). z.begun) b } in
     both_at (ap (λ (l : Left Ident). form_parts (counted v.known) (expand (counted v.known) turns) [] fs (Ok l) v.state) a) (λ j. put_parts w fs (Ok (a j)) (b j))
-    (rest_from k.0 w v same turns fs k.2 k.3 k.1 k.4 (subst (LeftBegins v) a h))
+    (rest_from k.0 w v same turns fs k.2 k.3 k.1 form k.4 (subst (LeftBegins v) a h))

@@ -1,7 +1,8 @@
 -- What each step of a form of a unit keeps holds of all that the form goes to; and each macro that it sets aside is a definition of the
 -- unit. The form is set beside itself.
-use Rattle.std.proofs.Common.{◌≡◌, ℕ, List, [], ◌∷◌, Bool, true, false, cond, Option, Some, None, Result, Ok, Err, refl, sym, ap, ◌∙◌, subst}
-use Rattle.std.specs.Prelude.{nat_lt}
+use Rattle.std.proofs.Common.{◌≡◌, ℕ, List, [], ◌∷◌, Bool, true, false, cond, Option, Some, None, Result, Ok, Err, refl, sym, ap, ◌∙◌, subst, suc, ◌+◌, map}
+use Rattle.std.specs.Prelude.{◌==◌, nat_lt}
+use Rattle.std.proofs.lemmas.Bool.{eqb-true, false_from_ne_true}
 use Rattle.scheme_model.specs.Identifiers.{Number}
 use Rattle.scheme_model.specs.Ident.{Ident}
 use Rattle.scheme_model.specs.Trees.{Tree}
@@ -9,17 +10,18 @@ use Rattle.scheme_model.specs.ExpansionFaults.{Named, Fault, KeywordRedefined, D
 use Rattle.scheme_model.specs.Meaning.{same_meaning}
 use Rattle.scheme_model.specs.Requirements.{Known}
 use Rattle.scheme_model.specs.RulesShape.{Rules}
-use Rattle.scheme_model.specs.Cores.{Bound, Parts, Part}
+use Rattle.scheme_model.specs.Cores.{Bound, Parts, Part, Target, MacroUse}
 use Rattle.scheme_model.specs.Steps.{Broken}
-use Rattle.scheme_model.specs.Order.{Item, Expression, Value, Function, Assigned, AssignedFunction, ValuesOf, Record, Macro, Note, LookedUp, Compared, WaitingUse, Left, Pending, Renamed, Transformer, Asked, Meant, Headed, RulesOf, Alike, Assigns, Library, Ops, is_some, head_of, meet_all, meet_waiting, run}
+use Rattle.scheme_model.specs.Order.{Item, Expression, Value, Function, Assigned, AssignedFunction, ValuesOf, Record, Macro, Note, LookedUp, Compared, WaitingUse, Left, Pending, Renamed, Transformer, Asked, Meant, Headed, RulesOf, Alike, Assigns, Library, Ops, is_some, head_of, meet_all, meet_waiting, run, target_of}
 use Rattle.scheme_model.specs.Expression.{meaning_of, expand, item_part}
 use Rattle.scheme_model.specs.UnitExpansion.{max_depth, max_total, Work, ◌then◌, going, nodes_in, unless_over, one_form, before_parts, with_part, items_parts, form_parts}
-use Rattle.scheme_model.specs.Substitution.{any, unchanged}
+use Rattle.scheme_model.specs.Substitution.{any, unchanged, at_form}
 use Rattle.scheme_model.specs.ScopedExpansion.{Frames, FramedIdent, ScopedState, body_around, definition_added, meaning_next, is_defined, bound_next}
 use Rattle.scheme_model.specs.CountedExpansion.{refused_here, counted}
 use Rattle.scheme_model.proofs.FrameAsks.{AllOf}
 use Rattle.scheme_model.proofs.FrameHeads.{IfMacro}
 use Rattle.scheme_model.proofs.CountedForms.{OkAll}
+use Rattle.kept_forms.specs.KeptForms.{counts_at}
 use Rattle.form_laws.specs.Begins.{Each, BindsInUnit, MacroInUnit}
 use Rattle.form_laws.proofs.Sides.{Both, Results, NoteLike, ItemLike, PendingLike, RenamedLike, LeftLike, TransformerLike, Answer, Sides}
 use Rattle.form_laws.proofs.SideRuns.{item_itself, run_runs}
@@ -49,16 +51,43 @@ module _ (known : Known) (I : ScopedState → Type 0) where
   before_keeps more law (Err e) s h = h
   before_keeps more law (Ok p) s h = then_keeps (more s) (λ r. going (with_part p r)) (law s h) (λ x t k. k)
 
+-- ---- what other forms have counted
+
+pub at_other : {X : Type 0} (form g : ℕ) (h : X → X) (c : ℕ → X) → (g ≡ form → ⊥) → at_form form h c g ≡ c g
+at_other form g h c ne = ap (λ t. cond t (h (c g)) (c g)) (false_from_ne_true (g == form) (λ e. ne (eqb-true g form e)))
+
+abbrev pub OthersStay : ScopedState → ScopedState → Type 0
+OthersStay s t = (g : ℕ) → (g ≡ s.form → ⊥) → counts_at g t ≡ counts_at g s
+
+module _ (s : ScopedState) where
+  abbrev Other : ℕ → Type 0
+  Other g = g ≡ s.form → ⊥
+
+  abbrev other_nodes : (n : ℕ) (g : ℕ) → Other g → counts_at g (record s { nodes = at_form s.form (λ m. m + n) s.nodes }) ≡ counts_at g s
+  other_nodes n g ne = ap (λ m. record (counts_at g s) { nodes = m }) (at_other s.form g (λ m. m + n) s.nodes ne)
+
+  abbrev other_locals : (g : ℕ) → Other g → counts_at g (record s { locals = at_form s.form suc s.locals }) ≡ counts_at g s
+  other_locals g ne = ap (λ m. record (counts_at g s) { locals = m }) (at_other s.form g suc s.locals ne)
+
+  abbrev other_bodies : (g : ℕ) → Other g → counts_at g (record s { bodies = at_form s.form suc s.bodies }) ≡ counts_at g s
+  other_bodies g ne = ap (λ m. record (counts_at g s) { bodies = m }) (at_other s.form g suc s.bodies ne)
+
+  abbrev other_keywords : (x : Target) (g : ℕ) → Other g → counts_at g (record s { keywords = at_form s.form (λ xs. x ∷ xs) s.keywords }) ≡ counts_at g s
+  other_keywords x g ne = ap (λ m. record (counts_at g s) { keywords = m }) (at_other s.form g (λ xs. x ∷ xs) s.keywords ne)
+
+  abbrev other_met : (u : MacroUse) (g : ℕ) → Other g → counts_at g (record s { met = at_form s.form (λ us. u ∷ us) s.met }) ≡ counts_at g s
+  other_met u g ne = ap (λ m. record (counts_at g s) { met = m }) (at_other s.form g (λ us. u ∷ us) s.met ne)
+
 -- ---- one form
 
--- I is kept where a macro use is begun, and where neither the uses nor their places change
-module _ (known : Known) (I : ScopedState → Type 0) (begun : (fs : Frames) (s : ScopedState) → I s → I ((counted known).begin_use fs s)) (still : (s t : ScopedState) → t.unit ≡ s.unit → t.form ≡ s.form → t.uses ≡ s.uses → t.places ≡ s.places → I s → I t) where
+-- I is kept where a macro use is begun, and where neither the uses nor their places change, nor what other forms have counted
+module _ (known : Known) (I : ScopedState → Type 0) (begun : (fs : Frames) (s : ScopedState) → I s → I ((counted known).begin_use fs s)) (still : (s t : ScopedState) → t.unit ≡ s.unit → t.form ≡ s.form → t.uses ≡ s.uses → t.places ≡ s.places → OthersStay s t → I s → I t) where
   abbrev pub ops : Ops Frames Ident FramedIdent ScopedState
   ops = counted known
 
   added : (b : Option Number) (n : Named Ident) (r : Option (Rules Ident)) (fs : Frames) (s : ScopedState) → I s → I (definition_added b n r fs s)
-  added None n r fs s h = still s (definition_added None n r fs s) refl refl refl refl h
-  added (Some b) n r fs s h = still s (definition_added (Some b) n r fs s) refl refl refl refl h
+  added None n r fs s h = still s (definition_added None n r fs s) refl refl refl refl (λ g ne. refl) h
+  added (Some b) n r fs s h = still s (definition_added (Some b) n r fs s) refl refl refl refl (other_locals s) h
 
   -- ---- one side beside itself
 
@@ -162,15 +191,15 @@ module _ (known : Known) (I : ScopedState → Type 0) (begun : (fs : Frames) (s 
     counts = λ s t n. ap ops.counted n.0;
     spend_back = λ s n a. tt;
     spend_later = λ s n. tt;
-    spend_near = λ s t z n. (ap (ops.spend n) z.0, still s (ops.spend n s) refl refl refl refl z.1);
+    spend_near = λ s t z n. (ap (ops.spend n) z.0, still s (ops.spend n s) refl refl refl refl (other_nodes s n) z.1);
     spend_means = λ s n e i. refl;
     spend_meant = λ t n f i. refl;
     meet_back = λ s x a. tt;
     meet_later = λ s x. tt;
-    meet_near = λ s t z x. (ap (ops.meet x) z.0, still s (ops.meet x s) refl refl refl refl z.1);
+    meet_near = λ s t z x. (ap (ops.meet x) z.0, still s (ops.meet x s) refl refl refl refl (other_keywords s x) z.1);
     meet_use_back = λ s u a. tt;
     meet_use_later = λ s u. tt;
-    meet_use_near = λ s t z u. (ap (ops.meet_use u) z.0, still s (ops.meet_use u s) refl refl refl refl z.1);
+    meet_use_near = λ s t z u. (ap (ops.meet_use u) z.0, still s (ops.meet_use u s) refl refl refl refl (other_met s u) z.1);
     next_use = λ s t z. ap ops.next_use z.0;
     begin_back = λ s e a. tt;
     begin_later = λ s e f h. tt;
@@ -178,22 +207,22 @@ module _ (known : Known) (I : ScopedState → Type 0) (begun : (fs : Frames) (s 
     next_local = λ s t z. ap ops.next_local z.0;
     take_back = λ s a. tt;
     take_later = λ s. tt;
-    take_near = λ s t z. (ap ops.take_local z.0, still s (ops.take_local s) refl refl refl refl z.1);
+    take_near = λ s t z. (ap ops.take_local z.0, still s (ops.take_local s) refl refl refl refl (other_locals s) z.1);
     some_bound = λ s e f h. (ops.next_bound e s, (refl, binds_next s (body_around e)));
     next_bound = λ s t z e f h. ((let b = z.0 in λ j. ops.next_bound (h j) (b j)), binds_next s (body_around e));
     same_meant = λ e x y d i. ap (λ z. meaning_of z i) d.0;
     bind_back = λ s x e ts a. tt;
     bind_later = λ s x e f h ts. tt;
     bind_some = λ s x e f h ts. ((ops.bind x e ts s).env, refl);
-    bind_near = λ s t z x e f h ts. (let b = z.0 in ((λ j. (ops.bind x (h j) ts (b j)).state, still s (ops.bind x e ts s).state refl refl refl refl z.1), (λ j. (ops.bind x (h j) ts (b j)).env), λ j. (ops.bind x (h j) ts (b j)).trees));
+    bind_near = λ s t z x e f h ts. (let b = z.0 in ((λ j. (ops.bind x (h j) ts (b j)).state, still s (ops.bind x e ts s).state refl refl refl refl (other_locals s) z.1), (λ j. (ops.bind x (h j) ts (b j)).env), λ j. (ops.bind x (h j) ts (b j)).trees));
     macro = λ s e f h m. macro_fits s (ops.transformer s m);
     keep_back = λ s v r e a. tt;
     keep_later = λ s v r e f h. tt;
-    keep_near = λ s t z v r e f h. (let b = z.0 in (λ j. ops.keep v r (h j) (b j), still s (ops.keep v r e s) refl refl refl refl z.1));
+    keep_near = λ s t z v r e f h. (let b = z.0 in (λ j. ops.keep v r (h j) (b j), still s (ops.keep v r e s) refl refl refl refl (λ g ne. refl) z.1));
     enter_back = λ s e ts a. tt;
     enter_later = λ s e f h ts. tt;
     enter_some = λ s e f h ts. ((ops.enter e ts s).env, refl);
-    enter_near = λ s t z e f h ts. (let b = z.0 in ((λ j. (ops.enter (h j) ts (b j)).state, still s (ops.enter e ts s).state refl refl refl refl z.1), (λ j. (ops.enter (h j) ts (b j)).env), λ j. (ops.enter (h j) ts (b j)).trees));
+    enter_near = λ s t z e f h ts. (let b = z.0 in ((λ j. (ops.enter (h j) ts (b j)).state, still s (ops.enter e ts s).state refl refl refl refl (other_bodies s) z.1), (λ j. (ops.enter (h j) ts (b j)).env), λ j. (ops.enter (h j) ts (b j)).trees));
     entered = λ s e f h ts. refl;
     inside = λ s e ts. tt;
     inside_bounds = λ s e ts x y d. d.0;
@@ -242,7 +271,7 @@ module _ (known : Known) (I : ScopedState → Type 0) (begun : (fs : Frames) (s 
 
   met_keeps : (us : List (WaitingUse Ident)) (s : ScopedState) → I s → I (meet_all ops [] us s)
   met_keeps [] s h = h
-  met_keeps (u ∷ us) s h = met_keeps us (meet_waiting ops [] u s) (still s (meet_waiting ops [] u s) refl refl refl refl h)
+  met_keeps (u ∷ us) s h = met_keeps us (meet_waiting ops [] u s) (still s (meet_waiting ops [] u s) refl refl refl refl (other_met s (record { keyword = u.keyword; literals = map (λ n. target_of ops [] s n.name n.occ) u.literals })) h)
 
   module _ (turns : ℕ) (fs : List ℕ) where
     items_keep : (is : List (Item Ident)) (s : ScopedState) → I s → Goes known I (items_parts ops fs (item_part (expand ops turns) ops max_depth []) is s)

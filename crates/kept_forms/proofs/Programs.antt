@@ -35,6 +35,7 @@ use Rattle.kept_forms.proofs.Uses.{IsPlaced, unit_placed}
 use Rattle.kept_forms.proofs.Between.{Between}
 use Rattle.kept_forms.proofs.KeptUnits.{unit_like, unit_begins}
 use Rattle.kept_forms.proofs.UsesCounted.{Not, Distinct, of_form}
+use Rattle.kept_forms.proofs.Ready.{AllNew}
 use Rattle.kept_forms.proofs.WorkedLaw.{Zero, worked_law, told_law}
 
 -- ---- forms of units have numbers of their own
@@ -203,20 +204,24 @@ module _ (all : List Placed) (ps : List Prepared) (known : Known) where
           let imports = unit_entries all g.results p in
           held_forms w s xs (subst (AllOf (FormHeld w known s)) (sym forms) (forms_held known g h p new imports (unit_entries_fit NoLocal (λ x. tt) all g.results h.exports p)))
 
-      pub same_unit : SameWork (unit_keeping known enough_turns xs s) (scoped_unit_over known p s)
-      same_unit = subst (λ (ts : List (ℕ × Tree Ident)). SameWork (unit_keeping known enough_turns xs s) (unit (counted known) enough_turns [] ts s)) forms (unit_like w known enough_turns xs s between held kept)
-
-      pub forms_begin : UnitBegins known enough_turns xs s
-      forms_begin = unit_begins w known enough_turns xs s between held kept
-
-      -- ---- the uses that are worked
-
       zero_all : (ys : List FormOrKept) → Zero s ys
       zero_all [] = tt
       zero_all (y ∷ ys) = (refl, zero_all ys)
 
       distinct : Distinct of_form xs
       distinct = distinct_forms xs (subst (Distinct number_of) (sym forms) (forms_distinct (Written p.number) p.number p.forms 0))
+
+      new_all : (ys : List FormOrKept) → AllNew s ys
+      new_all [] = tt
+      new_all (y ∷ ys) = (refl, new_all ys)
+
+      pub same_unit : SameWork (unit_keeping known enough_turns xs s) (scoped_unit_over known p s)
+      same_unit = subst (λ (ts : List (ℕ × Tree Ident)). SameWork (unit_keeping known enough_turns xs s) (unit (counted known) enough_turns [] ts s)) forms (unit_like w known enough_turns xs s between held distinct (new_all xs) kept)
+
+      pub forms_begin : UnitBegins known enough_turns xs s
+      forms_begin = unit_begins w known enough_turns xs s between held distinct (new_all xs) kept
+
+      -- ---- the uses that are worked
 
       pub uses_worked : unit_worked known enough_turns xs s ≡ uses_not_kept xs (scoped_unit_over known p s).1
       uses_worked = worked_law known enough_turns xs s distinct (zero_all xs) ∙ sym (not_kept_same xs (unit_keeping known enough_turns xs s).1 (scoped_unit_over known p s).1 (ap (λ (z : ScopedState). z.uses) same_unit.state))

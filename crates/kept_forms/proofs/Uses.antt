@@ -15,7 +15,7 @@ use Rattle.scheme_model.proofs.Clocks.{leq_counted, next_counted}
 use Rattle.scheme_model.proofs.FrameEras.{Era, Before, before_more, unit_worked}
 use Rattle.scheme_model.proofs.FrameAsks.{AllOf, all_of_more}
 use Rattle.scheme_model.proofs.UnitEnds.{OnWork}
-use Rattle.kept_forms.proofs.OneSide.{MacrosOfUnit, over_keeps, then_keeps, run_keeps, parts_keep}
+use Rattle.kept_forms.proofs.OneSide.{MacrosOfUnit, OthersStay, over_keeps, then_keeps, run_keeps, parts_keep}
 
 module _ (w : Era) (known : Known) where
   abbrev ops : Ops Frames Ident FramedIdent ScopedState
@@ -31,8 +31,8 @@ module _ (w : Era) (known : Known) where
       let here : Before w u k = (subst (λ (z : ℕ). Before (record w { unit = z }) u k) h.0 (next_counted s.unit s.form s.uses, unit_worked (record w { unit = s.unit }) s.unit refl)) in
       (h.0, (here, all_of_more (λ (p : UsePlace). Before w s.uses p.use_number) (λ (p : UsePlace). Before w u p.use_number) (λ p q. before_more w s.uses u (leq_counted s.form s.uses) p.use_number q) s.places h.1))
 
-  still_placed : (s t : ScopedState) → t.unit ≡ s.unit → t.form ≡ s.form → t.uses ≡ s.uses → t.places ≡ s.places → IsPlaced s → IsPlaced t
-  still_placed s t unit form uses places h = (unit ∙ h.0, subst (λ (z : Clock × List UsePlace). AllOf (λ (p : UsePlace). Before w z.0 p.use_number) z.1) (λ j. (sym uses j, sym places j)) h.1)
+  still_placed : (s t : ScopedState) → t.unit ≡ s.unit → t.form ≡ s.form → t.uses ≡ s.uses → t.places ≡ s.places → OthersStay s t → IsPlaced s → IsPlaced t
+  still_placed s t unit form uses places others h = (unit ∙ h.0, subst (λ (z : Clock × List UsePlace). AllOf (λ (p : UsePlace). Before w z.0 p.use_number) z.1) (λ j. (sym uses j, sym places j)) h.1)
 
   abbrev Goes : {X : Type 0} → Option X × ScopedState → Type 0
   Goes q = IsPlaced q.1

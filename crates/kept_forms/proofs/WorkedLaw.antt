@@ -13,7 +13,7 @@ use Rattle.scheme_model.specs.Questions.{Around}
 use Rattle.scheme_model.proofs.FrameAsks.{AllOf, all_of_more}
 use Rattle.scheme_model.proofs.UnitEnds.{OnWork}
 use Rattle.form_laws.proofs.Leaving.{at_here}
-use Rattle.kept_forms.specs.KeptForms.{KeptParts, KeptForm, FormOrKept, around_form, goes_through, LeftOrKept, rest_kept, passes_keeping, comes_to, finished_keeping, numbers_of, unit_keeping}
+use Rattle.kept_forms.specs.KeptForms.{KeptParts, KeptForm, FormOrKept, around_form, goes_through, LeftOrKept, rest_kept, passes_keeping, comes_to, finished_keeping, numbers_of, unit_keeping, counts_at}
 use Rattle.kept_forms.specs.Worked.{begun_by, unless_kept, worked_then, passes_worked, rests_worked, unit_worked, rest_of, not_kept, uses_not_kept, UsesTold}
 use Rattle.kept_forms.proofs.UsesCounted.{pass_others, rest_others, rest_more, rest_form, Not, Distinct, of_form, of_left, passes_others, rests_others}
 
@@ -23,7 +23,7 @@ then_state : {X Y : Type 0} (q : Option X × ScopedState) (f : X → Y) → (q t
 then_state (None, s) f = refl
 then_state (Some x, s) f = refl
 
-over_state : {X : Type 0} (known : Known) (fs : List ℕ) (q : X × ScopedState) → (unless_over (counted known) fs q).1 ≡ q.1
+pub over_state : {X : Type 0} (known : Known) (fs : List ℕ) (q : X × ScopedState) → (unless_over (counted known) fs q).1 ≡ q.1
 over_state {X} known fs q = go (nat_lt max_total (nodes_in (counted known) fs q.1))
   where
     go : (b : Bool) → (cond {A = Option X × ScopedState} b (None, q.1) (Some q.0, q.1)).1 ≡ q.1
@@ -126,11 +126,11 @@ module _ (known : Known) (turns : ℕ) (fs : List ℕ) where
         go None = tt
         go (Some k) = at_here x.form v.state.uses k.aside.moment.uses
 
-    abbrev rest_of_form : Pass Ident FramedIdent → LeftOrKept
-    rest_of_form p = record { form = x.form; left = p.left; kept = rest_kept v x.kept }
+    abbrev rest_of_form : Pass Ident FramedIdent → ScopedState → LeftOrKept
+    rest_of_form p t = record { form = x.form; counts = counts_at x.form t; left = p.left; kept = rest_kept v x.kept }
 
     abbrev go_on : Pass Ident FramedIdent → ScopedState → Option (List LeftOrKept) × ScopedState
-    go_on p t = passes_keeping known turns fs xs p.notes t then λ rest. going (rest_of_form p ∷ rest)
+    go_on p t = passes_keeping known turns fs xs p.notes t then λ rest. going (rest_of_form p t ∷ rest)
 
     begun_is : begun_by x.form s q.1 ≡ q.1.uses x.form
     begun_is = let e = z.0 in omega (arith, e)
@@ -148,7 +148,7 @@ module _ (known : Known) (turns : ℕ) (fs : List ℕ) where
         let b = ap (unless_kept x.kept) head in
         let c : passes_worked known turns fs xs p.notes t ≡ first_sum xs u.1 = subst (λ (r : ScopedState). passes_worked known turns fs xs p.notes r ≡ first_sum xs (passes_keeping known turns fs xs p.notes r).1) (sym e) (law p.notes).0 in
         let f : unless_kept x.kept (begun_by x.form s q.1) + passes_worked known turns fs xs p.notes t ≡ first_sum (x ∷ xs) u.1 = omega (arith, a, b, c) in
-        f ∙ ap (first_sum (x ∷ xs)) (sym (then_state u (λ rest. rest_of_form p ∷ rest)))
+        f ∙ ap (first_sum (x ∷ xs)) (sym (then_state u (λ rest. rest_of_form p t ∷ rest)))
 
     ends_from : (o : Option (Pass Ident FramedIdent) × ScopedState) → o.1 ≡ q.1 → ((ms : List (Note FramedIdent)) → Passed xs ms q.1)
         → OnWork (λ t. FirstsWithin t (x ∷ xs)) (λ t rs. Match rs (x ∷ xs) × FirstsAre t (x ∷ xs)) (o then go_on)
@@ -158,12 +158,12 @@ module _ (known : Known) (turns : ℕ) (fs : List ℕ) where
         let u = passes_keeping known turns fs xs p.notes t in
         let there = subst (λ (r : ScopedState). OnWork (λ t. FirstsWithin t xs) (λ t rs. Match rs xs × FirstsAre t xs) (passes_keeping known turns fs xs p.notes r)) (sym e) (law p.notes).1 in
         let head : FirstIs x.kept (u.1.uses x.form) = subst (FirstIs x.kept) (sym (passes_others known turns fs x.form xs p.notes t d ∙ ap (λ (r : ScopedState). r.uses x.form) e)) first_is in
-        go p u (on_and (λ r. FirstsWithin r xs) (λ r rs. Match rs xs × FirstsAre r xs) (λ r. FirstIs x.kept (r.uses x.form)) u there head)
+        go p t u (on_and (λ r. FirstsWithin r xs) (λ r rs. Match rs xs × FirstsAre r xs) (λ r. FirstIs x.kept (r.uses x.form)) u there head)
       where
-        go : (p : Pass Ident FramedIdent) (u : Option (List LeftOrKept) × ScopedState) → OnWork (λ t. FirstsWithin t xs × FirstIs x.kept (t.uses x.form)) (λ t rs. (Match rs xs × FirstsAre t xs) × FirstIs x.kept (t.uses x.form)) u
-            → OnWork (λ t. FirstsWithin t (x ∷ xs)) (λ t rs. Match rs (x ∷ xs) × FirstsAre t (x ∷ xs)) (u then λ rest. going (rest_of_form p ∷ rest))
-        go p (None, t) h = (within_is x.kept (t.uses x.form) h.1, h.0)
-        go p (Some rs, t) h = ((refl, kin v x.kept, h.0.0), (h.1, h.0.1))
+        go : (p : Pass Ident FramedIdent) (c : ScopedState) (u : Option (List LeftOrKept) × ScopedState) → OnWork (λ t. FirstsWithin t xs × FirstIs x.kept (t.uses x.form)) (λ t rs. (Match rs xs × FirstsAre t xs) × FirstIs x.kept (t.uses x.form)) u
+            → OnWork (λ t. FirstsWithin t (x ∷ xs)) (λ t rs. Match rs (x ∷ xs) × FirstsAre t (x ∷ xs)) (u then λ rest. going (rest_of_form p c ∷ rest))
+        go p c (None, t) h = (within_is x.kept (t.uses x.form) h.1, h.0)
+        go p c (Some rs, t) h = ((refl, kin v x.kept, h.0.0), (h.1, h.0.1))
 
   passed : (xs : List FormOrKept) (ns : List (Note FramedIdent)) (s : ScopedState) → Distinct of_form xs → Zero s xs → Passed xs ns s
   passed [] ns s d z = (refl, (tt, tt))

@@ -12,9 +12,9 @@ use Rattle.scheme_model.specs.UnitExpansion.{max_depth, unless_over}
 use Rattle.scheme_model.specs.Substitution.{definition_count}
 use Rattle.scheme_model.specs.ScopedExpansion.{FramedIdent, ScopedState}
 use Rattle.scheme_model.specs.CountedExpansion.{counted}
-use Rattle.scheme_model.specs.Questions.{Around, SameAnswer, Asking, asking}
-use Rattle.scheme_model.specs.FormsAlike.{bound_moved, left_with, no_questions, set_aside_asking, questions_of_pass, questions_of_left, bare_state}
-use Rattle.form_laws.specs.Begins.{Each, FormBegins, LeftBegins, RestBegins, SameForm}
+use Rattle.scheme_model.specs.Questions.{Moment, Around, SameAnswer, Asking, asking}
+use Rattle.scheme_model.specs.FormsAlike.{bound_moved, left_with, start, no_questions, set_aside_asking, questions_of_pass, questions_of_left, bare_state}
+use Rattle.form_laws.specs.Begins.{Each, FormBegins, LeftBegins, RestBegins}
 use Rattle.kept_forms.specs.KeptForms.{KeptAside, KeptItem, KeptParts, KeptForm, FormOrKept, around_form, goes_through, LeftOrKept, kept_moved, passes_keeping, comes_to, numbers_of}
 
 -- ---- what is to be kept
@@ -35,19 +35,26 @@ kept_items f (i ∷ is) s = let q = f i s in record { part = q.0; moment = q.1.m
 abbrev pub kept_parts : Around → ℕ → Left Ident → KeptParts
 kept_parts w turns l =
     let s = meet_all (asking w) [] l.uses (no_questions w) in
-    record { met = s.moment; items = kept_items (item_part (expand (asking w) turns) (asking w) max_depth []) l.items s }
+    record { begun = start w.state; met = s.moment; items = kept_items (item_part (expand (asking w) turns) (asking w) max_depth []) l.items s }
 
 -- ---- forms that may be kept
 
--- a form that was gone through in w, where its turn comes in v
+-- nothing
+abbrev pub no_counts : Moment
+no_counts = record { locals = 0; uses = 0; nodes = 0; bodies = 0; keywords = []; met = []; table = []; macros = []; places = []; definitions = [] }
+
+-- a form that was gone through in w, where its turn comes in v: it had the same number, and had counted nothing yet
 pub record PassStays (w v : Around) (turns : ℕ) (t : Tree Ident) : Type 0 where
-  pub same_form : SameForm w v
+  pub unit : v.state.unit ≡ w.state.unit
+  pub form : v.state.form ≡ w.state.form
+  pub new : start w.state ≡ no_counts
   pub begun : FormBegins w t
   pub answers : Each (SameAnswer w v) (questions_of_pass w turns t)
 
 -- and what it set aside, which was expanded in w
 pub record RestStays (w v : Around) (turns : ℕ) (l : Left Ident) : Type 0 where
-  pub same_form : SameForm w v
+  pub unit : v.state.unit ≡ w.state.unit
+  pub form : v.state.form ≡ w.state.form
   pub begun : LeftBegins w l
   pub answers : Each (SameAnswer w v) (questions_of_left w turns (Ok l))
 
@@ -61,6 +68,18 @@ RestKept v turns r None = Unit {0}
 RestKept v turns (Err e) (Some k) = Unit {0}
 RestKept v turns (Ok m) (Some k) =
     (w : Around) × (l : Left Ident) × (from : ℕ) × (to : ℕ) × RestStays w v turns l × (m ≡ left_with (bound_moved from to) l) × (k ≡ kept_moved (bound_moved from to) (kept_parts w turns l))
+
+-- its turn came again where it had counted what it had when it was gone through
+abbrev pub only_counted : Moment → Moment
+only_counted m = record m { table = []; macros = []; places = []; definitions = [] }
+
+abbrev pub RestFits : Moment → Option KeptParts → Type 0
+RestFits m None = Unit {0}
+RestFits m (Some k) = k.begun ≡ only_counted m
+
+abbrev pub FormFits : Option KeptForm → Type 0
+FormFits None = Unit {0}
+FormFits (Some k) = RestFits k.aside.moment k.parts
 
 -- ---- along the unit
 
@@ -82,21 +101,21 @@ RestsKept known turns fs (r ∷ rs) s =
 
 abbrev pub UnitKept : Known → ℕ → List FormOrKept → ScopedState → Type 0
 UnitKept known turns xs s =
-    PassesKept known turns (numbers_of xs) xs [] s × Onwards (λ rs t. RestsKept known turns (numbers_of xs) rs t) (passes_keeping known turns (numbers_of xs) xs [] s)
+    Each (λ (x : FormOrKept). FormFits x.kept) xs × PassesKept known turns (numbers_of xs) xs [] s × Onwards (λ rs t. RestsKept known turns (numbers_of xs) rs t) (passes_keeping known turns (numbers_of xs) xs [] s)
 
 -- ---- forms that begin
 
--- each form can begin where its turn comes, so what it comes to there may be kept
+-- each form can begin where its turn comes, and has counted nothing yet; so what it comes to there may be kept
 abbrev pub PassesBegin : Known → ℕ → List ℕ → List FormOrKept → List (Note FramedIdent) → ScopedState → Type 0
 PassesBegin known turns fs [] notes s = Unit {0}
 PassesBegin known turns fs (x ∷ xs) notes s =
     let v = around_form known x.form notes s in
-    FormBegins v x.tree × Onwards (λ q t. PassesBegin known turns fs xs q.notes t) (unless_over (counted known) fs (goes_through v turns x.tree x.kept))
+    FormBegins v x.tree × (start v.state ≡ no_counts) × Onwards (λ q t. PassesBegin known turns fs xs q.notes t) (unless_over (counted known) fs (goes_through v turns x.tree x.kept))
 
 abbrev pub RestsBegin : Known → ℕ → List ℕ → List LeftOrKept → ScopedState → Type 0
 RestsBegin known turns fs [] s = Unit {0}
 RestsBegin known turns fs (r ∷ rs) s =
-    let v = around_form known r.form [] s in RestBegins v r.left × Onwards (λ p t. RestsBegin known turns fs rs t) (comes_to v turns fs r.left r.kept)
+    let v = around_form known r.form [] s in RestBegins v r.left × (start v.state ≡ r.counts) × Onwards (λ p t. RestsBegin known turns fs rs t) (comes_to v turns fs r.left r.kept)
 
 abbrev pub UnitBegins : Known → ℕ → List FormOrKept → ScopedState → Type 0
 UnitBegins known turns xs s =

@@ -14,7 +14,7 @@ use Rattle.scheme_model.specs.Substitution.{definition_count}
 use Rattle.scheme_model.specs.ScopedExpansion.{FramedIdent, ScopedState}
 use Rattle.scheme_model.specs.CountedExpansion.{counted}
 use Rattle.scheme_model.specs.Questions.{Moment, Around}
-use Rattle.scheme_model.specs.FormsAlike.{bound_moved, left_with, part_with, or_fault, set_aside, again}
+use Rattle.scheme_model.specs.FormsAlike.{bound_moved, left_with, part_with, or_fault, set_aside, start, again}
 
 -- ---- what is kept
 
@@ -30,8 +30,10 @@ pub record KeptItem : Type 0 where
   pub part : Result Part Broken
   pub moment : Moment
 
--- of what it set aside: the moment after its macro uses were met, and each item up to the first fault
+-- of what it set aside: what the form had counted when its turn came again, the moment after its macro uses were met, and each item up
+-- to the first fault
 pub record KeptParts : Type 0 where
+  pub begun : Moment
   pub met : Moment
   pub items : List KeptItem
 
@@ -66,9 +68,14 @@ abbrev pub goes_through : Around → ℕ → Tree Ident → Option KeptForm → 
 goes_through v turns t None = set_aside v turns t
 goes_through v turns t (Some k) = put_aside v k.aside
 
--- what is left of a form, and what is kept of the rest
+-- what a form has counted and met, and nothing that it has made or found
+abbrev pub counts_at : ℕ → ScopedState → Moment
+counts_at form s = start (record s { form = form })
+
+-- what is left of a form, with what it has counted by then, and what is kept of the rest
 pub record LeftOrKept : Type 0 where
   pub form : ℕ
+  pub counts : Moment
   pub left : Result (Left Ident) Broken
   pub kept : Option KeptParts
 
@@ -76,7 +83,7 @@ abbrev pub item_moved : (Bound → Bound) → KeptItem → KeptItem
 item_moved f i = record { part = or_fault (part_with f) i.part; moment = i.moment }
 
 abbrev pub kept_moved : (Bound → Bound) → KeptParts → KeptParts
-kept_moved f k = record { met = k.met; items = map (item_moved f) k.items }
+kept_moved f k = record { begun = k.begun; met = k.met; items = map (item_moved f) k.items }
 
 abbrev pub rest_kept : Around → Option KeptForm → Option KeptParts
 rest_kept v None = None
@@ -87,7 +94,7 @@ passes_keeping known turns fs [] notes s = going [] s
 passes_keeping known turns fs (x ∷ xs) notes s =
     let v = around_form known x.form notes s in
     unless_over (counted known) fs (goes_through v turns x.tree x.kept) then λ q t.
-    passes_keeping known turns fs xs q.notes t then λ rest. going (record { form = x.form; left = q.left; kept = rest_kept v x.kept } ∷ rest)
+    passes_keeping known turns fs xs q.notes t then λ rest. going (record { form = x.form; counts = counts_at x.form t; left = q.left; kept = rest_kept v x.kept } ∷ rest)
 
 -- ---- what they set aside is expanded
 
