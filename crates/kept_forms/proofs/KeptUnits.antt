@@ -147,18 +147,18 @@ module _ (w : Era) (known : Known) (turns : ℕ) (fs : List ℕ) where
       next_like xs law t form p q u u2 b l g a n k =
           law q.notes p.notes u2 u g.0 g.2 b.0 (all_of_more (HeldTree t) (HeldTree u) (λ x h. tree_more (UnitLeaf w known t) (UnitLeaf w known u) (leaf_later w known t u b.1) x.tree h) xs l) a n k
 
--- ---- the unit
+-- ---- the unit, from starts that differ in times
 
 same_work : {X : Type 0} {q m : Option X × ScopedState} → Both EndedLike GivesLike q m → SameWork m q
 same_work (both_end s t e d h) = record { result = ap (λ z. z.0) e ∙ sym (ap (λ z. z.0) d); state = ap (λ z. bare_state z.1) e ∙ h ∙ sym (ap (λ z. bare_state z.1) d) }
 same_work (both_go x y s t e d h) = record { result = ap (λ z. z.0) e ∙ sym (ap Some h.1) ∙ sym (ap (λ z. z.0) d); state = ap (λ z. bare_state z.1) e ∙ h.0 ∙ sym (ap (λ z. bare_state z.1) d) }
 
-module _ (w : Era) (known : Known) (turns : ℕ) (xs : List FormOrKept) (s : ScopedState) (b : Between w known s []) (l : AllOf (λ (x : FormOrKept). TreeAll (UnitLeaf w known s) x.tree) xs) (d : Distinct of_form xs) (n : AllNew s xs) (k : UnitKept known turns xs s) where
+module _ (w : Era) (known : Known) (turns : ℕ) (xs : List FormOrKept) (s t : ScopedState) (e : bare_state t ≡ bare_state s) (b : Between w known t []) (l : AllOf (λ (x : FormOrKept). TreeAll (UnitLeaf w known t) x.tree) xs) (d : Distinct of_form xs) (n : AllNew s xs) (k : UnitKept known turns xs s) where
   abbrev fs : List ℕ
   fs = numbers_of xs
 
-  gone : PassesLike w known turns fs xs [] [] s s
-  gone = passes_like w known turns fs xs [] [] s s refl refl b l d n k.1
+  gone : PassesLike w known turns fs xs [] [] s t
+  gone = passes_like w known turns fs xs [] [] s t e refl b l d n k.1
 
   abbrev Set : Type 0
   Set = List (ℕ × Result (Left Ident) Broken)
@@ -166,20 +166,20 @@ module _ (w : Era) (known : Known) (turns : ℕ) (xs : List FormOrKept) (s : Sco
   abbrev Behind : List LeftOrKept → ScopedState → Type 0
   Behind y u = RestsKept known turns fs y u × (Distinct of_left y × Ready u y)
 
-  rests : (x : Set) (y : List LeftOrKept) (u u2 : ScopedState) → Behind y u2 → PassesGive w known turns fs s u u2 x y → RestsLike w known turns fs y u2 u
+  rests : (x : Set) (y : List LeftOrKept) (u u2 : ScopedState) → Behind y u2 → PassesGive w known turns fs t u u2 x y → RestsLike w known turns fs y u2 u
   rests x y u u2 r g = rests_like w known turns fs y u2 u g.0 g.2 g.4 r.1.0 r.1.1 r.0
 
-  known_of : Both EndedLike (λ u u2 x y. Unit {0} × Behind y u2 × PassesGive w known turns fs s u u2 x y) (passes (counted known) turns [] fs (map form_of xs) [] s) (passes_keeping known turns fs xs [] s)
+  known_of : Both EndedLike (λ u u2 x y. Unit {0} × Behind y u2 × PassesGive w known turns fs t u u2 x y) (passes (counted known) turns [] fs (map form_of xs) [] t) (passes_keeping known turns fs xs [] s)
   known_of =
       let q = passes_keeping known turns fs xs [] s in
-      both_learn (λ u x. Unit {0}) (λ y u. Behind y u) (on_unit (passes (counted known) turns [] fs (map form_of xs) [] s))
+      both_learn (λ u x. Unit {0}) (λ y u. Behind y u) (on_unit (passes (counted known) turns [] fs (map form_of xs) [] t))
       (onwards_join (λ y u. RestsKept known turns fs y u) (λ y u. Distinct of_left y × Ready u y) q k.2 (passes_ready known turns fs xs [] s d k.0)) gone.both
     where
       on_unit : (q : Option Set × ScopedState) → OnWork (λ u. Unit {0}) (λ u x. Unit {0}) q
       on_unit (None, u) = tt
       on_unit (Some x, u) = tt
 
-  pub unit_like : SameWork (unit_keeping known turns xs s) (unit (counted known) turns [] (map form_of xs) s)
+  pub unit_like : SameWork (unit_keeping known turns xs s) (unit (counted known) turns [] (map form_of xs) t)
   unit_like = same_work (both_then (finished (counted known) (expand (counted known) turns) [] fs) (finished_keeping known turns fs) known_of (λ x y u u2 z.
       both_at (ap (λ (rs : Set). finished (counted known) (expand (counted known) turns) [] fs rs u) z.2.1) refl (rests x y u u2 z.1 z.2).both))
 

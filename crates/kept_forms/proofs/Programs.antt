@@ -15,8 +15,10 @@ use Rattle.scheme_model.specs.UnitExpansion.{Formed, unit}
 use Rattle.scheme_model.specs.Substitution.{Table, Entries}
 use Rattle.scheme_model.specs.ScopedExpansion.{UsePlace, ScopedState}
 use Rattle.scheme_model.specs.CountedExpansion.{counted}
+use Rattle.scheme_model.specs.Questions.{Moment}
+use Rattle.scheme_model.specs.FormsAlike.{bare_state}
 use Rattle.scheme_model.specs.Entries.{Entry}
-use Rattle.scheme_model.specs.Program.{Placed, Prepared, WholeFault, fault_before, SetResult, UnitResult, result_at, unit_entries, with_entries, enough_turns, broken_result, unit_result, is_ready, first_ready}
+use Rattle.scheme_model.specs.Program.{Placed, Prepared, WholeFault, fault_before, SetResult, UnitResult, result_at, unit_entries, with_entries, enough_turns, broken_result, unit_result, is_ready, first_ready, is_program}
 use Rattle.scheme_model.specs.ScopedProgram.{ScopedProgress, forms_over, scoped_start_of, scoped_unit_over, scoped_start_after, scoped_by_fault, scoped_worked, scoped_work, scoped_before}
 use Rattle.scheme_model.proofs.FrameEras.{Era, Worked, Before}
 use Rattle.scheme_model.proofs.FrameAsks.{AllOf, all_of_more}
@@ -26,10 +28,11 @@ use Rattle.scheme_model.proofs.UnitEnds.{OnWork}
 use Rattle.scheme_model.proofs.FrameUnit.{UnitLeaf}
 use Rattle.scheme_model.proofs.FrameUnits.{FormHeld}
 use Rattle.scheme_model.proofs.FrameBetween.{none_yet}
-use Rattle.scheme_model.proofs.FramePrograms.{done, coming, locals_none, start_unit, forms_held, not_done, work_gone, between_before}
-use Rattle.kept_forms.specs.KeptForms.{FormOrKept, form_of, unit_keeping}
+use Rattle.scheme_model.proofs.FramePrograms.{done, coming, locals_none, start_unit, forms_held, not_done, work_gone, between_before, Between as BetweenUnits}
+use Rattle.kept_forms.specs.KeptForms.{FormOrKept, form_of, unit_keeping, counts_at}
 use Rattle.form_laws.specs.Begins.{Each}
-use Rattle.kept_forms.specs.Carried.{Onwards, UnitKept, UnitBegins, SameWork}
+use Rattle.kept_forms.specs.Carried.{Onwards, UnitKept, UnitBegins, SameWork, no_counts}
+use Rattle.kept_forms.specs.KeptPrograms.{SameProgress}
 use Rattle.kept_forms.specs.Worked.{unit_worked, not_kept, uses_not_kept, UsesTold}
 use Rattle.kept_forms.proofs.Uses.{IsPlaced, unit_placed}
 use Rattle.kept_forms.proofs.Between.{Between}
@@ -88,7 +91,7 @@ told_same (Some x, s) (Some y, t) e d h = subst (λ (z : List Formed × (ℕ →
 
 -- ---- the uses of units that were worked on
 
-abbrev PlacesDone : ScopedProgress → Type 0
+abbrev pub PlacesDone : ScopedProgress → Type 0
 PlacesDone g = AllOf (λ (p : UsePlace). done g.results p.use_number.unit ≡ true) g.places
 
 or_true : (t : Bool) → (t || true) ≡ true
@@ -144,11 +147,11 @@ module _ (all : List Placed) (ps : List Prepared) (known : Known) where
       (λ u b. done_more g.results r p.number (result_number p imports q.1.table q.0) u.use_number.unit b.1) q.1.places
       (unit_placed w known enough_turns (forms_over (Written p.number) p.number 0 p.forms) start (start_placed known g p new (with_entries p.number imports.0 g.entry) h)).1
 
-  abbrev OrReady : (Prepared → Bool) → Option Prepared → Type 0
+  abbrev pub OrReady : (Prepared → Bool) → Option Prepared → Type 0
   OrReady f None = Unit {0}
   OrReady f (Some p) = f p ≡ true
 
-  first_is : (f : Prepared → Bool) (qs : List Prepared) → OrReady f (first_ready f qs)
+  pub first_is : (f : Prepared → Bool) (qs : List Prepared) → OrReady f (first_ready f qs)
   first_is f [] = tt
   first_is f (q ∷ qs) = go (f q) refl (first_is f qs)
     where
@@ -160,7 +163,7 @@ module _ (all : List Placed) (ps : List Prepared) (known : Known) where
   worked_placed g h None r = h
   worked_placed g h (Some p) r = fault_placed g h p (not_done all ps known (done g.results p.number) _ r) (fault_before all ps p)
 
-  work_placed : (n : ℕ) (g : ScopedProgress) → PlacesDone g → PlacesDone (scoped_work all ps known n g)
+  pub work_placed : (n : ℕ) (g : ScopedProgress) → PlacesDone g → PlacesDone (scoped_work all ps known n g)
   work_placed zero g h = h
   work_placed (suc n) g h =
       let o = first_ready (is_ready all ps g.results) ps in
@@ -172,59 +175,91 @@ module _ (all : List Placed) (ps : List Prepared) (known : Known) where
   held_forms w s [] h = tt
   held_forms w s (x ∷ xs) h = (h.0, held_forms w s xs h.1)
 
-  module _ (n : ℕ) (p : Prepared) (xs : List FormOrKept) where
-    abbrev g : ScopedProgress
-    g = scoped_work all ps known n scoped_before
+  zero_all : (s : ScopedState) → ((f : ℕ) → counts_at f s ≡ no_counts) → (ys : List FormOrKept) → Zero s ys
+  zero_all s e [] = tt
+  zero_all s e (y ∷ ys) = (ap (λ (m : Moment). m.uses) (e y.form), zero_all s e ys)
 
+  new_all : (s : ScopedState) → ((f : ℕ) → counts_at f s ≡ no_counts) → (ys : List FormOrKept) → AllNew s ys
+  new_all s e [] = tt
+  new_all s e (y ∷ ys) = (e y.form, new_all s e ys)
+
+  -- g is the progress where every form is expanded, and h the one where some are kept
+  module _ (g h : ScopedProgress) (b : BetweenUnits g) (placed : PlacesDone g) (alike : SameProgress h g) (p : Prepared) where
     abbrev s : ScopedState
-    s = scoped_start_after all p g
+    s = scoped_start_after all p h
 
-    module _ (ready : is_ready all ps g.results p ≡ true) (forms : map form_of xs ≡ forms_over (Written p.number) p.number 0 p.forms) (kept : UnitKept known enough_turns xs s) where
+    abbrev t : ScopedState
+    t = scoped_start_after all p g
+
+    pub starts_alike : bare_state t ≡ bare_state s
+    starts_alike =
+        let a = alike.table in let m = alike.macros in let q = alike.places in let d = alike.definitions in let e = alike.entry in let r = alike.results in
+        λ j. record {
+          unit = p.number;
+          program = is_program p.placed.source.kind;
+          form = 0;
+          locals = λ f. 0;
+          uses = λ f. 0;
+          nodes = λ f. 0;
+          bodies = λ f. 0;
+          keywords = λ f. [];
+          met = λ f. [];
+          table = a j;
+          entry = with_entries p.number (unit_entries all (r j) p).0 (e j);
+          macros = m j;
+          places = q j;
+          definitions = d j;
+        }
+
+    module _ (new : done g.results p.number ≡ false) (xs : List FormOrKept) (forms : map form_of xs ≡ forms_over (Written p.number) p.number 0 p.forms) (kept : UnitKept known enough_turns xs s) where
       abbrev w : Era
       w = coming g.results p.number
 
-      new : done g.results p.number ≡ false
-      new = not_done all ps known (done g.results p.number) _ ready
-
-      between : Between w known s []
+      between : Between w known t []
       between =
-          let h = (work_gone all ps known n scoped_before between_before).between in
           let imports = unit_entries all g.results p in
           record {
-            unit_state = start_unit known g h p new imports (unit_entries_fit NoLocal (λ x. tt) all g.results h.exports p);
-            formed = h.formed;
-            locals = locals_none w s g.macros (h.fine p.number new).macros;
-            placed = start_placed known g p new (with_entries p.number imports.0 g.entry) (work_placed n scoped_before tt);
+            unit_state = start_unit known g b p new imports (unit_entries_fit NoLocal (λ x. tt) all g.results b.exports p);
+            formed = b.formed;
+            locals = locals_none w t g.macros (b.fine p.number new).macros;
+            placed = start_placed known g p new (with_entries p.number imports.0 g.entry) placed;
             stood = tt;
           }
 
-      held : AllOf (λ (x : FormOrKept). TreeAll (UnitLeaf w known s) x.tree) xs
+      held : AllOf (λ (x : FormOrKept). TreeAll (UnitLeaf w known t) x.tree) xs
       held =
-          let h = (work_gone all ps known n scoped_before between_before).between in
           let imports = unit_entries all g.results p in
-          held_forms w s xs (subst (AllOf (FormHeld w known s)) (sym forms) (forms_held known g h p new imports (unit_entries_fit NoLocal (λ x. tt) all g.results h.exports p)))
-
-      zero_all : (ys : List FormOrKept) → Zero s ys
-      zero_all [] = tt
-      zero_all (y ∷ ys) = (refl, zero_all ys)
+          held_forms w t xs (subst (AllOf (FormHeld w known t)) (sym forms) (forms_held known g b p new imports (unit_entries_fit NoLocal (λ x. tt) all g.results b.exports p)))
 
       distinct : Distinct of_form xs
       distinct = distinct_forms xs (subst (Distinct number_of) (sym forms) (forms_distinct (Written p.number) p.number p.forms 0))
 
-      new_all : (ys : List FormOrKept) → AllNew s ys
-      new_all [] = tt
-      new_all (y ∷ ys) = (refl, new_all ys)
-
-      pub same_unit : SameWork (unit_keeping known enough_turns xs s) (scoped_unit_over known p s)
-      same_unit = subst (λ (ts : List (ℕ × Tree Ident)). SameWork (unit_keeping known enough_turns xs s) (unit (counted known) enough_turns [] ts s)) forms (unit_like w known enough_turns xs s between held distinct (new_all xs) kept)
+      pub same_unit : SameWork (unit_keeping known enough_turns xs s) (scoped_unit_over known p t)
+      same_unit =
+          subst (λ (ts : List (ℕ × Tree Ident)). SameWork (unit_keeping known enough_turns xs s) (unit (counted known) enough_turns [] ts t)) forms
+          (unit_like w known enough_turns xs s t starts_alike between held distinct (new_all s (λ f. refl) xs) kept)
 
       pub forms_begin : UnitBegins known enough_turns xs s
-      forms_begin = unit_begins w known enough_turns xs s between held distinct (new_all xs) kept
+      forms_begin = unit_begins w known enough_turns xs s t starts_alike between held distinct (new_all s (λ f. refl) xs) kept
 
       -- ---- the uses that are worked
 
-      pub uses_worked : unit_worked known enough_turns xs s ≡ uses_not_kept xs (scoped_unit_over known p s).1
-      uses_worked = worked_law known enough_turns xs s distinct (zero_all xs) ∙ sym (not_kept_same xs (unit_keeping known enough_turns xs s).1 (scoped_unit_over known p s).1 (ap (λ (z : ScopedState). z.uses) same_unit.state))
+      uses_alike : (scoped_unit_over known p t).1.uses ≡ (unit_keeping known enough_turns xs s).1.uses
+      uses_alike = ap (λ (z : ScopedState). z.uses) same_unit.state
 
-      pub uses_told : Onwards (λ rs t. UsesTold rs t) (scoped_unit_over known p s)
-      uses_told = told_same (unit_keeping known enough_turns xs s) (scoped_unit_over known p s) same_unit.result (ap (λ (z : ScopedState). z.uses) same_unit.state) (told_law known enough_turns xs s distinct (zero_all xs))
+      pub uses_worked : unit_worked known enough_turns xs s ≡ uses_not_kept xs (scoped_unit_over known p t).1
+      uses_worked = worked_law known enough_turns xs s distinct (zero_all s (λ f. refl) xs) ∙ sym (not_kept_same xs (unit_keeping known enough_turns xs s).1 (scoped_unit_over known p t).1 uses_alike)
+
+      pub uses_told : Onwards (λ rs u. UsesTold rs u) (scoped_unit_over known p t)
+      uses_told = told_same (unit_keeping known enough_turns xs s) (scoped_unit_over known p t) same_unit.result uses_alike (told_law known enough_turns xs s distinct (zero_all s (λ f. refl) xs))
+
+  -- ---- after so many units
+
+  pub between_at : (n : ℕ) → BetweenUnits (scoped_work all ps known n scoped_before)
+  between_at n = (work_gone all ps known n scoped_before between_before).between
+
+  pub placed_at : (n : ℕ) → PlacesDone (scoped_work all ps known n scoped_before)
+  placed_at n = work_placed n scoped_before tt
+
+  pub new_unit : (g : ScopedProgress) (p : Prepared) → is_ready all ps g.results p ≡ true → done g.results p.number ≡ false
+  new_unit g p ready = not_done all ps known (done g.results p.number) _ ready
