@@ -11,3 +11,4 @@ pub mod Ready  -- What the forms of a unit have counted where their turns come
 pub mod KeptUnits  -- A unit of which some forms are kept comes to what it comes to where every form is expanded, and each of its forms may begin where its turn comes
 pub mod Programs  -- Each unit of a program begins so that its forms may be kept, whatever was worked on before it
 pub mod WholePrograms  -- A program of which some forms are kept is the program
+pub mod MayBeKept  -- What a form comes to where it may begin may be kept from there

@@ -29,15 +29,15 @@ use Rattle.kept_forms.proofs.Fronts.{EndedLike, GivesLike, across, Fronts, items
 
 -- ---- moved by nothing
 
-moved_none : (c : ℕ) (x : Bound) → bound_moved c c x ≡ x
+pub moved_none : (c : ℕ) (x : Bound) → bound_moved c c x ≡ x
 moved_none c (LocalNumber k) = refl
 moved_none c (Definition u n) = let e : n + c - c ≡ n = omega arith in ap (Definition u) e
 
 module _ (f : Bound → Bound) (none : (x : Bound) → f x ≡ x) where
-  binder_still : (b : Binder) → binder_with f b ≡ b
+  pub binder_still : (b : Binder) → binder_with f b ≡ b
   binder_still b = let a = none b.bound in λ j. record { bound = a j; ident = b.ident; occ = b.occ }
 
-  names_still : (bs : List Binder) → map (binder_with f) bs ≡ bs
+  pub names_still : (bs : List Binder) → map (binder_with f) bs ≡ bs
   names_still [] = refl
   names_still (b ∷ bs) = let a = binder_still b in let c = names_still bs in λ j. a j ∷ c j
 
@@ -55,7 +55,7 @@ module _ (f : Bound → Bound) (none : (x : Bound) → f x ≡ x) where
   items_still [] = refl
   items_still (i ∷ is) = let a = item_still i in let b = items_still is in λ j. a j ∷ b j
 
-  left_still : (l : Left Ident) → left_with f l ≡ l
+  pub left_still : (l : Left Ident) → left_with f l ≡ l
   left_still l = ap (λ is. record { uses = l.uses; items = is }) (items_still l.items)
 
   rest_still : (r : Result (Left Ident) Broken) → or_fault (left_with f) r ≡ r

@@ -37,6 +37,10 @@ kept_parts w turns l =
     let s = meet_all (asking w) [] l.uses (no_questions w) in
     record { begun = start w.state; met = s.moment; items = kept_items (item_part (expand (asking w) turns) (asking w) max_depth []) l.items s }
 
+-- of the whole form
+abbrev pub kept_form : KeptAside → Option KeptParts → KeptForm
+kept_form k parts = record { aside = k; parts = parts }
+
 -- ---- forms that may be kept
 
 -- nothing

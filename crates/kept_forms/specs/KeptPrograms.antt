@@ -1,13 +1,14 @@
 -- A program of which some forms are kept (R7RS 5): each unit goes on from what the units before it left, and of each some forms are kept.
-use Rattle.std.specs.Prelude.{◌≡◌, ℕ, zero, suc, List, ◌∷◌, map, length, Option, Some, None}
+use Rattle.std.specs.Prelude.{◌≡◌, ℕ, zero, suc, ◌+◌, List, ◌∷◌, map, length, Option, Some, None}
 use Rattle.scheme_model.specs.Ident.{Written}
 use Rattle.scheme_model.specs.Requirements.{Known}
 use Rattle.scheme_model.specs.Entries.{Entry}
 use Rattle.scheme_model.specs.Program.{Document, known_in, Placed, units_of, Prepared, prepare, WholeFault, fault_before, SetResult, broken_result, unit_entries, with_entries, enough_turns, is_ready, first_ready, Program, in_order}
-use Rattle.scheme_model.specs.ScopedProgram.{ScopedProgress, forms_over, scoped_start_of, scoped_start_after, after_unit, scoped_before}
+use Rattle.scheme_model.specs.ScopedProgram.{ScopedProgress, forms_over, scoped_start_of, scoped_start_after, after_unit, scoped_before, scoped_unit_over, scoped_worked}
 use Rattle.scheme_model.specs.FormsAlike.{bare_place, bare_kept}
 use Rattle.kept_forms.specs.KeptForms.{FormOrKept, form_of, unit_keeping}
 use Rattle.kept_forms.specs.Carried.{UnitKept}
+use Rattle.kept_forms.specs.Worked.{unit_worked, uses_not_kept}
 
 -- what is kept of the forms of each unit, by its number
 abbrev pub Keeping : Type 0
@@ -52,6 +53,36 @@ abbrev pub ProgramKeeps : List Placed → List Prepared → Known → Keeping �
 ProgramKeeps all ps known keep zero g = Unit {0}
 ProgramKeeps all ps known keep (suc n) g =
     let o = first_ready (is_ready all ps g.results) ps in WorkKeeps all ps known keep o g × ProgramKeeps all ps known keep n (kept_worked all ps known keep o g)
+
+-- ---- the uses that are worked
+
+abbrev pub unit_uses : List Placed → Known → Keeping → Prepared → Option WholeFault → ScopedProgress → ℕ
+unit_uses all known keep p (Some fault) g = 0
+unit_uses all known keep p None g = unit_worked known enough_turns (keep p.number) (scoped_start_after all p g)
+
+abbrev pub work_uses : List Placed → List Prepared → Known → Keeping → Option Prepared → ScopedProgress → ℕ
+work_uses all ps known keep None g = 0
+work_uses all ps known keep (Some p) g = unit_uses all known keep p (fault_before all ps p) g
+
+-- those of all units
+abbrev pub program_worked : List Placed → List Prepared → Known → Keeping → ℕ → ScopedProgress → ℕ
+program_worked all ps known keep zero g = 0
+program_worked all ps known keep (suc n) g =
+    let o = first_ready (is_ready all ps g.results) ps in work_uses all ps known keep o g + program_worked all ps known keep n (kept_worked all ps known keep o g)
+
+-- those that the forms that aren't kept count, where every form is expanded
+abbrev pub unit_not_kept : List Placed → Known → Keeping → Prepared → Option WholeFault → ScopedProgress → ℕ
+unit_not_kept all known keep p (Some fault) g = 0
+unit_not_kept all known keep p None g = uses_not_kept (keep p.number) (scoped_unit_over known p (scoped_start_after all p g)).1
+
+abbrev pub work_not_kept : List Placed → List Prepared → Known → Keeping → Option Prepared → ScopedProgress → ℕ
+work_not_kept all ps known keep None g = 0
+work_not_kept all ps known keep (Some p) g = unit_not_kept all known keep p (fault_before all ps p) g
+
+abbrev pub program_not_kept : List Placed → List Prepared → Known → Keeping → ℕ → ScopedProgress → ℕ
+program_not_kept all ps known keep zero g = 0
+program_not_kept all ps known keep (suc n) g =
+    let o = first_ready (is_ready all ps g.results) ps in work_not_kept all ps known keep o g + program_not_kept all ps known keep n (scoped_worked all ps known o g)
 
 -- ---- the same
 

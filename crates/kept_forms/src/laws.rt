@@ -1,13 +1,18 @@
 //! Laws of the definitions. Each is the contract of a function that does nothing.
-ghost use Rattle.std.specs.Prelude.{◌≡◌, ℕ, true, List, map, length};
-ghost use Rattle.scheme_model.specs.Ident.{Written};
+ghost use Rattle.std.specs.Prelude.{◌≡◌, ℕ, true, List, map, length, Option, Some, Ok};
+ghost use Rattle.scheme_model.specs.Ident.{Ident as Identifier, Written};
+ghost use Rattle.scheme_model.specs.Trees.{Tree};
+ghost use Rattle.scheme_model.specs.Order.{Left};
+ghost use Rattle.scheme_model.specs.Questions.{Around};
+ghost use Rattle.scheme_model.specs.FormsAlike.{set_aside, start};
+ghost use Rattle.form_laws.specs.Begins.{FormBegins, LeftBegins};
 ghost use Rattle.scheme_model.specs.Requirements.{Known};
 ghost use Rattle.scheme_model.specs.Program.{Document, known_in, units_of, prepare, program_of, Placed, Prepared, is_ready, enough_turns};
 ghost use Rattle.scheme_model.specs.ScopedProgram.{ScopedProgress, scoped_work, scoped_before, forms_over, scoped_unit_over, scoped_start_after};
-ghost use Rattle.kept_forms.specs.KeptForms.{FormOrKept, form_of, unit_keeping};
-ghost use Rattle.kept_forms.specs.Carried.{UnitKept, UnitBegins, Onwards, SameWork};
+ghost use Rattle.kept_forms.specs.KeptForms.{KeptParts, FormOrKept, form_of, counts_at, unit_keeping};
+ghost use Rattle.kept_forms.specs.Carried.{kept_aside, kept_parts, kept_form, no_counts, PassKept, RestKept, FormFits, UnitKept, UnitBegins, Onwards, SameWork};
 ghost use Rattle.kept_forms.specs.Worked.{unit_worked, uses_not_kept, UsesTold};
-ghost use Rattle.kept_forms.specs.KeptPrograms.{Keeping, kept_work, kept_program_of, ProgramKeeps, SameProgress};
+ghost use Rattle.kept_forms.specs.KeptPrograms.{Keeping, kept_work, kept_program_of, ProgramKeeps, program_worked, program_not_kept, SameProgress};
 
 /// A unit of a program of which some forms are kept comes to what it comes to where every form is expanded (R7RS 4.3, 5.1, 5.3), as long as
 /// the questions of each kept form have their answers where its turn comes: it goes through the same, each form to the same parts or the
@@ -39,10 +44,21 @@ pub fn kept_forms_are_not_worked()
 {}
 
 /// A program of which some forms are kept is the program (R7RS 5), as long as the questions of each kept form have their answers where its
-/// turn comes, and so it is after each of its units.
+/// turn comes, and so it is after each of its units. As many macro uses are worked in all its units as the forms that aren't kept count.
 pub fn kept_programs_are_programs()
     ensures progress { (all : List Placed) (units : List Prepared) (known : Known) (keep : Keeping) (n : ℕ) → ProgramKeeps all units known keep n scoped_before →
         SameProgress (kept_work all units known keep n scoped_before) (scoped_work all units known n scoped_before) }
     ensures program { (documents : List Document) (keep : Keeping) → let all = units_of documents in let units = prepare all 0 all in
         ProgramKeeps all units (known_in documents) keep (length units) scoped_before → kept_program_of keep documents ≡ program_of documents }
+    ensures worked { (all : List Placed) (units : List Prepared) (known : Known) (keep : Keeping) (n : ℕ) → ProgramKeeps all units known keep n scoped_before →
+        program_worked all units known keep n scoped_before ≡ program_not_kept all units known keep n scoped_before }
+{}
+
+/// What a form comes to where it may begin may be kept from there: what it set aside and noted, and what that was expanded to, if its turn came
+/// again with what it had counted.
+pub fn forms_may_be_kept()
+    ensures pass { (w : Around) (turns : ℕ) (t : Tree Identifier) (parts : Option KeptParts) → start w.state ≡ no_counts → FormBegins w t → PassKept w turns t (Some (kept_form (kept_aside w turns t) parts)) }
+    ensures rest { (w : Around) (turns : ℕ) (l : Left Identifier) → LeftBegins w l → RestKept w turns (Ok l) (Some (kept_parts w turns l)) }
+    ensures fits { (w v : Around) (turns : ℕ) (t : Tree Identifier) (l : Left Identifier) → FormBegins w t → start v.state ≡ counts_at w.state.form (set_aside w turns t).1 →
+        FormFits (Some (kept_form (kept_aside w turns t) (Some (kept_parts v turns l)))) }
 {}
