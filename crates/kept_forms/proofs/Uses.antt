@@ -15,7 +15,8 @@ use Rattle.scheme_model.proofs.Clocks.{leq_counted, next_counted}
 use Rattle.scheme_model.proofs.FrameEras.{Era, Before, before_more, unit_worked}
 use Rattle.scheme_model.proofs.FrameAsks.{AllOf, all_of_more}
 use Rattle.scheme_model.proofs.UnitEnds.{OnWork}
-use Rattle.kept_forms.proofs.OneSide.{MacrosOfUnit, OthersStay, over_keeps, then_keeps, run_keeps, parts_keep}
+use Rattle.form_laws.specs.Begins.{BindsInUnit}
+use Rattle.kept_forms.proofs.OneSide.{MacrosOfUnit, OthersStay, over_keeps, then_keeps, run_keeps, parts_keep, DefinesMore, left_of_unit}
 
 module _ (w : Era) (known : Known) where
   abbrev ops : Ops Frames Ident FramedIdent ScopedState
@@ -31,8 +32,8 @@ module _ (w : Era) (known : Known) where
       let here : Before w u k = (subst (λ (z : ℕ). Before (record w { unit = z }) u k) h.0 (next_counted s.unit s.form s.uses, unit_worked (record w { unit = s.unit }) s.unit refl)) in
       (h.0, (here, all_of_more (λ (p : UsePlace). Before w s.uses p.use_number) (λ (p : UsePlace). Before w u p.use_number) (λ p q. before_more w s.uses u (leq_counted s.form s.uses) p.use_number q) s.places h.1))
 
-  still_placed : (s t : ScopedState) → t.unit ≡ s.unit → t.form ≡ s.form → t.uses ≡ s.uses → t.places ≡ s.places → OthersStay s t → IsPlaced s → IsPlaced t
-  still_placed s t unit form uses places others h = (unit ∙ h.0, subst (λ (z : Clock × List UsePlace). AllOf (λ (p : UsePlace). Before w z.0 p.use_number) z.1) (λ j. (sym uses j, sym places j)) h.1)
+  still_placed : (s t : ScopedState) → t.unit ≡ s.unit → t.form ≡ s.form → t.uses ≡ s.uses → t.places ≡ s.places → OthersStay s t → DefinesMore s t → IsPlaced s → IsPlaced t
+  still_placed s t unit form uses places others more h = (unit ∙ h.0, subst (λ (z : Clock × List UsePlace). AllOf (λ (p : UsePlace). Before w z.0 p.use_number) z.1) (λ j. (sym uses j, sym places j)) h.1)
 
   abbrev Goes : {X : Type 0} → Option X × ScopedState → Type 0
   Goes q = IsPlaced q.1
@@ -41,11 +42,12 @@ module _ (w : Era) (known : Known) where
   then_placed q f h next = then_keeps known IsPlaced q f h next
 
   run_placed : (turns : ℕ) (t : Tree Ident) (ns : List (Note FramedIdent)) (s : ScopedState) → IsPlaced s → let q = run (counted known) turns [] (one_form t ns) s in IsPlaced q.1 × MacrosOfUnit q.0.left
-  run_placed turns t ns s h = run_keeps known IsPlaced begun_placed still_placed turns t ns s h
+  run_placed turns t ns s h =
+      let x = run_keeps known IsPlaced begun_placed still_placed BindsInUnit (λ s h. tt) turns t ns s h in (x.0, left_of_unit (run (counted known) turns [] (one_form t ns) s).0.left x.1)
 
   module _ (turns : ℕ) (fs : List ℕ) where
     parts_goes : (r : Result (Left Ident) Broken) (s : ScopedState) → IsPlaced s → Goes (form_parts (counted known) (expand (counted known) turns) [] fs r s)
-    parts_goes r s h = parts_keep known IsPlaced begun_placed still_placed turns fs r s h
+    parts_goes r s h = parts_keep known IsPlaced begun_placed still_placed BindsInUnit (λ s h. tt) turns fs r s h
 
     on_placed : {X : Type 0} (q : Option X × ScopedState) → Goes q → OnWork IsPlaced (λ t x. IsPlaced t) q
     on_placed (None, s) h = h

@@ -18,7 +18,8 @@ use Rattle.scheme_model.proofs.FrameAsks.{AllOf}
 use Rattle.form_laws.proofs.Leaving.{at_here}
 use Rattle.kept_forms.specs.KeptForms.{KeptItem, KeptParts, KeptForm, FormOrKept, around_form, goes_through, LeftOrKept, rest_kept, passes_keeping, put_items, comes_to, finished_keeping, counts_at}
 use Rattle.kept_forms.specs.Carried.{only_counted}
-use Rattle.kept_forms.proofs.OneSide.{over_keeps, then_keeps, before_keeps, run_keeps, parts_keep, at_other, OthersStay}
+use Rattle.form_laws.specs.Begins.{BindsInUnit}
+use Rattle.kept_forms.proofs.OneSide.{over_keeps, then_keeps, before_keeps, run_keeps, parts_keep, at_other, OthersStay, DefinesMore}
 
 -- a form at work has counted no fewer uses since it began, and the other forms have counted what they had
 abbrev CountsOn : ScopedState → ScopedState → Type 0
@@ -31,8 +32,8 @@ begun_counts known old fs s h = (
   λ g ne. ap (λ m. record (counts_at g s) { uses = m }) (at_other s.form g suc s.uses (λ e. ne (e ∙ h.0))) ∙ h.2 g ne,
 )
 
-still_counts : (old s t : ScopedState) → t.unit ≡ s.unit → t.form ≡ s.form → t.uses ≡ s.uses → t.places ≡ s.places → OthersStay s t → CountsOn old s → CountsOn old t
-still_counts old s t unit same uses places others h = (same ∙ h.0, subst (Leq old.uses) (sym uses) h.1, λ g ne. others g (λ e. ne (e ∙ h.0)) ∙ h.2 g ne)
+still_counts : (old s t : ScopedState) → t.unit ≡ s.unit → t.form ≡ s.form → t.uses ≡ s.uses → t.places ≡ s.places → OthersStay s t → DefinesMore s t → CountsOn old s → CountsOn old t
+still_counts old s t unit same uses places others more h = (same ∙ h.0, subst (Leq old.uses) (sym uses) h.1, λ g ne. others g (λ e. ne (e ∙ h.0)) ∙ h.2 g ne)
 
 counts_itself : (s : ScopedState) → CountsOn s s
 counts_itself s = (refl, leq_itself s.uses, λ g ne. refl)
@@ -62,7 +63,7 @@ module _ (v : Around) (turns : ℕ) where
   Others t = (g : ℕ) → (g ≡ v.state.form → ⊥) → counts_at g t ≡ counts_at g v.state
 
   pub pass_counts : (t : Tree Ident) (o : Option KeptForm) → Others (goes_through v turns t o).1
-  pass_counts t None = (run_keeps v.known (CountsOn v.state) (begun_counts v.known v.state) (still_counts v.state) turns t v.notes v.state (counts_itself v.state)).0.2
+  pass_counts t None = (run_keeps v.known (CountsOn v.state) (begun_counts v.known v.state) (still_counts v.state) BindsInUnit (λ s h. tt) turns t v.notes v.state (counts_itself v.state)).0.2
   pass_counts t (Some k) = counts_there v k.aside.moment
 
   pub pass_others : (t : Tree Ident) (o : Option KeptForm) (g : ℕ) → (g ≡ v.state.form → ⊥) → (goes_through v turns t o).1.uses g ≡ v.state.uses g
@@ -70,7 +71,7 @@ module _ (v : Around) (turns : ℕ) where
 
   module _ (fs : List ℕ) where
     anew_counts : (r : Result (Left Ident) Broken) → CountsOn v.state (comes_to v turns fs r None).1
-    anew_counts r = parts_keep v.known (CountsOn v.state) (begun_counts v.known v.state) (still_counts v.state) turns fs r v.state (counts_itself v.state)
+    anew_counts r = parts_keep v.known (CountsOn v.state) (begun_counts v.known v.state) (still_counts v.state) BindsInUnit (λ s h. tt) turns fs r v.state (counts_itself v.state)
 
     put_others : (ks : List KeptItem) (s : ScopedState) → Others s → Others (put_items v fs ks s).1
     put_others [] s h = h
