@@ -8,13 +8,14 @@ use Rattle.scheme_model.specs.Cores.{Quote, Bound, LocalNumber, Definition, Part
 use Rattle.scheme_model.specs.Steps.{Broken}
 use Rattle.scheme_model.specs.Order.{Left}
 use Rattle.scheme_model.specs.UnitExpansion.{Formed, unit}
+use Rattle.scheme_model.specs.Substitution.{definition_count}
 use Rattle.scheme_model.specs.ScopedExpansion.{ScopedState}
 use Rattle.scheme_model.specs.CountedExpansion.{counted}
 use Rattle.scheme_model.specs.Questions.{Moment}
 use Rattle.scheme_model.specs.FormsAlike.{set_aside, finish, set_aside_asking, start}
 use Rattle.form_laws.proofs.QuestionRows.{empty, word, form}
-use Rattle.kept_forms.specs.KeptForms.{KeptForm, FormOrKept, form_of, around_form, unit_keeping}
-use Rattle.kept_forms.specs.Carried.{kept_aside, kept_parts}
+use Rattle.kept_forms.specs.KeptForms.{KeptForm, FormOrKept, form_of, around_form, put_aside, unit_keeping}
+use Rattle.kept_forms.specs.Carried.{kept_aside, kept_parts, kept_form}
 use Rattle.kept_forms.specs.Worked.{unit_worked}
 
 abbrev nowhere : Known
@@ -27,14 +28,14 @@ left_or l (Err e) = l
 abbrev no_left : Left Ident
 no_left = record { uses = []; items = [] }
 
--- what is kept of the second form of a unit of two
-abbrev second_kept : Tree Ident → Tree Ident → KeptForm
-second_kept t u =
+-- what is kept of a form behind the first, by its number
+abbrev kept_at : ℕ → Tree Ident → Tree Ident → KeptForm
+kept_at n t u =
     let a = set_aside (around_form nowhere 0 [] empty) 20 t in
-    let w = around_form nowhere 1 a.0.notes a.1 in
+    let w = around_form nowhere n a.0.notes a.1 in
     let b = set_aside w 20 u in
     let c = finish (around_form nowhere 0 [] b.1) 20 a.0.left in
-    record { aside = kept_aside w 20 u; parts = Some (kept_parts (around_form nowhere 1 [] c.1) 20 (left_or no_left (set_aside_asking w 20 u).0.left)) }
+    record { aside = kept_aside w 20 u; parts = Some (kept_parts (around_form nowhere n [] c.1) 20 (definition_count w.state.table w.state.unit) (left_or no_left (set_aside_asking w 20 u).0.left)) }
 
 abbrev anew : ℕ → Tree Ident → FormOrKept
 anew n t = record { form = n; tree = t; kept = None }
@@ -86,7 +87,7 @@ abbrev defining : Tree Ident
 defining = form (word (codes "define") ∷ form (word (codes "g") ∷ word (codes "z") ∷ []) ∷ form (word (codes "f") ∷ word (codes "z") ∷ []) ∷ [])
 
 abbrev changed : List FormOrKept
-changed = anew 0 after ∷ keeping 1 defining (second_kept before defining) ∷ []
+changed = anew 0 after ∷ keeping 1 defining (kept_at 1 before defining) ∷ []
 
 as_anew : kept_unit changed ≡ fresh_unit changed
 as_anew = refl
@@ -94,6 +95,28 @@ as_anew = refl
 -- g was the unit's first definition, and is its second now
 moves : numbers (kept_unit changed) ≡ (0 ∷ []) ∷ (1 ∷ []) ∷ []
 moves = refl
+
+-- ---- another one in front
+
+-- the first part is kept, and what it set aside is expanded behind (define x y)
+abbrev again_kept : KeptForm
+again_kept =
+    let k = (kept_at 5 before defining).aside in
+    let a = set_aside (around_form nowhere 0 [] empty) 20 after in
+    let v = around_form nowhere 5 a.0.notes a.1 in
+    let b = put_aside v k in
+    let c = finish (around_form nowhere 0 [] b.1) 20 a.0.left in
+    kept_form k (Some (kept_parts (around_form nowhere 5 [] c.1) 20 (definition_count v.state.table v.state.unit) (left_or no_left b.0.left)))
+
+-- and then all is kept, behind (define x y) and (define v y)
+abbrev changed_again : List FormOrKept
+changed_again = anew 0 after ∷ anew 1 (form (word (codes "define") ∷ word (codes "v") ∷ word (codes "y") ∷ [])) ∷ keeping 5 defining again_kept ∷ []
+
+again_as_anew : kept_unit changed_again ≡ fresh_unit changed_again
+again_as_anew = refl
+
+moves_again : numbers (kept_unit changed_again) ≡ (0 ∷ []) ∷ (1 ∷ []) ∷ (2 ∷ []) ∷ []
+moves_again = refl
 
 -- ---- a macro use behind
 
@@ -105,7 +128,7 @@ abbrev uses : Tree Ident
 uses = form (word (codes "m") ∷ [])
 
 abbrev with_uses : List FormOrKept
-with_uses = anew 0 macro ∷ keeping 1 uses (second_kept macro uses) ∷ anew 2 uses ∷ []
+with_uses = anew 0 macro ∷ keeping 1 uses (kept_at 1 macro uses) ∷ anew 2 uses ∷ []
 
 uses_as_anew : kept_unit with_uses ≡ fresh_unit with_uses
 uses_as_anew = refl
@@ -131,7 +154,7 @@ abbrev counting : ℕ → List ℕ → List FormOrKept
 counting n ns =
     keeping 0 before (record {
       aside = record { pass = record { notes = []; left = Ok no_left }; moment = at_nodes n; before = 0 };
-      parts = Some (record { begun = at_nodes n; met = at_nodes n; items = map (λ m. record { part = Ok (expression_part (Quote (vector no_trees None))); moment = at_nodes m }) ns });
+      parts = Some (record { left = no_left; before = 0; begun = at_nodes n; met = at_nodes n; items = map (λ m. record { part = Ok (expression_part (Quote (vector no_trees None))); moment = at_nodes m }) ns });
     }) ∷ anew 1 before ∷ []
 
 abbrev goes : Option (List Formed) × ScopedState → Bool × ℕ

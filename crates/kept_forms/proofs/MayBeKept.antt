@@ -5,15 +5,16 @@ use Rattle.scheme_model.specs.Trees.{Tree}
 use Rattle.scheme_model.specs.Cores.{Bound, Part, Expression as expression_part, Define as define_part, Values as values_part, Fields as fields_part, Syntax as syntax_part}
 use Rattle.scheme_model.specs.Steps.{Broken}
 use Rattle.scheme_model.specs.Order.{Left}
+use Rattle.scheme_model.specs.Substitution.{definition_count}
 use Rattle.scheme_model.specs.ScopedExpansion.{ScopedState}
 use Rattle.scheme_model.specs.Questions.{Around}
 use Rattle.scheme_model.specs.FormsAlike.{bound_moved, part_with, or_fault, set_aside, start, set_aside_asking, questions_of_pass, questions_of_left}
 use Rattle.form_laws.specs.Begins.{FormBegins, LeftBegins}
 use Rattle.form_laws.proofs.FormLaws.{set_itself}
-use Rattle.kept_forms.specs.KeptForms.{KeptItem, KeptParts, counts_at, item_moved, kept_moved}
+use Rattle.kept_forms.specs.KeptForms.{KeptItem, KeptParts, counts_at, item_moved, kept_moved, KeptAside, put_aside}
 use Rattle.kept_forms.specs.Carried.{kept_aside, kept_parts, kept_form, no_counts, PassKept, RestKept, FormFits}
 use Rattle.kept_forms.proofs.Bares.{answers_itself}
-use Rattle.kept_forms.proofs.OneForm.{moved_none, binder_still, names_still, left_still}
+use Rattle.kept_forms.proofs.OneForm.{moved_none, binder_still, names_still, left_still, rest_still}
 use Rattle.kept_forms.proofs.UsesCounted.{counts_here}
 
 module _ (f : Bound → Bound) (none : (x : Bound) → f x ≡ x) where
@@ -33,15 +34,24 @@ module _ (f : Bound → Bound) (none : (x : Bound) → f x ≡ x) where
   items_still (k ∷ ks) = let a = or_still k.part in let b = items_still ks in λ j. record { part = a j; moment = k.moment } ∷ b j
 
   kept_still : (k : KeptParts) → kept_moved f k ≡ k
-  kept_still k = ap (λ is. record { begun = k.begun; met = k.met; items = is }) (items_still k.items)
+  kept_still k = let a = left_still f none k.left in let b = items_still k.items in λ j. record { left = a j; before = k.before; begun = k.begun; met = k.met; items = b j }
 
 pub pass_itself : (w : Around) (turns : ℕ) (t : Tree Ident) (o : Option KeptParts) → start w.state ≡ no_counts → FormBegins w t → PassKept w turns t (Some (kept_form (kept_aside w turns t) o))
 pass_itself w turns t o new h = (w, record { unit = refl; form = refl; new = new; begun = h; answers = answers_itself w w refl (questions_of_pass w turns t) }, refl)
 
-pub rest_itself : (w : Around) (turns : ℕ) (l : Left Ident) → LeftBegins w l → RestKept w turns (Ok l) (Some (kept_parts w turns l))
-rest_itself w turns l h =
-    let f = bound_moved 0 0 in
-    (w, l, 0, 0, record { unit = refl; form = refl; begun = h; answers = answers_itself w w refl (questions_of_left w turns (Ok l)) }, sym (left_still f (moved_none 0) l), sym (kept_still f (moved_none 0) (kept_parts w turns l)))
+pub rest_itself : (w : Around) (turns n : ℕ) (l : Left Ident) → LeftBegins w l → RestKept w turns (Some (kept_parts w turns n l))
+rest_itself w turns n l h =
+    let f = bound_moved n n in
+    (w, l, n, n, record { unit = refl; form = refl; begun = h; answers = answers_itself w w refl (questions_of_left w turns (Ok l)) }, sym (kept_still f (moved_none n) (kept_parts w turns n l)))
 
-pub form_fits : (w v : Around) (turns : ℕ) (t : Tree Ident) (l : Left Ident) → FormBegins w t → start v.state ≡ counts_at w.state.form (set_aside w turns t).1 → FormFits (Some (kept_form (kept_aside w turns t) (Some (kept_parts v turns l))))
-form_fits w v turns t l h e = e ∙ ap (λ (s : ScopedState). counts_at w.state.form s) (set_itself w turns t h).state ∙ counts_here w (set_aside_asking w turns t).1.moment
+pub form_fits : (w v : Around) (turns : ℕ) (t : Tree Ident) (l : Left Ident) → FormBegins w t → (set_aside w turns t).0.left ≡ Ok l → start v.state ≡ counts_at w.state.form (set_aside w turns t).1
+    → FormFits (Some (kept_form (kept_aside w turns t) (Some (kept_parts v turns (definition_count w.state.table w.state.unit) l))))
+form_fits w v turns t l h d e =
+    let n = definition_count w.state.table w.state.unit in
+    let x = set_itself w turns t h in
+    let q = set_aside_asking w turns t in
+    (e ∙ ap (λ (s : ScopedState). counts_at w.state.form s) x.state ∙ counts_here w q.1.moment, rest_still (bound_moved n n) (moved_none n) q.0.left ∙ sym x.rest ∙ d)
+
+pub kept_fits : (w v : Around) (turns : ℕ) (a : KeptAside) (m : Left Ident) → (put_aside w a).0.left ≡ Ok m → start v.state ≡ counts_at w.state.form (put_aside w a).1
+    → FormFits (Some (kept_form a (Some (kept_parts v turns (definition_count w.state.table w.state.unit) m))))
+kept_fits w v turns a m d e = (e ∙ counts_here w a.moment, d)

@@ -25,6 +25,7 @@ use Rattle.form_laws.proofs.FormLaws.{set_itself, set_law, finish_law}
 use Rattle.kept_forms.specs.KeptForms.{KeptForm, KeptParts, put_aside, goes_through, kept_moved, put_parts, comes_to}
 use Rattle.kept_forms.specs.Carried.{kept_aside, kept_parts, PassStays, RestStays, PassKept, RestKept, no_counts}
 use Rattle.kept_forms.proofs.Bares.{bare_around, notes_joined, form_begins_too, rest_begins_too, definitions_too, again_too, answers_too, form_too, answers_itself}
+use Rattle.kept_forms.proofs.Numbers.{LeftIs, left_same}
 use Rattle.kept_forms.proofs.Fronts.{EndedLike, GivesLike, across, Fronts, items_like}
 
 -- ---- moved by nothing
@@ -58,7 +59,7 @@ module _ (f : Bound → Bound) (none : (x : Bound) → f x ≡ x) where
   pub left_still : (l : Left Ident) → left_with f l ≡ l
   left_still l = ap (λ is. record { uses = l.uses; items = is }) (items_still l.items)
 
-  rest_still : (r : Result (Left Ident) Broken) → or_fault (left_with f) r ≡ r
+  pub rest_still : (r : Result (Left Ident) Broken) → or_fault (left_with f) r ≡ r
   rest_still (Ok l) = ap (λ z. Ok z) (left_still l)
   rest_still (Err e) = refl
 
@@ -156,7 +157,7 @@ module _ (w v : Around) (same : SameForm w v) (h : Begins w.state) (k : Begins v
 -- ---- what it set aside, expanded
 
 rest_from : (old w v : Around) (same : bare_around v ≡ bare_around w) (turns : ℕ) (fs : List ℕ) (from to : ℕ) (l : Left Ident) → SameForm old w → RestStays old w turns l → LeftBegins v (left_with (bound_moved from to) l) → let f = bound_moved from to in
-    Both EndedLike GivesLike (form_parts (counted v.known) (expand (counted v.known) turns) [] fs (Ok (left_with f l)) v.state) (put_parts w fs (Ok (left_with f l)) (kept_moved f (kept_parts old turns l)))
+    Both EndedLike GivesLike (form_parts (counted v.known) (expand (counted v.known) turns) [] fs (Ok (left_with f l)) v.state) (put_parts w fs (Ok (left_with f l)) (kept_moved f (kept_parts old turns from l)))
 rest_from old w v same turns fs from to l there k h =
     let f = bound_moved from to in
     let form = form_too w v same old there in
@@ -175,19 +176,20 @@ abbrev pub BegunAt : Moment → Option KeptParts → Type 0
 BegunAt m None = Unit {0}
 BegunAt m (Some k) = m ≡ k.begun
 
-pub rest_like : (w v : Around) (same : bare_around v ≡ bare_around w) (turns : ℕ) (fs : List ℕ) (r : Result (Left Ident) Broken) (o : Option KeptParts) → BegunAt (start w.state) o → RestBegins v r → RestKept w turns r o
+pub rest_like : (w v : Around) (same : bare_around v ≡ bare_around w) (turns : ℕ) (fs : List ℕ) (r : Result (Left Ident) Broken) (o : Option KeptParts) → LeftIs r o → BegunAt (start w.state) o → RestBegins v r → RestKept w turns o
     → Both EndedLike GivesLike (form_parts (counted v.known) (expand (counted v.known) turns) [] fs r v.state) (comes_to w turns fs r o)
-rest_like w v same turns fs (Err e) None n h k = both_go (Err e) (Err e) v.state w.state refl refl (ap (λ (z : Around). z.state) same, refl)
-rest_like w v same turns fs (Err e) (Some c) n h k = both_go (Err e) (Err e) v.state w.state refl refl (ap (λ (z : Around). z.state) same, refl)
-rest_like w v same turns fs (Ok m) None n h k =
+rest_like w v same turns fs (Err e) None d n h k = both_go (Err e) (Err e) v.state w.state refl refl (ap (λ (z : Around). z.state) same, refl)
+rest_like w v same turns fs (Err e) (Some c) d n h k = both_go (Err e) (Err e) v.state w.state refl refl (ap (λ (z : Around). z.state) same, refl)
+rest_like w v same turns fs (Ok m) None d n h k =
     let b : LeftBegins w m = rest_begins_too w v same (Ok m) h in
     let e = left_still (bound_moved 0 0) (moved_none 0) m in
     let stays : RestStays w w turns m = record { unit = refl; form = refl; begun = b; answers = answers_itself w w refl (questions_of_left w turns (Ok m)) } in
     let x = rest_from w w v same turns fs 0 0 m (itself_form w) stays (subst (LeftBegins v) (sym e) h) in
     let y = rest_from w w w refl turns fs 0 0 m (itself_form w) stays (subst (LeftBegins w) (sym e) b) in
     subst (λ (l : Left Ident). Both EndedLike GivesLike (form_parts (counted v.known) (expand (counted v.known) turns) [] fs (Ok l) v.state) (form_parts (counted w.known) (expand (counted w.known) turns) [] fs (Ok l) w.state)) e (across x y)
-rest_like w v same turns fs (Ok m) (Some c) n h k =
-    let a = k.5 in let b = k.6 in
+rest_like w v same turns fs (Ok m) (Some c) d n h k =
+    let b = k.5 in
+    let a : m ≡ left_with (bound_moved k.2 k.3) k.1 = left_same c.left m (Ok m) d refl ∙ ap (λ (z : KeptParts). z.left) b in
     let form : SameForm k.0 w = record { unit = k.4.unit; form = k.4.form; counts = n ∙ ap (λ (z : KeptParts). z.begun) b } in
     both_at (ap (λ (l : Left Ident). form_parts (counted v.known) (expand (counted v.known) turns) [] fs (Ok l) v.state) a) (λ j. put_parts w fs (Ok (a j)) (b j))
     (rest_from k.0 w v same turns fs k.2 k.3 k.1 form k.4 (subst (LeftBegins v) a h))

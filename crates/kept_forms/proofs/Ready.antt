@@ -53,9 +53,9 @@ distinct_left (r ∷ rs) (x ∷ xs) m d = (not_left r.form rs xs m.1 (subst (λ 
 begun_at : (v : Around) (turns : ℕ) (x : FormOrKept) → FormFits x.kept → BegunAt (counts_at v.state.form (goes_through v turns x.tree x.kept).1) (rest_kept v x.kept)
 begun_at v turns x h = go x.kept h
   where
-    rest : (k : KeptForm) (o : Option KeptParts) → RestFits k.aside.moment o → BegunAt (counts_at v.state.form (goes_through v turns x.tree (Some k)).1) (rest_kept v (Some (record { aside = k.aside; parts = o })))
+    rest : (k : KeptForm) (o : Option KeptParts) → RestFits k.aside o → BegunAt (counts_at v.state.form (goes_through v turns x.tree (Some k)).1) (rest_kept v (Some (record { aside = k.aside; parts = o })))
     rest k None h = tt
-    rest k (Some p) h = counts_here v k.aside.moment ∙ sym h
+    rest k (Some p) h = counts_here v k.aside.moment ∙ sym h.0
 
     go : (o : Option KeptForm) → FormFits o → BegunAt (counts_at v.state.form (goes_through v turns x.tree o).1) (rest_kept v o)
     go None h = tt

@@ -13,7 +13,7 @@ use Rattle.scheme_model.specs.Substitution.{definition_count}
 use Rattle.scheme_model.specs.ScopedExpansion.{FramedIdent, ScopedState}
 use Rattle.scheme_model.specs.CountedExpansion.{counted}
 use Rattle.scheme_model.specs.Questions.{Moment, Around, SameAnswer, Asking, asking}
-use Rattle.scheme_model.specs.FormsAlike.{bound_moved, left_with, start, no_questions, set_aside_asking, questions_of_pass, questions_of_left, bare_state}
+use Rattle.scheme_model.specs.FormsAlike.{bound_moved, left_with, start, no_questions, set_aside_asking, questions_of_pass, questions_of_left, bare_state, or_fault}
 use Rattle.form_laws.specs.Begins.{Each, FormBegins, LeftBegins, RestBegins}
 use Rattle.kept_forms.specs.KeptForms.{KeptAside, KeptItem, KeptParts, KeptForm, FormOrKept, around_form, goes_through, LeftOrKept, kept_moved, passes_keeping, comes_to, numbers_of}
 
@@ -31,11 +31,11 @@ abbrev pub kept_items : (Item Ident → Step Asking Part) → List (Item Ident) 
 kept_items f [] s = []
 kept_items f (i ∷ is) s = let q = f i s in record { part = q.0; moment = q.1.moment } ∷ unless_broken q.0 (kept_items f is q.1)
 
--- of what it set aside, where that is expanded in these surroundings
-abbrev pub kept_parts : Around → ℕ → Left Ident → KeptParts
-kept_parts w turns l =
+-- of what it set aside, where that is expanded in these surroundings, and the unit had so many definitions before the form
+abbrev pub kept_parts : Around → ℕ → (before : ℕ) → Left Ident → KeptParts
+kept_parts w turns n l =
     let s = meet_all (asking w) [] l.uses (no_questions w) in
-    record { begun = start w.state; met = s.moment; items = kept_items (item_part (expand (asking w) turns) (asking w) max_depth []) l.items s }
+    record { left = l; before = n; begun = start w.state; met = s.moment; items = kept_items (item_part (expand (asking w) turns) (asking w) max_depth []) l.items s }
 
 -- of the whole form
 abbrev pub kept_form : KeptAside → Option KeptParts → KeptForm
@@ -66,24 +66,22 @@ abbrev pub PassKept : Around → ℕ → Tree Ident → Option KeptForm → Type
 PassKept v turns t None = Unit {0}
 PassKept v turns t (Some k) = (w : Around) × PassStays w v turns t × (k.aside ≡ kept_aside w turns t)
 
--- it set aside the same there, but for the numbers of definitions
-abbrev pub RestKept : Around → ℕ → Result (Left Ident) Broken → Option KeptParts → Type 0
-RestKept v turns r None = Unit {0}
-RestKept v turns (Err e) (Some k) = Unit {0}
-RestKept v turns (Ok m) (Some k) =
-    (w : Around) × (l : Left Ident) × (from : ℕ) × (to : ℕ) × RestStays w v turns l × (m ≡ left_with (bound_moved from to) l) × (k ≡ kept_moved (bound_moved from to) (kept_parts w turns l))
+-- it had set aside the same there, but for the numbers of definitions
+abbrev pub RestKept : Around → ℕ → Option KeptParts → Type 0
+RestKept v turns None = Unit {0}
+RestKept v turns (Some k) = (w : Around) × (l : Left Ident) × (from : ℕ) × (to : ℕ) × RestStays w v turns l × (k ≡ kept_moved (bound_moved from to) (kept_parts w turns from l))
 
--- its turn came again where it had counted what it had when it was gone through
+-- where its turn came again it had counted what it had when it was gone through, and it had set aside what was expanded
 abbrev pub only_counted : Moment → Moment
 only_counted m = record m { table = []; macros = []; places = []; definitions = [] }
 
-abbrev pub RestFits : Moment → Option KeptParts → Type 0
-RestFits m None = Unit {0}
-RestFits m (Some k) = k.begun ≡ only_counted m
+abbrev pub RestFits : KeptAside → Option KeptParts → Type 0
+RestFits a None = Unit {0}
+RestFits a (Some k) = (k.begun ≡ only_counted a.moment) × (or_fault (left_with (bound_moved a.before k.before)) a.pass.left ≡ Ok k.left)
 
 abbrev pub FormFits : Option KeptForm → Type 0
 FormFits None = Unit {0}
-FormFits (Some k) = RestFits k.aside.moment k.parts
+FormFits (Some k) = RestFits k.aside k.parts
 
 -- ---- along the unit
 
@@ -101,7 +99,7 @@ PassesKept known turns fs (x ∷ xs) notes s =
 abbrev pub RestsKept : Known → ℕ → List ℕ → List LeftOrKept → ScopedState → Type 0
 RestsKept known turns fs [] s = Unit {0}
 RestsKept known turns fs (r ∷ rs) s =
-    let v = around_form known r.form [] s in RestKept v turns r.left r.kept × Onwards (λ p t. RestsKept known turns fs rs t) (comes_to v turns fs r.left r.kept)
+    let v = around_form known r.form [] s in RestKept v turns r.kept × Onwards (λ p t. RestsKept known turns fs rs t) (comes_to v turns fs r.left r.kept)
 
 abbrev pub UnitKept : Known → ℕ → List FormOrKept → ScopedState → Type 0
 UnitKept known turns xs s =

@@ -30,9 +30,11 @@ pub record KeptItem : Type 0 where
   pub part : Result Part Broken
   pub moment : Moment
 
--- of what it set aside: what the form had counted when its turn came again, the moment after its macro uses were met, and each item up
--- to the first fault
+-- of what it set aside, where that was expanded: what it was, how many definitions its unit had before the form by then, what the form had
+-- counted when its turn came again, the moment after its macro uses were met, and each item up to the first fault
 pub record KeptParts : Type 0 where
+  pub left : Left Ident
+  pub before : ℕ
   pub begun : Moment
   pub met : Moment
   pub items : List KeptItem
@@ -58,11 +60,11 @@ abbrev pub around_form : Known → ℕ → List (Note FramedIdent) → ScopedSta
 around_form known form notes s = record { state = (counted known).turn form s; known = known; notes = notes }
 
 -- the unit may have more or fewer definitions before the form by now
-abbrev pub moved_to : Around → KeptAside → Bound → Bound
-moved_to v k = bound_moved k.before (definition_count v.state.table v.state.unit)
+abbrev pub moved_to : Around → (before : ℕ) → Bound → Bound
+moved_to v n = bound_moved n (definition_count v.state.table v.state.unit)
 
 abbrev pub put_aside : Around → KeptAside → Pass Ident FramedIdent × ScopedState
-put_aside v k = (record { notes = k.pass.notes ++ v.notes; left = or_fault (left_with (moved_to v k)) k.pass.left }, again v k.moment)
+put_aside v k = (record { notes = k.pass.notes ++ v.notes; left = or_fault (left_with (moved_to v k.before)) k.pass.left }, again v k.moment)
 
 abbrev pub goes_through : Around → ℕ → Tree Ident → Option KeptForm → Pass Ident FramedIdent × ScopedState
 goes_through v turns t None = set_aside v turns t
@@ -83,11 +85,11 @@ abbrev pub item_moved : (Bound → Bound) → KeptItem → KeptItem
 item_moved f i = record { part = or_fault (part_with f) i.part; moment = i.moment }
 
 abbrev pub kept_moved : (Bound → Bound) → KeptParts → KeptParts
-kept_moved f k = record { begun = k.begun; met = k.met; items = map (item_moved f) k.items }
+kept_moved f k = record { left = left_with f k.left; before = k.before; begun = k.begun; met = k.met; items = map (item_moved f) k.items }
 
 abbrev pub rest_kept : Around → Option KeptForm → Option KeptParts
 rest_kept v None = None
-rest_kept v (Some k) = option_map (kept_moved (moved_to v k.aside)) k.parts
+rest_kept v (Some k) = option_map (λ c. kept_moved (moved_to v c.before) c) k.parts
 
 abbrev pub passes_keeping : Known → ℕ → List ℕ → List FormOrKept → List (Note FramedIdent) → Work ScopedState (List LeftOrKept)
 passes_keeping known turns fs [] notes s = going [] s

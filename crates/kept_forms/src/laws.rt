@@ -3,13 +3,14 @@ ghost use Rattle.std.specs.Prelude.{◌≡◌, ℕ, true, List, map, length, Opt
 ghost use Rattle.scheme_model.specs.Ident.{Ident as Identifier, Written};
 ghost use Rattle.scheme_model.specs.Trees.{Tree};
 ghost use Rattle.scheme_model.specs.Order.{Left};
+ghost use Rattle.scheme_model.specs.Substitution.{definition_count};
 ghost use Rattle.scheme_model.specs.Questions.{Around};
 ghost use Rattle.scheme_model.specs.FormsAlike.{set_aside, start};
 ghost use Rattle.form_laws.specs.Begins.{FormBegins, LeftBegins};
 ghost use Rattle.scheme_model.specs.Requirements.{Known};
 ghost use Rattle.scheme_model.specs.Program.{Document, known_in, units_of, prepare, program_of, Placed, Prepared, is_ready, enough_turns};
 ghost use Rattle.scheme_model.specs.ScopedProgram.{ScopedProgress, scoped_work, scoped_before, forms_over, scoped_unit_over, scoped_start_after};
-ghost use Rattle.kept_forms.specs.KeptForms.{KeptParts, FormOrKept, form_of, counts_at, unit_keeping};
+ghost use Rattle.kept_forms.specs.KeptForms.{KeptAside, KeptParts, FormOrKept, form_of, put_aside, counts_at, unit_keeping};
 ghost use Rattle.kept_forms.specs.Carried.{kept_aside, kept_parts, kept_form, no_counts, PassKept, RestKept, FormFits, UnitKept, UnitBegins, Onwards, SameWork};
 ghost use Rattle.kept_forms.specs.Worked.{unit_worked, uses_not_kept, UsesTold};
 ghost use Rattle.kept_forms.specs.KeptPrograms.{Keeping, kept_work, kept_program_of, ProgramKeeps, program_worked, program_not_kept, SameProgress};
@@ -55,10 +56,12 @@ pub fn kept_programs_are_programs()
 {}
 
 /// What a form comes to where it may begin may be kept from there: what it set aside and noted, and what that was expanded to, if its turn came
-/// again with what it had counted.
+/// again with what it had counted; so may the rest where the first part was kept already.
 pub fn forms_may_be_kept()
     ensures pass { (w : Around) (turns : ℕ) (t : Tree Identifier) (parts : Option KeptParts) → start w.state ≡ no_counts → FormBegins w t → PassKept w turns t (Some (kept_form (kept_aside w turns t) parts)) }
-    ensures rest { (w : Around) (turns : ℕ) (l : Left Identifier) → LeftBegins w l → RestKept w turns (Ok l) (Some (kept_parts w turns l)) }
-    ensures fits { (w v : Around) (turns : ℕ) (t : Tree Identifier) (l : Left Identifier) → FormBegins w t → start v.state ≡ counts_at w.state.form (set_aside w turns t).1 →
-        FormFits (Some (kept_form (kept_aside w turns t) (Some (kept_parts v turns l)))) }
+    ensures rest { (w : Around) (turns before : ℕ) (l : Left Identifier) → LeftBegins w l → RestKept w turns (Some (kept_parts w turns before l)) }
+    ensures fits { (w v : Around) (turns : ℕ) (t : Tree Identifier) (l : Left Identifier) → FormBegins w t → (set_aside w turns t).0.left ≡ Ok l → start v.state ≡ counts_at w.state.form (set_aside w turns t).1 →
+        FormFits (Some (kept_form (kept_aside w turns t) (Some (kept_parts v turns (definition_count w.state.table w.state.unit) l)))) }
+    ensures fits_again { (w v : Around) (turns : ℕ) (k : KeptAside) (l : Left Identifier) → (put_aside w k).0.left ≡ Ok l → start v.state ≡ counts_at w.state.form (put_aside w k).1 →
+        FormFits (Some (kept_form k (Some (kept_parts v turns (definition_count w.state.table w.state.unit) l)))) }
 {}
