@@ -1,0 +1,5 @@
+pub mod Renumbering
+pub mod Alike
+pub mod Paired
+pub mod Worked
+pub mod Carried
