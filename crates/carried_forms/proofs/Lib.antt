@@ -1,0 +1,2 @@
+pub mod ShownCarried  -- Carried forms and the work of an event in the notation of rows
+pub mod rows

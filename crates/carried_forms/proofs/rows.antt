@@ -1,0 +1,2 @@
+pub mod CarriedRows
+pub mod WithoutRows
