@@ -631,6 +631,8 @@ class Workspace:
             return
         if word == "lambda":
             self.procedure(unit, form, parts[0][1], parts[1:], scope)
+        elif word == "if" and len(parts) not in (2, 3):
+            raise Fault
         elif word in ("if", "begin"):
             for x in parts:
                 self.expression(unit, form, x, scope)

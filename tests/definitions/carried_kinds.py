@@ -1,6 +1,7 @@
 """The kind of rows of two programs, one after the other: which forms are carried to the second, and the work of the event between them."""
 import re
 
+import include_kinds
 import kinds
 import reader
 import terms
@@ -63,4 +64,38 @@ class Without(Carried):
         return f"without_rows {kind} {opened(row['before'])} {opened(row['after'])} ≡ ({told})", "refl"
 
 
-KINDS = [Carried(), Without()]
+class Paired(Carried):
+    """Documents that include texts before and after an event, and the units and forms that are paired."""
+
+    module = "PairedRows"
+    says = "Open documents that include texts before and after an event, and the units and forms that are paired, from outside."
+    unfolding = "encode_utf8"
+    head = """
+use Rattle.std.specs.Prelude.{◌≡◌, ℕ, Bool, true, false, List, [], ◌∷◌, Option, Some, None, codes, refl}
+use Rattle.std.specs.Char.{encode_utf8}
+use Rattle.scheme_model.specs.Kinds as k
+use Rattle.scheme_model.specs.Data as g
+use Rattle.carried_forms.proofs.ShownPairs.{Texts, pair_rows}
+
+abbrev p : ℕ → ℕ → ℕ → ℕ → g.Place
+p first last start end = record { first = first; last = last; start = start; end = end }
+
+abbrev t : List (List ℕ) → List (ℕ × List ℕ × ℕ) → List (Option (List g.Datum)) → Texts
+t uris meant read = record { uris = uris; meant = meant; read = read }
+"""
+
+    def fits(self, row):
+        return "pairs" in row
+
+    def texts(self, texts):
+        uris = sorted(texts, key=str.encode)
+        data, _ = kinds.document_terms({"texts": texts})
+        meant = terms.many(f"{uris.index(u)}, {include_kinds.string_of(s)}, {uris.index(to)}" for u, s, to in include_kinds.by_folder({"texts": texts}))
+        return f"(t ({terms.many(map(terms.utf8, uris))}) ({meant}) {data})"
+
+    def lemma(self, row):
+        told = terms.many(f"{u}, {v}, ({terms.many(f'{f}, {g}' for f, g in forms)})" for u, v, forms in row["pairs"])
+        return f"pair_rows {self.texts(row['before'])} {self.texts(row['after'])} ≡ ({told})", "refl"
+
+
+KINDS = [Carried(), Without(), Paired()]

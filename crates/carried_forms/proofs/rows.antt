@@ -1,2 +1,3 @@
 pub mod CarriedRows
 pub mod WithoutRows
+pub mod PairedRows
