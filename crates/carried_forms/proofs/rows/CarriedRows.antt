@@ -287,3 +287,31 @@ smallest_how_a_definition_ends = refl
 pub smallest_whether_a_definition_is_an_assignment : carried_rows (((codes "file:///a.scm"), Some (((g.list (p 0 23 0 66) (g.part (g.atom (p 1 1 1 6) (g.spelled (k.Name (codes "begin") false))) (g.part (g.list (p 2 17 7 52) (g.part (g.atom (p 3 3 8 21) (g.spelled (k.Name (codes "define-syntax") false))) (g.part (g.atom (p 4 4 22 23) (g.spelled (k.Name (codes "q") false))) (g.part (g.list (p 5 16 24 51) (g.part (g.atom (p 6 6 25 37) (g.spelled (k.Name (codes "syntax-rules") false))) (g.part (g.list (p 7 8 38 40) g.none) (g.part (g.list (p 9 15 41 50) (g.part (g.list (p 10 13 42 47) (g.part (g.atom (p 11 11 43 44) (g.spelled (k.Name (codes "_") false))) (g.part (g.atom (p 12 12 45 46) (g.spelled (k.Name (codes "a") false))) g.none))) (g.part (g.atom (p 14 14 48 49) (g.spelled (k.Numeral (codes "1")))) g.none))) g.none)))) g.none)))) (g.part (g.list (p 18 22 53 65) (g.part (g.atom (p 19 19 54 60) (g.spelled (k.Name (codes "define") false))) (g.part (g.atom (p 20 20 61 62) (g.spelled (k.Name (codes "x") false))) (g.part (g.atom (p 21 21 63 64) (g.spelled (k.Numeral (codes "1")))) g.none)))) g.none))))) ∷ ((g.list (p 24 28 67 79) (g.part (g.atom (p 25 25 68 74) (g.spelled (k.Name (codes "define") false))) (g.part (g.atom (p 26 26 75 76) (g.spelled (k.Name (codes "x") false))) (g.part (g.atom (p 27 27 77 78) (g.spelled (k.Numeral (codes "2")))) g.none))))) ∷ ((g.list (p 29 32 80 85) (g.part (g.atom (p 30 30 81 82) (g.spelled (k.Name (codes "q") false))) (g.part (g.atom (p 31 31 83 84) (g.spelled (k.Name (codes "x") false))) g.none)))) ∷ [])) ∷ []) (((codes "file:///a.scm"), Some (((g.list (p 0 19 0 56) (g.part (g.atom (p 1 1 1 14) (g.spelled (k.Name (codes "define-syntax") false))) (g.part (g.atom (p 2 2 15 16) (g.spelled (k.Name (codes "q") false))) (g.part (g.list (p 3 18 17 55) (g.part (g.atom (p 4 4 18 30) (g.spelled (k.Name (codes "syntax-rules") false))) (g.part (g.list (p 5 6 31 33) g.none) (g.part (g.list (p 7 17 34 54) (g.part (g.list (p 8 11 35 40) (g.part (g.atom (p 9 9 36 37) (g.spelled (k.Name (codes "_") false))) (g.part (g.atom (p 10 10 38 39) (g.spelled (k.Name (codes "a") false))) g.none))) (g.part (g.list (p 12 16 41 53) (g.part (g.atom (p 13 13 42 48) (g.spelled (k.Name (codes "define") false))) (g.part (g.atom (p 14 14 49 50) (g.spelled (k.Name (codes "a") false))) (g.part (g.atom (p 15 15 51 52) (g.spelled (k.Numeral (codes "1")))) g.none)))) g.none))) g.none)))) g.none))))) ∷ ((g.list (p 20 24 57 69) (g.part (g.atom (p 21 21 58 64) (g.spelled (k.Name (codes "define") false))) (g.part (g.atom (p 22 22 65 66) (g.spelled (k.Name (codes "x") false))) (g.part (g.atom (p 23 23 67 68) (g.spelled (k.Numeral (codes "2")))) g.none))))) ∷ ((g.list (p 25 28 70 75) (g.part (g.atom (p 26 26 71 72) (g.spelled (k.Name (codes "q") false))) (g.part (g.atom (p 27 27 73 74) (g.spelled (k.Name (codes "x") false))) g.none)))) ∷ [])) ∷ []) ≡ ([], 1)
 unfolding base_names standard_libraries prelude encode_utf8
 smallest_whether_a_definition_is_an_assignment = refl
+
+pub unit_gets_too_large : carried_rows (((codes "file:///a.scm"), Some (((g.list (p 0 39 0 84) (g.part (g.atom (p 1 1 1 14) (g.spelled (k.Name (codes "define-syntax") false))) (g.part (g.atom (p 2 2 15 16) (g.spelled (k.Name (codes "d") false))) (g.part (g.list (p 3 38 17 83) (g.part (g.atom (p 4 4 18 30) (g.spelled (k.Name (codes "syntax-rules") false))) (g.part (g.list (p 5 6 31 33) g.none) (g.part (g.list (p 7 18 34 54) (g.part (g.list (p 8 13 35 43) (g.part (g.atom (p 9 9 36 37) (g.spelled (k.Name (codes "_") false))) (g.part (g.list (p 10 11 38 40) g.none) (g.part (g.atom (p 12 12 41 42) (g.spelled (k.Name (codes "e") false))) g.none)))) (g.part (g.list (p 14 17 44 53) (g.part (g.atom (p 15 15 45 50) (g.spelled (k.Name (codes "quote") false))) (g.part (g.atom (p 16 16 51 52) (g.spelled (k.Name (codes "e") false))) g.none))) g.none))) (g.part (g.list (p 19 37 55 82) (g.part (g.list (p 20 28 56 69) (g.part (g.atom (p 21 21 57 58) (g.spelled (k.Name (codes "_") false))) (g.part (g.list (p 22 26 59 66) (g.part (g.atom (p 23 23 60 61) (g.spelled (k.Name (codes "n") false))) (g.tail (g.atom (p 25 25 64 65) (g.spelled (k.Name (codes "m") false)))))) (g.part (g.atom (p 27 27 67 68) (g.spelled (k.Name (codes "e") false))) g.none)))) (g.part (g.list (p 29 36 70 81) (g.part (g.atom (p 30 30 71 72) (g.spelled (k.Name (codes "d") false))) (g.part (g.atom (p 31 31 73 74) (g.spelled (k.Name (codes "m") false))) (g.part (g.list (p 32 35 75 80) (g.part (g.atom (p 33 33 76 77) (g.spelled (k.Name (codes "e") false))) (g.part (g.atom (p 34 34 78 79) (g.spelled (k.Name (codes "e") false))) g.none))) g.none)))) g.none))) g.none))))) g.none))))) ∷ ((g.list (p 40 61 85 124) (g.part (g.atom (p 41 41 86 87) (g.spelled (k.Name (codes "d") false))) (g.part (g.list (p 42 59 88 121) (g.part (g.atom (p 43 43 89 90) (g.spelled (k.Numeral (codes "1")))) (g.part (g.atom (p 44 44 91 92) (g.spelled (k.Numeral (codes "1")))) (g.part (g.atom (p 45 45 93 94) (g.spelled (k.Numeral (codes "1")))) (g.part (g.atom (p 46 46 95 96) (g.spelled (k.Numeral (codes "1")))) (g.part (g.atom (p 47 47 97 98) (g.spelled (k.Numeral (codes "1")))) (g.part (g.atom (p 48 48 99 100) (g.spelled (k.Numeral (codes "1")))) (g.part (g.atom (p 49 49 101 102) (g.spelled (k.Numeral (codes "1")))) (g.part (g.atom (p 50 50 103 104) (g.spelled (k.Numeral (codes "1")))) (g.part (g.atom (p 51 51 105 106) (g.spelled (k.Numeral (codes "1")))) (g.part (g.atom (p 52 52 107 108) (g.spelled (k.Numeral (codes "1")))) (g.part (g.atom (p 53 53 109 110) (g.spelled (k.Numeral (codes "1")))) (g.part (g.atom (p 54 54 111 112) (g.spelled (k.Numeral (codes "1")))) (g.part (g.atom (p 55 55 113 114) (g.spelled (k.Numeral (codes "1")))) (g.part (g.atom (p 56 56 115 116) (g.spelled (k.Numeral (codes "1")))) (g.part (g.atom (p 57 57 117 118) (g.spelled (k.Numeral (codes "1")))) (g.part (g.atom (p 58 58 119 120) (g.spelled (k.Numeral (codes "1")))) g.none))))))))))))))))) (g.part (g.atom (p 60 60 122 123) (g.spelled (k.Name (codes "x") false))) g.none))))) ∷ ((g.list (p 62 83 125 164) (g.part (g.atom (p 63 63 126 127) (g.spelled (k.Name (codes "d") false))) (g.part (g.list (p 64 81 128 161) (g.part (g.atom (p 65 65 129 130) (g.spelled (k.Numeral (codes "1")))) (g.part (g.atom (p 66 66 131 132) (g.spelled (k.Numeral (codes "1")))) (g.part (g.atom (p 67 67 133 134) (g.spelled (k.Numeral (codes "1")))) (g.part (g.atom (p 68 68 135 136) (g.spelled (k.Numeral (codes "1")))) (g.part (g.atom (p 69 69 137 138) (g.spelled (k.Numeral (codes "1")))) (g.part (g.atom (p 70 70 139 140) (g.spelled (k.Numeral (codes "1")))) (g.part (g.atom (p 71 71 141 142) (g.spelled (k.Numeral (codes "1")))) (g.part (g.atom (p 72 72 143 144) (g.spelled (k.Numeral (codes "1")))) (g.part (g.atom (p 73 73 145 146) (g.spelled (k.Numeral (codes "1")))) (g.part (g.atom (p 74 74 147 148) (g.spelled (k.Numeral (codes "1")))) (g.part (g.atom (p 75 75 149 150) (g.spelled (k.Numeral (codes "1")))) (g.part (g.atom (p 76 76 151 152) (g.spelled (k.Numeral (codes "1")))) (g.part (g.atom (p 77 77 153 154) (g.spelled (k.Numeral (codes "1")))) (g.part (g.atom (p 78 78 155 156) (g.spelled (k.Numeral (codes "1")))) (g.part (g.atom (p 79 79 157 158) (g.spelled (k.Numeral (codes "1")))) (g.part (g.atom (p 80 80 159 160) (g.spelled (k.Numeral (codes "1")))) g.none))))))))))))))))) (g.part (g.atom (p 82 82 162 163) (g.spelled (k.Name (codes "x") false))) g.none))))) ∷ ((g.list (p 84 105 165 204) (g.part (g.atom (p 85 85 166 167) (g.spelled (k.Name (codes "d") false))) (g.part (g.list (p 86 103 168 201) (g.part (g.atom (p 87 87 169 170) (g.spelled (k.Numeral (codes "1")))) (g.part (g.atom (p 88 88 171 172) (g.spelled (k.Numeral (codes "1")))) (g.part (g.atom (p 89 89 173 174) (g.spelled (k.Numeral (codes "1")))) (g.part (g.atom (p 90 90 175 176) (g.spelled (k.Numeral (codes "1")))) (g.part (g.atom (p 91 91 177 178) (g.spelled (k.Numeral (codes "1")))) (g.part (g.atom (p 92 92 179 180) (g.spelled (k.Numeral (codes "1")))) (g.part (g.atom (p 93 93 181 182) (g.spelled (k.Numeral (codes "1")))) (g.part (g.atom (p 94 94 183 184) (g.spelled (k.Numeral (codes "1")))) (g.part (g.atom (p 95 95 185 186) (g.spelled (k.Numeral (codes "1")))) (g.part (g.atom (p 96 96 187 188) (g.spelled (k.Numeral (codes "1")))) (g.part (g.atom (p 97 97 189 190) (g.spelled (k.Numeral (codes "1")))) (g.part (g.atom (p 98 98 191 192) (g.spelled (k.Numeral (codes "1")))) (g.part (g.atom (p 99 99 193 194) (g.spelled (k.Numeral (codes "1")))) (g.part (g.atom (p 100 100 195 196) (g.spelled (k.Numeral (codes "1")))) (g.part (g.atom (p 101 101 197 198) (g.spelled (k.Numeral (codes "1")))) (g.part (g.atom (p 102 102 199 200) (g.spelled (k.Numeral (codes "1")))) g.none))))))))))))))))) (g.part (g.atom (p 104 104 202 203) (g.spelled (k.Name (codes "x") false))) g.none))))) ∷ ((g.list (p 106 115 205 221) (g.part (g.atom (p 107 107 206 210) (g.spelled (k.Name (codes "list") false))) (g.part (g.list (p 108 114 211 220) (g.part (g.atom (p 109 109 212 213) (g.spelled (k.Name (codes "d") false))) (g.part (g.list (p 110 112 214 217) (g.part (g.atom (p 111 111 215 216) (g.spelled (k.Numeral (codes "1")))) g.none)) (g.part (g.atom (p 113 113 218 219) (g.spelled (k.Name (codes "x") false))) g.none)))) g.none)))) ∷ [])) ∷ []) (((codes "file:///a.scm"), Some (((g.list (p 0 39 0 84) (g.part (g.atom (p 1 1 1 14) (g.spelled (k.Name (codes "define-syntax") false))) (g.part (g.atom (p 2 2 15 16) (g.spelled (k.Name (codes "d") false))) (g.part (g.list (p 3 38 17 83) (g.part (g.atom (p 4 4 18 30) (g.spelled (k.Name (codes "syntax-rules") false))) (g.part (g.list (p 5 6 31 33) g.none) (g.part (g.list (p 7 18 34 54) (g.part (g.list (p 8 13 35 43) (g.part (g.atom (p 9 9 36 37) (g.spelled (k.Name (codes "_") false))) (g.part (g.list (p 10 11 38 40) g.none) (g.part (g.atom (p 12 12 41 42) (g.spelled (k.Name (codes "e") false))) g.none)))) (g.part (g.list (p 14 17 44 53) (g.part (g.atom (p 15 15 45 50) (g.spelled (k.Name (codes "quote") false))) (g.part (g.atom (p 16 16 51 52) (g.spelled (k.Name (codes "e") false))) g.none))) g.none))) (g.part (g.list (p 19 37 55 82) (g.part (g.list (p 20 28 56 69) (g.part (g.atom (p 21 21 57 58) (g.spelled (k.Name (codes "_") false))) (g.part (g.list (p 22 26 59 66) (g.part (g.atom (p 23 23 60 61) (g.spelled (k.Name (codes "n") false))) (g.tail (g.atom (p 25 25 64 65) (g.spelled (k.Name (codes "m") false)))))) (g.part (g.atom (p 27 27 67 68) (g.spelled (k.Name (codes "e") false))) g.none)))) (g.part (g.list (p 29 36 70 81) (g.part (g.atom (p 30 30 71 72) (g.spelled (k.Name (codes "d") false))) (g.part (g.atom (p 31 31 73 74) (g.spelled (k.Name (codes "m") false))) (g.part (g.list (p 32 35 75 80) (g.part (g.atom (p 33 33 76 77) (g.spelled (k.Name (codes "e") false))) (g.part (g.atom (p 34 34 78 79) (g.spelled (k.Name (codes "e") false))) g.none))) g.none)))) g.none))) g.none))))) g.none))))) ∷ ((g.list (p 40 61 85 124) (g.part (g.atom (p 41 41 86 87) (g.spelled (k.Name (codes "d") false))) (g.part (g.list (p 42 59 88 121) (g.part (g.atom (p 43 43 89 90) (g.spelled (k.Numeral (codes "1")))) (g.part (g.atom (p 44 44 91 92) (g.spelled (k.Numeral (codes "1")))) (g.part (g.atom (p 45 45 93 94) (g.spelled (k.Numeral (codes "1")))) (g.part (g.atom (p 46 46 95 96) (g.spelled (k.Numeral (codes "1")))) (g.part (g.atom (p 47 47 97 98) (g.spelled (k.Numeral (codes "1")))) (g.part (g.atom (p 48 48 99 100) (g.spelled (k.Numeral (codes "1")))) (g.part (g.atom (p 49 49 101 102) (g.spelled (k.Numeral (codes "1")))) (g.part (g.atom (p 50 50 103 104) (g.spelled (k.Numeral (codes "1")))) (g.part (g.atom (p 51 51 105 106) (g.spelled (k.Numeral (codes "1")))) (g.part (g.atom (p 52 52 107 108) (g.spelled (k.Numeral (codes "1")))) (g.part (g.atom (p 53 53 109 110) (g.spelled (k.Numeral (codes "1")))) (g.part (g.atom (p 54 54 111 112) (g.spelled (k.Numeral (codes "1")))) (g.part (g.atom (p 55 55 113 114) (g.spelled (k.Numeral (codes "1")))) (g.part (g.atom (p 56 56 115 116) (g.spelled (k.Numeral (codes "1")))) (g.part (g.atom (p 57 57 117 118) (g.spelled (k.Numeral (codes "1")))) (g.part (g.atom (p 58 58 119 120) (g.spelled (k.Numeral (codes "1")))) g.none))))))))))))))))) (g.part (g.atom (p 60 60 122 123) (g.spelled (k.Name (codes "x") false))) g.none))))) ∷ ((g.list (p 62 83 125 164) (g.part (g.atom (p 63 63 126 127) (g.spelled (k.Name (codes "d") false))) (g.part (g.list (p 64 81 128 161) (g.part (g.atom (p 65 65 129 130) (g.spelled (k.Numeral (codes "1")))) (g.part (g.atom (p 66 66 131 132) (g.spelled (k.Numeral (codes "1")))) (g.part (g.atom (p 67 67 133 134) (g.spelled (k.Numeral (codes "1")))) (g.part (g.atom (p 68 68 135 136) (g.spelled (k.Numeral (codes "1")))) (g.part (g.atom (p 69 69 137 138) (g.spelled (k.Numeral (codes "1")))) (g.part (g.atom (p 70 70 139 140) (g.spelled (k.Numeral (codes "1")))) (g.part (g.atom (p 71 71 141 142) (g.spelled (k.Numeral (codes "1")))) (g.part (g.atom (p 72 72 143 144) (g.spelled (k.Numeral (codes "1")))) (g.part (g.atom (p 73 73 145 146) (g.spelled (k.Numeral (codes "1")))) (g.part (g.atom (p 74 74 147 148) (g.spelled (k.Numeral (codes "1")))) (g.part (g.atom (p 75 75 149 150) (g.spelled (k.Numeral (codes "1")))) (g.part (g.atom (p 76 76 151 152) (g.spelled (k.Numeral (codes "1")))) (g.part (g.atom (p 77 77 153 154) (g.spelled (k.Numeral (codes "1")))) (g.part (g.atom (p 78 78 155 156) (g.spelled (k.Numeral (codes "1")))) (g.part (g.atom (p 79 79 157 158) (g.spelled (k.Numeral (codes "1")))) (g.part (g.atom (p 80 80 159 160) (g.spelled (k.Numeral (codes "1")))) g.none))))))))))))))))) (g.part (g.atom (p 82 82 162 163) (g.spelled (k.Name (codes "x") false))) g.none))))) ∷ ((g.list (p 84 105 165 204) (g.part (g.atom (p 85 85 166 167) (g.spelled (k.Name (codes "d") false))) (g.part (g.list (p 86 103 168 201) (g.part (g.atom (p 87 87 169 170) (g.spelled (k.Numeral (codes "1")))) (g.part (g.atom (p 88 88 171 172) (g.spelled (k.Numeral (codes "1")))) (g.part (g.atom (p 89 89 173 174) (g.spelled (k.Numeral (codes "1")))) (g.part (g.atom (p 90 90 175 176) (g.spelled (k.Numeral (codes "1")))) (g.part (g.atom (p 91 91 177 178) (g.spelled (k.Numeral (codes "1")))) (g.part (g.atom (p 92 92 179 180) (g.spelled (k.Numeral (codes "1")))) (g.part (g.atom (p 93 93 181 182) (g.spelled (k.Numeral (codes "1")))) (g.part (g.atom (p 94 94 183 184) (g.spelled (k.Numeral (codes "1")))) (g.part (g.atom (p 95 95 185 186) (g.spelled (k.Numeral (codes "1")))) (g.part (g.atom (p 96 96 187 188) (g.spelled (k.Numeral (codes "1")))) (g.part (g.atom (p 97 97 189 190) (g.spelled (k.Numeral (codes "1")))) (g.part (g.atom (p 98 98 191 192) (g.spelled (k.Numeral (codes "1")))) (g.part (g.atom (p 99 99 193 194) (g.spelled (k.Numeral (codes "1")))) (g.part (g.atom (p 100 100 195 196) (g.spelled (k.Numeral (codes "1")))) (g.part (g.atom (p 101 101 197 198) (g.spelled (k.Numeral (codes "1")))) (g.part (g.atom (p 102 102 199 200) (g.spelled (k.Numeral (codes "1")))) g.none))))))))))))))))) (g.part (g.atom (p 104 104 202 203) (g.spelled (k.Name (codes "x") false))) g.none))))) ∷ ((g.list (p 106 127 205 244) (g.part (g.atom (p 107 107 206 207) (g.spelled (k.Name (codes "d") false))) (g.part (g.list (p 108 125 208 241) (g.part (g.atom (p 109 109 209 210) (g.spelled (k.Numeral (codes "1")))) (g.part (g.atom (p 110 110 211 212) (g.spelled (k.Numeral (codes "1")))) (g.part (g.atom (p 111 111 213 214) (g.spelled (k.Numeral (codes "1")))) (g.part (g.atom (p 112 112 215 216) (g.spelled (k.Numeral (codes "1")))) (g.part (g.atom (p 113 113 217 218) (g.spelled (k.Numeral (codes "1")))) (g.part (g.atom (p 114 114 219 220) (g.spelled (k.Numeral (codes "1")))) (g.part (g.atom (p 115 115 221 222) (g.spelled (k.Numeral (codes "1")))) (g.part (g.atom (p 116 116 223 224) (g.spelled (k.Numeral (codes "1")))) (g.part (g.atom (p 117 117 225 226) (g.spelled (k.Numeral (codes "1")))) (g.part (g.atom (p 118 118 227 228) (g.spelled (k.Numeral (codes "1")))) (g.part (g.atom (p 119 119 229 230) (g.spelled (k.Numeral (codes "1")))) (g.part (g.atom (p 120 120 231 232) (g.spelled (k.Numeral (codes "1")))) (g.part (g.atom (p 121 121 233 234) (g.spelled (k.Numeral (codes "1")))) (g.part (g.atom (p 122 122 235 236) (g.spelled (k.Numeral (codes "1")))) (g.part (g.atom (p 123 123 237 238) (g.spelled (k.Numeral (codes "1")))) (g.part (g.atom (p 124 124 239 240) (g.spelled (k.Numeral (codes "1")))) g.none))))))))))))))))) (g.part (g.atom (p 126 126 242 243) (g.spelled (k.Name (codes "x") false))) g.none))))) ∷ ((g.list (p 128 137 245 261) (g.part (g.atom (p 129 129 246 250) (g.spelled (k.Name (codes "list") false))) (g.part (g.list (p 130 136 251 260) (g.part (g.atom (p 131 131 252 253) (g.spelled (k.Name (codes "d") false))) (g.part (g.list (p 132 134 254 257) (g.part (g.atom (p 133 133 255 256) (g.spelled (k.Numeral (codes "1")))) g.none)) (g.part (g.atom (p 135 135 258 259) (g.spelled (k.Name (codes "x") false))) g.none)))) g.none)))) ∷ [])) ∷ []) ≡ ([], 68)
+unfolding base_names standard_libraries prelude encode_utf8
+unit_gets_too_large = refl
+
+pub unit_was_too_large : carried_rows (((codes "file:///a.scm"), Some (((g.list (p 0 39 0 84) (g.part (g.atom (p 1 1 1 14) (g.spelled (k.Name (codes "define-syntax") false))) (g.part (g.atom (p 2 2 15 16) (g.spelled (k.Name (codes "d") false))) (g.part (g.list (p 3 38 17 83) (g.part (g.atom (p 4 4 18 30) (g.spelled (k.Name (codes "syntax-rules") false))) (g.part (g.list (p 5 6 31 33) g.none) (g.part (g.list (p 7 18 34 54) (g.part (g.list (p 8 13 35 43) (g.part (g.atom (p 9 9 36 37) (g.spelled (k.Name (codes "_") false))) (g.part (g.list (p 10 11 38 40) g.none) (g.part (g.atom (p 12 12 41 42) (g.spelled (k.Name (codes "e") false))) g.none)))) (g.part (g.list (p 14 17 44 53) (g.part (g.atom (p 15 15 45 50) (g.spelled (k.Name (codes "quote") false))) (g.part (g.atom (p 16 16 51 52) (g.spelled (k.Name (codes "e") false))) g.none))) g.none))) (g.part (g.list (p 19 37 55 82) (g.part (g.list (p 20 28 56 69) (g.part (g.atom (p 21 21 57 58) (g.spelled (k.Name (codes "_") false))) (g.part (g.list (p 22 26 59 66) (g.part (g.atom (p 23 23 60 61) (g.spelled (k.Name (codes "n") false))) (g.tail (g.atom (p 25 25 64 65) (g.spelled (k.Name (codes "m") false)))))) (g.part (g.atom (p 27 27 67 68) (g.spelled (k.Name (codes "e") false))) g.none)))) (g.part (g.list (p 29 36 70 81) (g.part (g.atom (p 30 30 71 72) (g.spelled (k.Name (codes "d") false))) (g.part (g.atom (p 31 31 73 74) (g.spelled (k.Name (codes "m") false))) (g.part (g.list (p 32 35 75 80) (g.part (g.atom (p 33 33 76 77) (g.spelled (k.Name (codes "e") false))) (g.part (g.atom (p 34 34 78 79) (g.spelled (k.Name (codes "e") false))) g.none))) g.none)))) g.none))) g.none))))) g.none))))) ∷ ((g.list (p 40 61 85 124) (g.part (g.atom (p 41 41 86 87) (g.spelled (k.Name (codes "d") false))) (g.part (g.list (p 42 59 88 121) (g.part (g.atom (p 43 43 89 90) (g.spelled (k.Numeral (codes "1")))) (g.part (g.atom (p 44 44 91 92) (g.spelled (k.Numeral (codes "1")))) (g.part (g.atom (p 45 45 93 94) (g.spelled (k.Numeral (codes "1")))) (g.part (g.atom (p 46 46 95 96) (g.spelled (k.Numeral (codes "1")))) (g.part (g.atom (p 47 47 97 98) (g.spelled (k.Numeral (codes "1")))) (g.part (g.atom (p 48 48 99 100) (g.spelled (k.Numeral (codes "1")))) (g.part (g.atom (p 49 49 101 102) (g.spelled (k.Numeral (codes "1")))) (g.part (g.atom (p 50 50 103 104) (g.spelled (k.Numeral (codes "1")))) (g.part (g.atom (p 51 51 105 106) (g.spelled (k.Numeral (codes "1")))) (g.part (g.atom (p 52 52 107 108) (g.spelled (k.Numeral (codes "1")))) (g.part (g.atom (p 53 53 109 110) (g.spelled (k.Numeral (codes "1")))) (g.part (g.atom (p 54 54 111 112) (g.spelled (k.Numeral (codes "1")))) (g.part (g.atom (p 55 55 113 114) (g.spelled (k.Numeral (codes "1")))) (g.part (g.atom (p 56 56 115 116) (g.spelled (k.Numeral (codes "1")))) (g.part (g.atom (p 57 57 117 118) (g.spelled (k.Numeral (codes "1")))) (g.part (g.atom (p 58 58 119 120) (g.spelled (k.Numeral (codes "1")))) g.none))))))))))))))))) (g.part (g.atom (p 60 60 122 123) (g.spelled (k.Name (codes "x") false))) g.none))))) ∷ ((g.list (p 62 83 125 164) (g.part (g.atom (p 63 63 126 127) (g.spelled (k.Name (codes "d") false))) (g.part (g.list (p 64 81 128 161) (g.part (g.atom (p 65 65 129 130) (g.spelled (k.Numeral (codes "1")))) (g.part (g.atom (p 66 66 131 132) (g.spelled (k.Numeral (codes "1")))) (g.part (g.atom (p 67 67 133 134) (g.spelled (k.Numeral (codes "1")))) (g.part (g.atom (p 68 68 135 136) (g.spelled (k.Numeral (codes "1")))) (g.part (g.atom (p 69 69 137 138) (g.spelled (k.Numeral (codes "1")))) (g.part (g.atom (p 70 70 139 140) (g.spelled (k.Numeral (codes "1")))) (g.part (g.atom (p 71 71 141 142) (g.spelled (k.Numeral (codes "1")))) (g.part (g.atom (p 72 72 143 144) (g.spelled (k.Numeral (codes "1")))) (g.part (g.atom (p 73 73 145 146) (g.spelled (k.Numeral (codes "1")))) (g.part (g.atom (p 74 74 147 148) (g.spelled (k.Numeral (codes "1")))) (g.part (g.atom (p 75 75 149 150) (g.spelled (k.Numeral (codes "1")))) (g.part (g.atom (p 76 76 151 152) (g.spelled (k.Numeral (codes "1")))) (g.part (g.atom (p 77 77 153 154) (g.spelled (k.Numeral (codes "1")))) (g.part (g.atom (p 78 78 155 156) (g.spelled (k.Numeral (codes "1")))) (g.part (g.atom (p 79 79 157 158) (g.spelled (k.Numeral (codes "1")))) (g.part (g.atom (p 80 80 159 160) (g.spelled (k.Numeral (codes "1")))) g.none))))))))))))))))) (g.part (g.atom (p 82 82 162 163) (g.spelled (k.Name (codes "x") false))) g.none))))) ∷ ((g.list (p 84 105 165 204) (g.part (g.atom (p 85 85 166 167) (g.spelled (k.Name (codes "d") false))) (g.part (g.list (p 86 103 168 201) (g.part (g.atom (p 87 87 169 170) (g.spelled (k.Numeral (codes "1")))) (g.part (g.atom (p 88 88 171 172) (g.spelled (k.Numeral (codes "1")))) (g.part (g.atom (p 89 89 173 174) (g.spelled (k.Numeral (codes "1")))) (g.part (g.atom (p 90 90 175 176) (g.spelled (k.Numeral (codes "1")))) (g.part (g.atom (p 91 91 177 178) (g.spelled (k.Numeral (codes "1")))) (g.part (g.atom (p 92 92 179 180) (g.spelled (k.Numeral (codes "1")))) (g.part (g.atom (p 93 93 181 182) (g.spelled (k.Numeral (codes "1")))) (g.part (g.atom (p 94 94 183 184) (g.spelled (k.Numeral (codes "1")))) (g.part (g.atom (p 95 95 185 186) (g.spelled (k.Numeral (codes "1")))) (g.part (g.atom (p 96 96 187 188) (g.spelled (k.Numeral (codes "1")))) (g.part (g.atom (p 97 97 189 190) (g.spelled (k.Numeral (codes "1")))) (g.part (g.atom (p 98 98 191 192) (g.spelled (k.Numeral (codes "1")))) (g.part (g.atom (p 99 99 193 194) (g.spelled (k.Numeral (codes "1")))) (g.part (g.atom (p 100 100 195 196) (g.spelled (k.Numeral (codes "1")))) (g.part (g.atom (p 101 101 197 198) (g.spelled (k.Numeral (codes "1")))) (g.part (g.atom (p 102 102 199 200) (g.spelled (k.Numeral (codes "1")))) g.none))))))))))))))))) (g.part (g.atom (p 104 104 202 203) (g.spelled (k.Name (codes "x") false))) g.none))))) ∷ ((g.list (p 106 127 205 244) (g.part (g.atom (p 107 107 206 207) (g.spelled (k.Name (codes "d") false))) (g.part (g.list (p 108 125 208 241) (g.part (g.atom (p 109 109 209 210) (g.spelled (k.Numeral (codes "1")))) (g.part (g.atom (p 110 110 211 212) (g.spelled (k.Numeral (codes "1")))) (g.part (g.atom (p 111 111 213 214) (g.spelled (k.Numeral (codes "1")))) (g.part (g.atom (p 112 112 215 216) (g.spelled (k.Numeral (codes "1")))) (g.part (g.atom (p 113 113 217 218) (g.spelled (k.Numeral (codes "1")))) (g.part (g.atom (p 114 114 219 220) (g.spelled (k.Numeral (codes "1")))) (g.part (g.atom (p 115 115 221 222) (g.spelled (k.Numeral (codes "1")))) (g.part (g.atom (p 116 116 223 224) (g.spelled (k.Numeral (codes "1")))) (g.part (g.atom (p 117 117 225 226) (g.spelled (k.Numeral (codes "1")))) (g.part (g.atom (p 118 118 227 228) (g.spelled (k.Numeral (codes "1")))) (g.part (g.atom (p 119 119 229 230) (g.spelled (k.Numeral (codes "1")))) (g.part (g.atom (p 120 120 231 232) (g.spelled (k.Numeral (codes "1")))) (g.part (g.atom (p 121 121 233 234) (g.spelled (k.Numeral (codes "1")))) (g.part (g.atom (p 122 122 235 236) (g.spelled (k.Numeral (codes "1")))) (g.part (g.atom (p 123 123 237 238) (g.spelled (k.Numeral (codes "1")))) (g.part (g.atom (p 124 124 239 240) (g.spelled (k.Numeral (codes "1")))) g.none))))))))))))))))) (g.part (g.atom (p 126 126 242 243) (g.spelled (k.Name (codes "x") false))) g.none))))) ∷ ((g.list (p 128 137 245 261) (g.part (g.atom (p 129 129 246 250) (g.spelled (k.Name (codes "list") false))) (g.part (g.list (p 130 136 251 260) (g.part (g.atom (p 131 131 252 253) (g.spelled (k.Name (codes "d") false))) (g.part (g.list (p 132 134 254 257) (g.part (g.atom (p 133 133 255 256) (g.spelled (k.Numeral (codes "1")))) g.none)) (g.part (g.atom (p 135 135 258 259) (g.spelled (k.Name (codes "x") false))) g.none)))) g.none)))) ∷ [])) ∷ []) (((codes "file:///a.scm"), Some (((g.list (p 0 39 0 84) (g.part (g.atom (p 1 1 1 14) (g.spelled (k.Name (codes "define-syntax") false))) (g.part (g.atom (p 2 2 15 16) (g.spelled (k.Name (codes "d") false))) (g.part (g.list (p 3 38 17 83) (g.part (g.atom (p 4 4 18 30) (g.spelled (k.Name (codes "syntax-rules") false))) (g.part (g.list (p 5 6 31 33) g.none) (g.part (g.list (p 7 18 34 54) (g.part (g.list (p 8 13 35 43) (g.part (g.atom (p 9 9 36 37) (g.spelled (k.Name (codes "_") false))) (g.part (g.list (p 10 11 38 40) g.none) (g.part (g.atom (p 12 12 41 42) (g.spelled (k.Name (codes "e") false))) g.none)))) (g.part (g.list (p 14 17 44 53) (g.part (g.atom (p 15 15 45 50) (g.spelled (k.Name (codes "quote") false))) (g.part (g.atom (p 16 16 51 52) (g.spelled (k.Name (codes "e") false))) g.none))) g.none))) (g.part (g.list (p 19 37 55 82) (g.part (g.list (p 20 28 56 69) (g.part (g.atom (p 21 21 57 58) (g.spelled (k.Name (codes "_") false))) (g.part (g.list (p 22 26 59 66) (g.part (g.atom (p 23 23 60 61) (g.spelled (k.Name (codes "n") false))) (g.tail (g.atom (p 25 25 64 65) (g.spelled (k.Name (codes "m") false)))))) (g.part (g.atom (p 27 27 67 68) (g.spelled (k.Name (codes "e") false))) g.none)))) (g.part (g.list (p 29 36 70 81) (g.part (g.atom (p 30 30 71 72) (g.spelled (k.Name (codes "d") false))) (g.part (g.atom (p 31 31 73 74) (g.spelled (k.Name (codes "m") false))) (g.part (g.list (p 32 35 75 80) (g.part (g.atom (p 33 33 76 77) (g.spelled (k.Name (codes "e") false))) (g.part (g.atom (p 34 34 78 79) (g.spelled (k.Name (codes "e") false))) g.none))) g.none)))) g.none))) g.none))))) g.none))))) ∷ ((g.list (p 40 61 85 124) (g.part (g.atom (p 41 41 86 87) (g.spelled (k.Name (codes "d") false))) (g.part (g.list (p 42 59 88 121) (g.part (g.atom (p 43 43 89 90) (g.spelled (k.Numeral (codes "1")))) (g.part (g.atom (p 44 44 91 92) (g.spelled (k.Numeral (codes "1")))) (g.part (g.atom (p 45 45 93 94) (g.spelled (k.Numeral (codes "1")))) (g.part (g.atom (p 46 46 95 96) (g.spelled (k.Numeral (codes "1")))) (g.part (g.atom (p 47 47 97 98) (g.spelled (k.Numeral (codes "1")))) (g.part (g.atom (p 48 48 99 100) (g.spelled (k.Numeral (codes "1")))) (g.part (g.atom (p 49 49 101 102) (g.spelled (k.Numeral (codes "1")))) (g.part (g.atom (p 50 50 103 104) (g.spelled (k.Numeral (codes "1")))) (g.part (g.atom (p 51 51 105 106) (g.spelled (k.Numeral (codes "1")))) (g.part (g.atom (p 52 52 107 108) (g.spelled (k.Numeral (codes "1")))) (g.part (g.atom (p 53 53 109 110) (g.spelled (k.Numeral (codes "1")))) (g.part (g.atom (p 54 54 111 112) (g.spelled (k.Numeral (codes "1")))) (g.part (g.atom (p 55 55 113 114) (g.spelled (k.Numeral (codes "1")))) (g.part (g.atom (p 56 56 115 116) (g.spelled (k.Numeral (codes "1")))) (g.part (g.atom (p 57 57 117 118) (g.spelled (k.Numeral (codes "1")))) (g.part (g.atom (p 58 58 119 120) (g.spelled (k.Numeral (codes "1")))) g.none))))))))))))))))) (g.part (g.atom (p 60 60 122 123) (g.spelled (k.Name (codes "x") false))) g.none))))) ∷ ((g.list (p 62 83 125 164) (g.part (g.atom (p 63 63 126 127) (g.spelled (k.Name (codes "d") false))) (g.part (g.list (p 64 81 128 161) (g.part (g.atom (p 65 65 129 130) (g.spelled (k.Numeral (codes "1")))) (g.part (g.atom (p 66 66 131 132) (g.spelled (k.Numeral (codes "1")))) (g.part (g.atom (p 67 67 133 134) (g.spelled (k.Numeral (codes "1")))) (g.part (g.atom (p 68 68 135 136) (g.spelled (k.Numeral (codes "1")))) (g.part (g.atom (p 69 69 137 138) (g.spelled (k.Numeral (codes "1")))) (g.part (g.atom (p 70 70 139 140) (g.spelled (k.Numeral (codes "1")))) (g.part (g.atom (p 71 71 141 142) (g.spelled (k.Numeral (codes "1")))) (g.part (g.atom (p 72 72 143 144) (g.spelled (k.Numeral (codes "1")))) (g.part (g.atom (p 73 73 145 146) (g.spelled (k.Numeral (codes "1")))) (g.part (g.atom (p 74 74 147 148) (g.spelled (k.Numeral (codes "1")))) (g.part (g.atom (p 75 75 149 150) (g.spelled (k.Numeral (codes "1")))) (g.part (g.atom (p 76 76 151 152) (g.spelled (k.Numeral (codes "1")))) (g.part (g.atom (p 77 77 153 154) (g.spelled (k.Numeral (codes "1")))) (g.part (g.atom (p 78 78 155 156) (g.spelled (k.Numeral (codes "1")))) (g.part (g.atom (p 79 79 157 158) (g.spelled (k.Numeral (codes "1")))) (g.part (g.atom (p 80 80 159 160) (g.spelled (k.Numeral (codes "1")))) g.none))))))))))))))))) (g.part (g.atom (p 82 82 162 163) (g.spelled (k.Name (codes "x") false))) g.none))))) ∷ ((g.list (p 84 105 165 204) (g.part (g.atom (p 85 85 166 167) (g.spelled (k.Name (codes "d") false))) (g.part (g.list (p 86 103 168 201) (g.part (g.atom (p 87 87 169 170) (g.spelled (k.Numeral (codes "1")))) (g.part (g.atom (p 88 88 171 172) (g.spelled (k.Numeral (codes "1")))) (g.part (g.atom (p 89 89 173 174) (g.spelled (k.Numeral (codes "1")))) (g.part (g.atom (p 90 90 175 176) (g.spelled (k.Numeral (codes "1")))) (g.part (g.atom (p 91 91 177 178) (g.spelled (k.Numeral (codes "1")))) (g.part (g.atom (p 92 92 179 180) (g.spelled (k.Numeral (codes "1")))) (g.part (g.atom (p 93 93 181 182) (g.spelled (k.Numeral (codes "1")))) (g.part (g.atom (p 94 94 183 184) (g.spelled (k.Numeral (codes "1")))) (g.part (g.atom (p 95 95 185 186) (g.spelled (k.Numeral (codes "1")))) (g.part (g.atom (p 96 96 187 188) (g.spelled (k.Numeral (codes "1")))) (g.part (g.atom (p 97 97 189 190) (g.spelled (k.Numeral (codes "1")))) (g.part (g.atom (p 98 98 191 192) (g.spelled (k.Numeral (codes "1")))) (g.part (g.atom (p 99 99 193 194) (g.spelled (k.Numeral (codes "1")))) (g.part (g.atom (p 100 100 195 196) (g.spelled (k.Numeral (codes "1")))) (g.part (g.atom (p 101 101 197 198) (g.spelled (k.Numeral (codes "1")))) (g.part (g.atom (p 102 102 199 200) (g.spelled (k.Numeral (codes "1")))) g.none))))))))))))))))) (g.part (g.atom (p 104 104 202 203) (g.spelled (k.Name (codes "x") false))) g.none))))) ∷ ((g.list (p 106 115 205 221) (g.part (g.atom (p 107 107 206 210) (g.spelled (k.Name (codes "list") false))) (g.part (g.list (p 108 114 211 220) (g.part (g.atom (p 109 109 212 213) (g.spelled (k.Name (codes "d") false))) (g.part (g.list (p 110 112 214 217) (g.part (g.atom (p 111 111 215 216) (g.spelled (k.Numeral (codes "1")))) g.none)) (g.part (g.atom (p 113 113 218 219) (g.spelled (k.Name (codes "x") false))) g.none)))) g.none)))) ∷ [])) ∷ []) ≡ ([], 53)
+unfolding base_names standard_libraries prelude encode_utf8
+unit_was_too_large = refl
+
+pub unit_is_pushed_behind_the_most : carried_rows (((codes "file:///a.sld"), Some (((g.list (p 0 2 0 16) (g.part (g.atom (p 1 1 1 15) (g.spelled (k.Name (codes "define-library") false))) g.none))) ∷ ((g.list (p 3 5 17 33) (g.part (g.atom (p 4 4 18 32) (g.spelled (k.Name (codes "define-library") false))) g.none))) ∷ ((g.list (p 6 8 34 50) (g.part (g.atom (p 7 7 35 49) (g.spelled (k.Name (codes "define-library") false))) g.none))) ∷ ((g.list (p 9 11 51 67) (g.part (g.atom (p 10 10 52 66) (g.spelled (k.Name (codes "define-library") false))) g.none))) ∷ ((g.list (p 12 14 68 84) (g.part (g.atom (p 13 13 69 83) (g.spelled (k.Name (codes "define-library") false))) g.none))) ∷ ((g.list (p 15 17 85 101) (g.part (g.atom (p 16 16 86 100) (g.spelled (k.Name (codes "define-library") false))) g.none))) ∷ ((g.list (p 18 20 102 118) (g.part (g.atom (p 19 19 103 117) (g.spelled (k.Name (codes "define-library") false))) g.none))) ∷ ((g.list (p 21 23 119 135) (g.part (g.atom (p 22 22 120 134) (g.spelled (k.Name (codes "define-library") false))) g.none))) ∷ ((g.list (p 24 26 136 152) (g.part (g.atom (p 25 25 137 151) (g.spelled (k.Name (codes "define-library") false))) g.none))) ∷ ((g.list (p 27 29 153 169) (g.part (g.atom (p 28 28 154 168) (g.spelled (k.Name (codes "define-library") false))) g.none))) ∷ ((g.list (p 30 32 170 186) (g.part (g.atom (p 31 31 171 185) (g.spelled (k.Name (codes "define-library") false))) g.none))) ∷ ((g.list (p 33 35 187 203) (g.part (g.atom (p 34 34 188 202) (g.spelled (k.Name (codes "define-library") false))) g.none))) ∷ ((g.list (p 36 38 204 220) (g.part (g.atom (p 37 37 205 219) (g.spelled (k.Name (codes "define-library") false))) g.none))) ∷ ((g.list (p 39 41 221 237) (g.part (g.atom (p 40 40 222 236) (g.spelled (k.Name (codes "define-library") false))) g.none))) ∷ ((g.list (p 42 44 238 254) (g.part (g.atom (p 43 43 239 253) (g.spelled (k.Name (codes "define-library") false))) g.none))) ∷ ((g.list (p 45 47 255 271) (g.part (g.atom (p 46 46 256 270) (g.spelled (k.Name (codes "define-library") false))) g.none))) ∷ ((g.list (p 48 50 272 288) (g.part (g.atom (p 49 49 273 287) (g.spelled (k.Name (codes "define-library") false))) g.none))) ∷ ((g.list (p 51 53 289 305) (g.part (g.atom (p 52 52 290 304) (g.spelled (k.Name (codes "define-library") false))) g.none))) ∷ ((g.list (p 54 56 306 322) (g.part (g.atom (p 55 55 307 321) (g.spelled (k.Name (codes "define-library") false))) g.none))) ∷ ((g.list (p 57 59 323 339) (g.part (g.atom (p 58 58 324 338) (g.spelled (k.Name (codes "define-library") false))) g.none))) ∷ ((g.list (p 60 62 340 356) (g.part (g.atom (p 61 61 341 355) (g.spelled (k.Name (codes "define-library") false))) g.none))) ∷ ((g.list (p 63 65 357 373) (g.part (g.atom (p 64 64 358 372) (g.spelled (k.Name (codes "define-library") false))) g.none))) ∷ ((g.list (p 66 68 374 390) (g.part (g.atom (p 67 67 375 389) (g.spelled (k.Name (codes "define-library") false))) g.none))) ∷ ((g.list (p 69 71 391 407) (g.part (g.atom (p 70 70 392 406) (g.spelled (k.Name (codes "define-library") false))) g.none))) ∷ ((g.list (p 72 74 408 424) (g.part (g.atom (p 73 73 409 423) (g.spelled (k.Name (codes "define-library") false))) g.none))) ∷ ((g.list (p 75 77 425 441) (g.part (g.atom (p 76 76 426 440) (g.spelled (k.Name (codes "define-library") false))) g.none))) ∷ ((g.list (p 78 80 442 458) (g.part (g.atom (p 79 79 443 457) (g.spelled (k.Name (codes "define-library") false))) g.none))) ∷ ((g.list (p 81 83 459 475) (g.part (g.atom (p 82 82 460 474) (g.spelled (k.Name (codes "define-library") false))) g.none))) ∷ ((g.list (p 84 86 476 492) (g.part (g.atom (p 85 85 477 491) (g.spelled (k.Name (codes "define-library") false))) g.none))) ∷ ((g.list (p 87 89 493 509) (g.part (g.atom (p 88 88 494 508) (g.spelled (k.Name (codes "define-library") false))) g.none))) ∷ ((g.list (p 90 92 510 526) (g.part (g.atom (p 91 91 511 525) (g.spelled (k.Name (codes "define-library") false))) g.none))) ∷ ((g.list (p 93 95 527 543) (g.part (g.atom (p 94 94 528 542) (g.spelled (k.Name (codes "define-library") false))) g.none))) ∷ ((g.list (p 96 98 544 560) (g.part (g.atom (p 97 97 545 559) (g.spelled (k.Name (codes "define-library") false))) g.none))) ∷ ((g.list (p 99 101 561 577) (g.part (g.atom (p 100 100 562 576) (g.spelled (k.Name (codes "define-library") false))) g.none))) ∷ ((g.list (p 102 104 578 594) (g.part (g.atom (p 103 103 579 593) (g.spelled (k.Name (codes "define-library") false))) g.none))) ∷ ((g.list (p 105 107 595 611) (g.part (g.atom (p 106 106 596 610) (g.spelled (k.Name (codes "define-library") false))) g.none))) ∷ ((g.list (p 108 110 612 628) (g.part (g.atom (p 109 109 613 627) (g.spelled (k.Name (codes "define-library") false))) g.none))) ∷ ((g.list (p 111 113 629 645) (g.part (g.atom (p 112 112 630 644) (g.spelled (k.Name (codes "define-library") false))) g.none))) ∷ ((g.list (p 114 116 646 662) (g.part (g.atom (p 115 115 647 661) (g.spelled (k.Name (codes "define-library") false))) g.none))) ∷ ((g.list (p 117 119 663 679) (g.part (g.atom (p 118 118 664 678) (g.spelled (k.Name (codes "define-library") false))) g.none))) ∷ ((g.list (p 120 122 680 696) (g.part (g.atom (p 121 121 681 695) (g.spelled (k.Name (codes "define-library") false))) g.none))) ∷ ((g.list (p 123 125 697 713) (g.part (g.atom (p 124 124 698 712) (g.spelled (k.Name (codes "define-library") false))) g.none))) ∷ ((g.list (p 126 128 714 730) (g.part (g.atom (p 127 127 715 729) (g.spelled (k.Name (codes "define-library") false))) g.none))) ∷ ((g.list (p 129 131 731 747) (g.part (g.atom (p 130 130 732 746) (g.spelled (k.Name (codes "define-library") false))) g.none))) ∷ ((g.list (p 132 134 748 764) (g.part (g.atom (p 133 133 749 763) (g.spelled (k.Name (codes "define-library") false))) g.none))) ∷ ((g.list (p 135 137 765 781) (g.part (g.atom (p 136 136 766 780) (g.spelled (k.Name (codes "define-library") false))) g.none))) ∷ ((g.list (p 138 140 782 798) (g.part (g.atom (p 139 139 783 797) (g.spelled (k.Name (codes "define-library") false))) g.none))) ∷ ((g.list (p 141 143 799 815) (g.part (g.atom (p 142 142 800 814) (g.spelled (k.Name (codes "define-library") false))) g.none))) ∷ ((g.list (p 144 146 816 832) (g.part (g.atom (p 145 145 817 831) (g.spelled (k.Name (codes "define-library") false))) g.none))) ∷ ((g.list (p 147 149 833 849) (g.part (g.atom (p 148 148 834 848) (g.spelled (k.Name (codes "define-library") false))) g.none))) ∷ ((g.list (p 150 152 850 866) (g.part (g.atom (p 151 151 851 865) (g.spelled (k.Name (codes "define-library") false))) g.none))) ∷ ((g.list (p 153 155 867 883) (g.part (g.atom (p 154 154 868 882) (g.spelled (k.Name (codes "define-library") false))) g.none))) ∷ ((g.list (p 156 158 884 900) (g.part (g.atom (p 157 157 885 899) (g.spelled (k.Name (codes "define-library") false))) g.none))) ∷ ((g.list (p 159 161 901 917) (g.part (g.atom (p 160 160 902 916) (g.spelled (k.Name (codes "define-library") false))) g.none))) ∷ ((g.list (p 162 164 918 934) (g.part (g.atom (p 163 163 919 933) (g.spelled (k.Name (codes "define-library") false))) g.none))) ∷ ((g.list (p 165 167 935 951) (g.part (g.atom (p 166 166 936 950) (g.spelled (k.Name (codes "define-library") false))) g.none))) ∷ ((g.list (p 168 170 952 968) (g.part (g.atom (p 169 169 953 967) (g.spelled (k.Name (codes "define-library") false))) g.none))) ∷ ((g.list (p 171 173 969 985) (g.part (g.atom (p 172 172 970 984) (g.spelled (k.Name (codes "define-library") false))) g.none))) ∷ ((g.list (p 174 176 986 1002) (g.part (g.atom (p 175 175 987 1001) (g.spelled (k.Name (codes "define-library") false))) g.none))) ∷ ((g.list (p 177 179 1003 1019) (g.part (g.atom (p 178 178 1004 1018) (g.spelled (k.Name (codes "define-library") false))) g.none))) ∷ ((g.list (p 180 182 1020 1036) (g.part (g.atom (p 181 181 1021 1035) (g.spelled (k.Name (codes "define-library") false))) g.none))) ∷ ((g.list (p 183 185 1037 1053) (g.part (g.atom (p 184 184 1038 1052) (g.spelled (k.Name (codes "define-library") false))) g.none))) ∷ ((g.list (p 186 188 1054 1070) (g.part (g.atom (p 187 187 1055 1069) (g.spelled (k.Name (codes "define-library") false))) g.none))) ∷ ((g.list (p 189 191 1071 1087) (g.part (g.atom (p 190 190 1072 1086) (g.spelled (k.Name (codes "define-library") false))) g.none))) ∷ ((g.list (p 192 194 1088 1104) (g.part (g.atom (p 193 193 1089 1103) (g.spelled (k.Name (codes "define-library") false))) g.none))) ∷ ((g.list (p 195 197 1105 1121) (g.part (g.atom (p 196 196 1106 1120) (g.spelled (k.Name (codes "define-library") false))) g.none))) ∷ ((g.list (p 198 200 1122 1138) (g.part (g.atom (p 199 199 1123 1137) (g.spelled (k.Name (codes "define-library") false))) g.none))) ∷ ((g.list (p 201 203 1139 1155) (g.part (g.atom (p 202 202 1140 1154) (g.spelled (k.Name (codes "define-library") false))) g.none))) ∷ ((g.list (p 204 206 1156 1172) (g.part (g.atom (p 205 205 1157 1171) (g.spelled (k.Name (codes "define-library") false))) g.none))) ∷ ((g.list (p 207 209 1173 1189) (g.part (g.atom (p 208 208 1174 1188) (g.spelled (k.Name (codes "define-library") false))) g.none))) ∷ ((g.list (p 210 212 1190 1206) (g.part (g.atom (p 211 211 1191 1205) (g.spelled (k.Name (codes "define-library") false))) g.none))) ∷ ((g.list (p 213 215 1207 1223) (g.part (g.atom (p 214 214 1208 1222) (g.spelled (k.Name (codes "define-library") false))) g.none))) ∷ ((g.list (p 216 218 1224 1240) (g.part (g.atom (p 217 217 1225 1239) (g.spelled (k.Name (codes "define-library") false))) g.none))) ∷ ((g.list (p 219 221 1241 1257) (g.part (g.atom (p 220 220 1242 1256) (g.spelled (k.Name (codes "define-library") false))) g.none))) ∷ ((g.list (p 222 224 1258 1274) (g.part (g.atom (p 223 223 1259 1273) (g.spelled (k.Name (codes "define-library") false))) g.none))) ∷ ((g.list (p 225 227 1275 1291) (g.part (g.atom (p 226 226 1276 1290) (g.spelled (k.Name (codes "define-library") false))) g.none))) ∷ ((g.list (p 228 230 1292 1308) (g.part (g.atom (p 229 229 1293 1307) (g.spelled (k.Name (codes "define-library") false))) g.none))) ∷ ((g.list (p 231 233 1309 1325) (g.part (g.atom (p 232 232 1310 1324) (g.spelled (k.Name (codes "define-library") false))) g.none))) ∷ ((g.list (p 234 236 1326 1342) (g.part (g.atom (p 235 235 1327 1341) (g.spelled (k.Name (codes "define-library") false))) g.none))) ∷ ((g.list (p 237 239 1343 1359) (g.part (g.atom (p 238 238 1344 1358) (g.spelled (k.Name (codes "define-library") false))) g.none))) ∷ ((g.list (p 240 242 1360 1376) (g.part (g.atom (p 241 241 1361 1375) (g.spelled (k.Name (codes "define-library") false))) g.none))) ∷ ((g.list (p 243 245 1377 1393) (g.part (g.atom (p 244 244 1378 1392) (g.spelled (k.Name (codes "define-library") false))) g.none))) ∷ ((g.list (p 246 248 1394 1410) (g.part (g.atom (p 247 247 1395 1409) (g.spelled (k.Name (codes "define-library") false))) g.none))) ∷ ((g.list (p 249 251 1411 1427) (g.part (g.atom (p 250 250 1412 1426) (g.spelled (k.Name (codes "define-library") false))) g.none))) ∷ ((g.list (p 252 254 1428 1444) (g.part (g.atom (p 253 253 1429 1443) (g.spelled (k.Name (codes "define-library") false))) g.none))) ∷ ((g.list (p 255 257 1445 1461) (g.part (g.atom (p 256 256 1446 1460) (g.spelled (k.Name (codes "define-library") false))) g.none))) ∷ ((g.list (p 258 260 1462 1478) (g.part (g.atom (p 259 259 1463 1477) (g.spelled (k.Name (codes "define-library") false))) g.none))) ∷ ((g.list (p 261 263 1479 1495) (g.part (g.atom (p 262 262 1480 1494) (g.spelled (k.Name (codes "define-library") false))) g.none))) ∷ ((g.list (p 264 266 1496 1512) (g.part (g.atom (p 265 265 1497 1511) (g.spelled (k.Name (codes "define-library") false))) g.none))) ∷ ((g.list (p 267 269 1513 1529) (g.part (g.atom (p 268 268 1514 1528) (g.spelled (k.Name (codes "define-library") false))) g.none))) ∷ ((g.list (p 270 272 1530 1546) (g.part (g.atom (p 271 271 1531 1545) (g.spelled (k.Name (codes "define-library") false))) g.none))) ∷ ((g.list (p 273 275 1547 1563) (g.part (g.atom (p 274 274 1548 1562) (g.spelled (k.Name (codes "define-library") false))) g.none))) ∷ ((g.list (p 276 278 1564 1580) (g.part (g.atom (p 277 277 1565 1579) (g.spelled (k.Name (codes "define-library") false))) g.none))) ∷ ((g.list (p 279 281 1581 1597) (g.part (g.atom (p 280 280 1582 1596) (g.spelled (k.Name (codes "define-library") false))) g.none))) ∷ ((g.list (p 282 284 1598 1614) (g.part (g.atom (p 283 283 1599 1613) (g.spelled (k.Name (codes "define-library") false))) g.none))) ∷ ((g.list (p 285 287 1615 1631) (g.part (g.atom (p 286 286 1616 1630) (g.spelled (k.Name (codes "define-library") false))) g.none))) ∷ ((g.list (p 288 290 1632 1648) (g.part (g.atom (p 289 289 1633 1647) (g.spelled (k.Name (codes "define-library") false))) g.none))) ∷ ((g.list (p 291 293 1649 1665) (g.part (g.atom (p 292 292 1650 1664) (g.spelled (k.Name (codes "define-library") false))) g.none))) ∷ ((g.list (p 294 296 1666 1682) (g.part (g.atom (p 295 295 1667 1681) (g.spelled (k.Name (codes "define-library") false))) g.none))) ∷ ((g.list (p 297 299 1683 1699) (g.part (g.atom (p 298 298 1684 1698) (g.spelled (k.Name (codes "define-library") false))) g.none))) ∷ ((g.list (p 300 302 1700 1716) (g.part (g.atom (p 301 301 1701 1715) (g.spelled (k.Name (codes "define-library") false))) g.none))) ∷ ((g.list (p 303 305 1717 1733) (g.part (g.atom (p 304 304 1718 1732) (g.spelled (k.Name (codes "define-library") false))) g.none))) ∷ ((g.list (p 306 308 1734 1750) (g.part (g.atom (p 307 307 1735 1749) (g.spelled (k.Name (codes "define-library") false))) g.none))) ∷ ((g.list (p 309 311 1751 1767) (g.part (g.atom (p 310 310 1752 1766) (g.spelled (k.Name (codes "define-library") false))) g.none))) ∷ ((g.list (p 312 314 1768 1784) (g.part (g.atom (p 313 313 1769 1783) (g.spelled (k.Name (codes "define-library") false))) g.none))) ∷ ((g.list (p 315 317 1785 1801) (g.part (g.atom (p 316 316 1786 1800) (g.spelled (k.Name (codes "define-library") false))) g.none))) ∷ ((g.list (p 318 320 1802 1818) (g.part (g.atom (p 319 319 1803 1817) (g.spelled (k.Name (codes "define-library") false))) g.none))) ∷ ((g.list (p 321 323 1819 1835) (g.part (g.atom (p 322 322 1820 1834) (g.spelled (k.Name (codes "define-library") false))) g.none))) ∷ ((g.list (p 324 326 1836 1852) (g.part (g.atom (p 325 325 1837 1851) (g.spelled (k.Name (codes "define-library") false))) g.none))) ∷ ((g.list (p 327 329 1853 1869) (g.part (g.atom (p 328 328 1854 1868) (g.spelled (k.Name (codes "define-library") false))) g.none))) ∷ ((g.list (p 330 332 1870 1886) (g.part (g.atom (p 331 331 1871 1885) (g.spelled (k.Name (codes "define-library") false))) g.none))) ∷ ((g.list (p 333 335 1887 1903) (g.part (g.atom (p 334 334 1888 1902) (g.spelled (k.Name (codes "define-library") false))) g.none))) ∷ ((g.list (p 336 338 1904 1920) (g.part (g.atom (p 337 337 1905 1919) (g.spelled (k.Name (codes "define-library") false))) g.none))) ∷ ((g.list (p 339 341 1921 1937) (g.part (g.atom (p 340 340 1922 1936) (g.spelled (k.Name (codes "define-library") false))) g.none))) ∷ ((g.list (p 342 344 1938 1954) (g.part (g.atom (p 343 343 1939 1953) (g.spelled (k.Name (codes "define-library") false))) g.none))) ∷ ((g.list (p 345 347 1955 1971) (g.part (g.atom (p 346 346 1956 1970) (g.spelled (k.Name (codes "define-library") false))) g.none))) ∷ ((g.list (p 348 350 1972 1988) (g.part (g.atom (p 349 349 1973 1987) (g.spelled (k.Name (codes "define-library") false))) g.none))) ∷ ((g.list (p 351 353 1989 2005) (g.part (g.atom (p 352 352 1990 2004) (g.spelled (k.Name (codes "define-library") false))) g.none))) ∷ ((g.list (p 354 356 2006 2022) (g.part (g.atom (p 355 355 2007 2021) (g.spelled (k.Name (codes "define-library") false))) g.none))) ∷ ((g.list (p 357 359 2023 2039) (g.part (g.atom (p 358 358 2024 2038) (g.spelled (k.Name (codes "define-library") false))) g.none))) ∷ ((g.list (p 360 362 2040 2056) (g.part (g.atom (p 361 361 2041 2055) (g.spelled (k.Name (codes "define-library") false))) g.none))) ∷ ((g.list (p 363 365 2057 2073) (g.part (g.atom (p 364 364 2058 2072) (g.spelled (k.Name (codes "define-library") false))) g.none))) ∷ ((g.list (p 366 368 2074 2090) (g.part (g.atom (p 367 367 2075 2089) (g.spelled (k.Name (codes "define-library") false))) g.none))) ∷ ((g.list (p 369 371 2091 2107) (g.part (g.atom (p 370 370 2092 2106) (g.spelled (k.Name (codes "define-library") false))) g.none))) ∷ ((g.list (p 372 374 2108 2124) (g.part (g.atom (p 373 373 2109 2123) (g.spelled (k.Name (codes "define-library") false))) g.none))) ∷ ((g.list (p 375 377 2125 2141) (g.part (g.atom (p 376 376 2126 2140) (g.spelled (k.Name (codes "define-library") false))) g.none))) ∷ ((g.list (p 378 380 2142 2158) (g.part (g.atom (p 379 379 2143 2157) (g.spelled (k.Name (codes "define-library") false))) g.none))) ∷ [])) ∷ ((codes "file:///m.scm"), Some (((g.list (p 0 15 0 45) (g.part (g.atom (p 1 1 1 14) (g.spelled (k.Name (codes "define-syntax") false))) (g.part (g.atom (p 2 2 15 16) (g.spelled (k.Name (codes "m") false))) (g.part (g.list (p 3 14 17 44) (g.part (g.atom (p 4 4 18 30) (g.spelled (k.Name (codes "syntax-rules") false))) (g.part (g.list (p 5 6 31 33) g.none) (g.part (g.list (p 7 13 34 43) (g.part (g.list (p 8 11 35 40) (g.part (g.atom (p 9 9 36 37) (g.spelled (k.Name (codes "_") false))) (g.part (g.atom (p 10 10 38 39) (g.spelled (k.Name (codes "a") false))) g.none))) (g.part (g.atom (p 12 12 41 42) (g.spelled (k.Name (codes "a") false))) g.none))) g.none)))) g.none))))) ∷ ((g.list (p 16 19 46 51) (g.part (g.atom (p 17 17 47 48) (g.spelled (k.Name (codes "m") false))) (g.part (g.atom (p 18 18 49 50) (g.spelled (k.Numeral (codes "1")))) g.none)))) ∷ [])) ∷ []) (((codes "file:///a.sld"), Some (((g.list (p 0 2 0 16) (g.part (g.atom (p 1 1 1 15) (g.spelled (k.Name (codes "define-library") false))) g.none))) ∷ ((g.list (p 3 5 17 33) (g.part (g.atom (p 4 4 18 32) (g.spelled (k.Name (codes "define-library") false))) g.none))) ∷ ((g.list (p 6 8 34 50) (g.part (g.atom (p 7 7 35 49) (g.spelled (k.Name (codes "define-library") false))) g.none))) ∷ ((g.list (p 9 11 51 67) (g.part (g.atom (p 10 10 52 66) (g.spelled (k.Name (codes "define-library") false))) g.none))) ∷ ((g.list (p 12 14 68 84) (g.part (g.atom (p 13 13 69 83) (g.spelled (k.Name (codes "define-library") false))) g.none))) ∷ ((g.list (p 15 17 85 101) (g.part (g.atom (p 16 16 86 100) (g.spelled (k.Name (codes "define-library") false))) g.none))) ∷ ((g.list (p 18 20 102 118) (g.part (g.atom (p 19 19 103 117) (g.spelled (k.Name (codes "define-library") false))) g.none))) ∷ ((g.list (p 21 23 119 135) (g.part (g.atom (p 22 22 120 134) (g.spelled (k.Name (codes "define-library") false))) g.none))) ∷ ((g.list (p 24 26 136 152) (g.part (g.atom (p 25 25 137 151) (g.spelled (k.Name (codes "define-library") false))) g.none))) ∷ ((g.list (p 27 29 153 169) (g.part (g.atom (p 28 28 154 168) (g.spelled (k.Name (codes "define-library") false))) g.none))) ∷ ((g.list (p 30 32 170 186) (g.part (g.atom (p 31 31 171 185) (g.spelled (k.Name (codes "define-library") false))) g.none))) ∷ ((g.list (p 33 35 187 203) (g.part (g.atom (p 34 34 188 202) (g.spelled (k.Name (codes "define-library") false))) g.none))) ∷ ((g.list (p 36 38 204 220) (g.part (g.atom (p 37 37 205 219) (g.spelled (k.Name (codes "define-library") false))) g.none))) ∷ ((g.list (p 39 41 221 237) (g.part (g.atom (p 40 40 222 236) (g.spelled (k.Name (codes "define-library") false))) g.none))) ∷ ((g.list (p 42 44 238 254) (g.part (g.atom (p 43 43 239 253) (g.spelled (k.Name (codes "define-library") false))) g.none))) ∷ ((g.list (p 45 47 255 271) (g.part (g.atom (p 46 46 256 270) (g.spelled (k.Name (codes "define-library") false))) g.none))) ∷ ((g.list (p 48 50 272 288) (g.part (g.atom (p 49 49 273 287) (g.spelled (k.Name (codes "define-library") false))) g.none))) ∷ ((g.list (p 51 53 289 305) (g.part (g.atom (p 52 52 290 304) (g.spelled (k.Name (codes "define-library") false))) g.none))) ∷ ((g.list (p 54 56 306 322) (g.part (g.atom (p 55 55 307 321) (g.spelled (k.Name (codes "define-library") false))) g.none))) ∷ ((g.list (p 57 59 323 339) (g.part (g.atom (p 58 58 324 338) (g.spelled (k.Name (codes "define-library") false))) g.none))) ∷ ((g.list (p 60 62 340 356) (g.part (g.atom (p 61 61 341 355) (g.spelled (k.Name (codes "define-library") false))) g.none))) ∷ ((g.list (p 63 65 357 373) (g.part (g.atom (p 64 64 358 372) (g.spelled (k.Name (codes "define-library") false))) g.none))) ∷ ((g.list (p 66 68 374 390) (g.part (g.atom (p 67 67 375 389) (g.spelled (k.Name (codes "define-library") false))) g.none))) ∷ ((g.list (p 69 71 391 407) (g.part (g.atom (p 70 70 392 406) (g.spelled (k.Name (codes "define-library") false))) g.none))) ∷ ((g.list (p 72 74 408 424) (g.part (g.atom (p 73 73 409 423) (g.spelled (k.Name (codes "define-library") false))) g.none))) ∷ ((g.list (p 75 77 425 441) (g.part (g.atom (p 76 76 426 440) (g.spelled (k.Name (codes "define-library") false))) g.none))) ∷ ((g.list (p 78 80 442 458) (g.part (g.atom (p 79 79 443 457) (g.spelled (k.Name (codes "define-library") false))) g.none))) ∷ ((g.list (p 81 83 459 475) (g.part (g.atom (p 82 82 460 474) (g.spelled (k.Name (codes "define-library") false))) g.none))) ∷ ((g.list (p 84 86 476 492) (g.part (g.atom (p 85 85 477 491) (g.spelled (k.Name (codes "define-library") false))) g.none))) ∷ ((g.list (p 87 89 493 509) (g.part (g.atom (p 88 88 494 508) (g.spelled (k.Name (codes "define-library") false))) g.none))) ∷ ((g.list (p 90 92 510 526) (g.part (g.atom (p 91 91 511 525) (g.spelled (k.Name (codes "define-library") false))) g.none))) ∷ ((g.list (p 93 95 527 543) (g.part (g.atom (p 94 94 528 542) (g.spelled (k.Name (codes "define-library") false))) g.none))) ∷ ((g.list (p 96 98 544 560) (g.part (g.atom (p 97 97 545 559) (g.spelled (k.Name (codes "define-library") false))) g.none))) ∷ ((g.list (p 99 101 561 577) (g.part (g.atom (p 100 100 562 576) (g.spelled (k.Name (codes "define-library") false))) g.none))) ∷ ((g.list (p 102 104 578 594) (g.part (g.atom (p 103 103 579 593) (g.spelled (k.Name (codes "define-library") false))) g.none))) ∷ ((g.list (p 105 107 595 611) (g.part (g.atom (p 106 106 596 610) (g.spelled (k.Name (codes "define-library") false))) g.none))) ∷ ((g.list (p 108 110 612 628) (g.part (g.atom (p 109 109 613 627) (g.spelled (k.Name (codes "define-library") false))) g.none))) ∷ ((g.list (p 111 113 629 645) (g.part (g.atom (p 112 112 630 644) (g.spelled (k.Name (codes "define-library") false))) g.none))) ∷ ((g.list (p 114 116 646 662) (g.part (g.atom (p 115 115 647 661) (g.spelled (k.Name (codes "define-library") false))) g.none))) ∷ ((g.list (p 117 119 663 679) (g.part (g.atom (p 118 118 664 678) (g.spelled (k.Name (codes "define-library") false))) g.none))) ∷ ((g.list (p 120 122 680 696) (g.part (g.atom (p 121 121 681 695) (g.spelled (k.Name (codes "define-library") false))) g.none))) ∷ ((g.list (p 123 125 697 713) (g.part (g.atom (p 124 124 698 712) (g.spelled (k.Name (codes "define-library") false))) g.none))) ∷ ((g.list (p 126 128 714 730) (g.part (g.atom (p 127 127 715 729) (g.spelled (k.Name (codes "define-library") false))) g.none))) ∷ ((g.list (p 129 131 731 747) (g.part (g.atom (p 130 130 732 746) (g.spelled (k.Name (codes "define-library") false))) g.none))) ∷ ((g.list (p 132 134 748 764) (g.part (g.atom (p 133 133 749 763) (g.spelled (k.Name (codes "define-library") false))) g.none))) ∷ ((g.list (p 135 137 765 781) (g.part (g.atom (p 136 136 766 780) (g.spelled (k.Name (codes "define-library") false))) g.none))) ∷ ((g.list (p 138 140 782 798) (g.part (g.atom (p 139 139 783 797) (g.spelled (k.Name (codes "define-library") false))) g.none))) ∷ ((g.list (p 141 143 799 815) (g.part (g.atom (p 142 142 800 814) (g.spelled (k.Name (codes "define-library") false))) g.none))) ∷ ((g.list (p 144 146 816 832) (g.part (g.atom (p 145 145 817 831) (g.spelled (k.Name (codes "define-library") false))) g.none))) ∷ ((g.list (p 147 149 833 849) (g.part (g.atom (p 148 148 834 848) (g.spelled (k.Name (codes "define-library") false))) g.none))) ∷ ((g.list (p 150 152 850 866) (g.part (g.atom (p 151 151 851 865) (g.spelled (k.Name (codes "define-library") false))) g.none))) ∷ ((g.list (p 153 155 867 883) (g.part (g.atom (p 154 154 868 882) (g.spelled (k.Name (codes "define-library") false))) g.none))) ∷ ((g.list (p 156 158 884 900) (g.part (g.atom (p 157 157 885 899) (g.spelled (k.Name (codes "define-library") false))) g.none))) ∷ ((g.list (p 159 161 901 917) (g.part (g.atom (p 160 160 902 916) (g.spelled (k.Name (codes "define-library") false))) g.none))) ∷ ((g.list (p 162 164 918 934) (g.part (g.atom (p 163 163 919 933) (g.spelled (k.Name (codes "define-library") false))) g.none))) ∷ ((g.list (p 165 167 935 951) (g.part (g.atom (p 166 166 936 950) (g.spelled (k.Name (codes "define-library") false))) g.none))) ∷ ((g.list (p 168 170 952 968) (g.part (g.atom (p 169 169 953 967) (g.spelled (k.Name (codes "define-library") false))) g.none))) ∷ ((g.list (p 171 173 969 985) (g.part (g.atom (p 172 172 970 984) (g.spelled (k.Name (codes "define-library") false))) g.none))) ∷ ((g.list (p 174 176 986 1002) (g.part (g.atom (p 175 175 987 1001) (g.spelled (k.Name (codes "define-library") false))) g.none))) ∷ ((g.list (p 177 179 1003 1019) (g.part (g.atom (p 178 178 1004 1018) (g.spelled (k.Name (codes "define-library") false))) g.none))) ∷ ((g.list (p 180 182 1020 1036) (g.part (g.atom (p 181 181 1021 1035) (g.spelled (k.Name (codes "define-library") false))) g.none))) ∷ ((g.list (p 183 185 1037 1053) (g.part (g.atom (p 184 184 1038 1052) (g.spelled (k.Name (codes "define-library") false))) g.none))) ∷ ((g.list (p 186 188 1054 1070) (g.part (g.atom (p 187 187 1055 1069) (g.spelled (k.Name (codes "define-library") false))) g.none))) ∷ ((g.list (p 189 191 1071 1087) (g.part (g.atom (p 190 190 1072 1086) (g.spelled (k.Name (codes "define-library") false))) g.none))) ∷ ((g.list (p 192 194 1088 1104) (g.part (g.atom (p 193 193 1089 1103) (g.spelled (k.Name (codes "define-library") false))) g.none))) ∷ ((g.list (p 195 197 1105 1121) (g.part (g.atom (p 196 196 1106 1120) (g.spelled (k.Name (codes "define-library") false))) g.none))) ∷ ((g.list (p 198 200 1122 1138) (g.part (g.atom (p 199 199 1123 1137) (g.spelled (k.Name (codes "define-library") false))) g.none))) ∷ ((g.list (p 201 203 1139 1155) (g.part (g.atom (p 202 202 1140 1154) (g.spelled (k.Name (codes "define-library") false))) g.none))) ∷ ((g.list (p 204 206 1156 1172) (g.part (g.atom (p 205 205 1157 1171) (g.spelled (k.Name (codes "define-library") false))) g.none))) ∷ ((g.list (p 207 209 1173 1189) (g.part (g.atom (p 208 208 1174 1188) (g.spelled (k.Name (codes "define-library") false))) g.none))) ∷ ((g.list (p 210 212 1190 1206) (g.part (g.atom (p 211 211 1191 1205) (g.spelled (k.Name (codes "define-library") false))) g.none))) ∷ ((g.list (p 213 215 1207 1223) (g.part (g.atom (p 214 214 1208 1222) (g.spelled (k.Name (codes "define-library") false))) g.none))) ∷ ((g.list (p 216 218 1224 1240) (g.part (g.atom (p 217 217 1225 1239) (g.spelled (k.Name (codes "define-library") false))) g.none))) ∷ ((g.list (p 219 221 1241 1257) (g.part (g.atom (p 220 220 1242 1256) (g.spelled (k.Name (codes "define-library") false))) g.none))) ∷ ((g.list (p 222 224 1258 1274) (g.part (g.atom (p 223 223 1259 1273) (g.spelled (k.Name (codes "define-library") false))) g.none))) ∷ ((g.list (p 225 227 1275 1291) (g.part (g.atom (p 226 226 1276 1290) (g.spelled (k.Name (codes "define-library") false))) g.none))) ∷ ((g.list (p 228 230 1292 1308) (g.part (g.atom (p 229 229 1293 1307) (g.spelled (k.Name (codes "define-library") false))) g.none))) ∷ ((g.list (p 231 233 1309 1325) (g.part (g.atom (p 232 232 1310 1324) (g.spelled (k.Name (codes "define-library") false))) g.none))) ∷ ((g.list (p 234 236 1326 1342) (g.part (g.atom (p 235 235 1327 1341) (g.spelled (k.Name (codes "define-library") false))) g.none))) ∷ ((g.list (p 237 239 1343 1359) (g.part (g.atom (p 238 238 1344 1358) (g.spelled (k.Name (codes "define-library") false))) g.none))) ∷ ((g.list (p 240 242 1360 1376) (g.part (g.atom (p 241 241 1361 1375) (g.spelled (k.Name (codes "define-library") false))) g.none))) ∷ ((g.list (p 243 245 1377 1393) (g.part (g.atom (p 244 244 1378 1392) (g.spelled (k.Name (codes "define-library") false))) g.none))) ∷ ((g.list (p 246 248 1394 1410) (g.part (g.atom (p 247 247 1395 1409) (g.spelled (k.Name (codes "define-library") false))) g.none))) ∷ ((g.list (p 249 251 1411 1427) (g.part (g.atom (p 250 250 1412 1426) (g.spelled (k.Name (codes "define-library") false))) g.none))) ∷ ((g.list (p 252 254 1428 1444) (g.part (g.atom (p 253 253 1429 1443) (g.spelled (k.Name (codes "define-library") false))) g.none))) ∷ ((g.list (p 255 257 1445 1461) (g.part (g.atom (p 256 256 1446 1460) (g.spelled (k.Name (codes "define-library") false))) g.none))) ∷ ((g.list (p 258 260 1462 1478) (g.part (g.atom (p 259 259 1463 1477) (g.spelled (k.Name (codes "define-library") false))) g.none))) ∷ ((g.list (p 261 263 1479 1495) (g.part (g.atom (p 262 262 1480 1494) (g.spelled (k.Name (codes "define-library") false))) g.none))) ∷ ((g.list (p 264 266 1496 1512) (g.part (g.atom (p 265 265 1497 1511) (g.spelled (k.Name (codes "define-library") false))) g.none))) ∷ ((g.list (p 267 269 1513 1529) (g.part (g.atom (p 268 268 1514 1528) (g.spelled (k.Name (codes "define-library") false))) g.none))) ∷ ((g.list (p 270 272 1530 1546) (g.part (g.atom (p 271 271 1531 1545) (g.spelled (k.Name (codes "define-library") false))) g.none))) ∷ ((g.list (p 273 275 1547 1563) (g.part (g.atom (p 274 274 1548 1562) (g.spelled (k.Name (codes "define-library") false))) g.none))) ∷ ((g.list (p 276 278 1564 1580) (g.part (g.atom (p 277 277 1565 1579) (g.spelled (k.Name (codes "define-library") false))) g.none))) ∷ ((g.list (p 279 281 1581 1597) (g.part (g.atom (p 280 280 1582 1596) (g.spelled (k.Name (codes "define-library") false))) g.none))) ∷ ((g.list (p 282 284 1598 1614) (g.part (g.atom (p 283 283 1599 1613) (g.spelled (k.Name (codes "define-library") false))) g.none))) ∷ ((g.list (p 285 287 1615 1631) (g.part (g.atom (p 286 286 1616 1630) (g.spelled (k.Name (codes "define-library") false))) g.none))) ∷ ((g.list (p 288 290 1632 1648) (g.part (g.atom (p 289 289 1633 1647) (g.spelled (k.Name (codes "define-library") false))) g.none))) ∷ ((g.list (p 291 293 1649 1665) (g.part (g.atom (p 292 292 1650 1664) (g.spelled (k.Name (codes "define-library") false))) g.none))) ∷ ((g.list (p 294 296 1666 1682) (g.part (g.atom (p 295 295 1667 1681) (g.spelled (k.Name (codes "define-library") false))) g.none))) ∷ ((g.list (p 297 299 1683 1699) (g.part (g.atom (p 298 298 1684 1698) (g.spelled (k.Name (codes "define-library") false))) g.none))) ∷ ((g.list (p 300 302 1700 1716) (g.part (g.atom (p 301 301 1701 1715) (g.spelled (k.Name (codes "define-library") false))) g.none))) ∷ ((g.list (p 303 305 1717 1733) (g.part (g.atom (p 304 304 1718 1732) (g.spelled (k.Name (codes "define-library") false))) g.none))) ∷ ((g.list (p 306 308 1734 1750) (g.part (g.atom (p 307 307 1735 1749) (g.spelled (k.Name (codes "define-library") false))) g.none))) ∷ ((g.list (p 309 311 1751 1767) (g.part (g.atom (p 310 310 1752 1766) (g.spelled (k.Name (codes "define-library") false))) g.none))) ∷ ((g.list (p 312 314 1768 1784) (g.part (g.atom (p 313 313 1769 1783) (g.spelled (k.Name (codes "define-library") false))) g.none))) ∷ ((g.list (p 315 317 1785 1801) (g.part (g.atom (p 316 316 1786 1800) (g.spelled (k.Name (codes "define-library") false))) g.none))) ∷ ((g.list (p 318 320 1802 1818) (g.part (g.atom (p 319 319 1803 1817) (g.spelled (k.Name (codes "define-library") false))) g.none))) ∷ ((g.list (p 321 323 1819 1835) (g.part (g.atom (p 322 322 1820 1834) (g.spelled (k.Name (codes "define-library") false))) g.none))) ∷ ((g.list (p 324 326 1836 1852) (g.part (g.atom (p 325 325 1837 1851) (g.spelled (k.Name (codes "define-library") false))) g.none))) ∷ ((g.list (p 327 329 1853 1869) (g.part (g.atom (p 328 328 1854 1868) (g.spelled (k.Name (codes "define-library") false))) g.none))) ∷ ((g.list (p 330 332 1870 1886) (g.part (g.atom (p 331 331 1871 1885) (g.spelled (k.Name (codes "define-library") false))) g.none))) ∷ ((g.list (p 333 335 1887 1903) (g.part (g.atom (p 334 334 1888 1902) (g.spelled (k.Name (codes "define-library") false))) g.none))) ∷ ((g.list (p 336 338 1904 1920) (g.part (g.atom (p 337 337 1905 1919) (g.spelled (k.Name (codes "define-library") false))) g.none))) ∷ ((g.list (p 339 341 1921 1937) (g.part (g.atom (p 340 340 1922 1936) (g.spelled (k.Name (codes "define-library") false))) g.none))) ∷ ((g.list (p 342 344 1938 1954) (g.part (g.atom (p 343 343 1939 1953) (g.spelled (k.Name (codes "define-library") false))) g.none))) ∷ ((g.list (p 345 347 1955 1971) (g.part (g.atom (p 346 346 1956 1970) (g.spelled (k.Name (codes "define-library") false))) g.none))) ∷ ((g.list (p 348 350 1972 1988) (g.part (g.atom (p 349 349 1973 1987) (g.spelled (k.Name (codes "define-library") false))) g.none))) ∷ ((g.list (p 351 353 1989 2005) (g.part (g.atom (p 352 352 1990 2004) (g.spelled (k.Name (codes "define-library") false))) g.none))) ∷ ((g.list (p 354 356 2006 2022) (g.part (g.atom (p 355 355 2007 2021) (g.spelled (k.Name (codes "define-library") false))) g.none))) ∷ ((g.list (p 357 359 2023 2039) (g.part (g.atom (p 358 358 2024 2038) (g.spelled (k.Name (codes "define-library") false))) g.none))) ∷ ((g.list (p 360 362 2040 2056) (g.part (g.atom (p 361 361 2041 2055) (g.spelled (k.Name (codes "define-library") false))) g.none))) ∷ ((g.list (p 363 365 2057 2073) (g.part (g.atom (p 364 364 2058 2072) (g.spelled (k.Name (codes "define-library") false))) g.none))) ∷ ((g.list (p 366 368 2074 2090) (g.part (g.atom (p 367 367 2075 2089) (g.spelled (k.Name (codes "define-library") false))) g.none))) ∷ ((g.list (p 369 371 2091 2107) (g.part (g.atom (p 370 370 2092 2106) (g.spelled (k.Name (codes "define-library") false))) g.none))) ∷ ((g.list (p 372 374 2108 2124) (g.part (g.atom (p 373 373 2109 2123) (g.spelled (k.Name (codes "define-library") false))) g.none))) ∷ ((g.list (p 375 377 2125 2141) (g.part (g.atom (p 376 376 2126 2140) (g.spelled (k.Name (codes "define-library") false))) g.none))) ∷ ((g.list (p 378 380 2142 2158) (g.part (g.atom (p 379 379 2143 2157) (g.spelled (k.Name (codes "define-library") false))) g.none))) ∷ ((g.list (p 381 383 2159 2175) (g.part (g.atom (p 382 382 2160 2174) (g.spelled (k.Name (codes "define-library") false))) g.none))) ∷ [])) ∷ ((codes "file:///m.scm"), Some (((g.list (p 0 15 0 45) (g.part (g.atom (p 1 1 1 14) (g.spelled (k.Name (codes "define-syntax") false))) (g.part (g.atom (p 2 2 15 16) (g.spelled (k.Name (codes "m") false))) (g.part (g.list (p 3 14 17 44) (g.part (g.atom (p 4 4 18 30) (g.spelled (k.Name (codes "syntax-rules") false))) (g.part (g.list (p 5 6 31 33) g.none) (g.part (g.list (p 7 13 34 43) (g.part (g.list (p 8 11 35 40) (g.part (g.atom (p 9 9 36 37) (g.spelled (k.Name (codes "_") false))) (g.part (g.atom (p 10 10 38 39) (g.spelled (k.Name (codes "a") false))) g.none))) (g.part (g.atom (p 12 12 41 42) (g.spelled (k.Name (codes "a") false))) g.none))) g.none)))) g.none))))) ∷ ((g.list (p 16 19 46 51) (g.part (g.atom (p 17 17 47 48) (g.spelled (k.Name (codes "m") false))) (g.part (g.atom (p 18 18 49 50) (g.spelled (k.Numeral (codes "1")))) g.none)))) ∷ [])) ∷ []) ≡ ([], 0)
+unfolding base_names standard_libraries prelude encode_utf8
+unit_is_pushed_behind_the_most = refl
+
+pub unit_was_behind_the_most : carried_rows (((codes "file:///a.sld"), Some (((g.list (p 0 2 0 16) (g.part (g.atom (p 1 1 1 15) (g.spelled (k.Name (codes "define-library") false))) g.none))) ∷ ((g.list (p 3 5 17 33) (g.part (g.atom (p 4 4 18 32) (g.spelled (k.Name (codes "define-library") false))) g.none))) ∷ ((g.list (p 6 8 34 50) (g.part (g.atom (p 7 7 35 49) (g.spelled (k.Name (codes "define-library") false))) g.none))) ∷ ((g.list (p 9 11 51 67) (g.part (g.atom (p 10 10 52 66) (g.spelled (k.Name (codes "define-library") false))) g.none))) ∷ ((g.list (p 12 14 68 84) (g.part (g.atom (p 13 13 69 83) (g.spelled (k.Name (codes "define-library") false))) g.none))) ∷ ((g.list (p 15 17 85 101) (g.part (g.atom (p 16 16 86 100) (g.spelled (k.Name (codes "define-library") false))) g.none))) ∷ ((g.list (p 18 20 102 118) (g.part (g.atom (p 19 19 103 117) (g.spelled (k.Name (codes "define-library") false))) g.none))) ∷ ((g.list (p 21 23 119 135) (g.part (g.atom (p 22 22 120 134) (g.spelled (k.Name (codes "define-library") false))) g.none))) ∷ ((g.list (p 24 26 136 152) (g.part (g.atom (p 25 25 137 151) (g.spelled (k.Name (codes "define-library") false))) g.none))) ∷ ((g.list (p 27 29 153 169) (g.part (g.atom (p 28 28 154 168) (g.spelled (k.Name (codes "define-library") false))) g.none))) ∷ ((g.list (p 30 32 170 186) (g.part (g.atom (p 31 31 171 185) (g.spelled (k.Name (codes "define-library") false))) g.none))) ∷ ((g.list (p 33 35 187 203) (g.part (g.atom (p 34 34 188 202) (g.spelled (k.Name (codes "define-library") false))) g.none))) ∷ ((g.list (p 36 38 204 220) (g.part (g.atom (p 37 37 205 219) (g.spelled (k.Name (codes "define-library") false))) g.none))) ∷ ((g.list (p 39 41 221 237) (g.part (g.atom (p 40 40 222 236) (g.spelled (k.Name (codes "define-library") false))) g.none))) ∷ ((g.list (p 42 44 238 254) (g.part (g.atom (p 43 43 239 253) (g.spelled (k.Name (codes "define-library") false))) g.none))) ∷ ((g.list (p 45 47 255 271) (g.part (g.atom (p 46 46 256 270) (g.spelled (k.Name (codes "define-library") false))) g.none))) ∷ ((g.list (p 48 50 272 288) (g.part (g.atom (p 49 49 273 287) (g.spelled (k.Name (codes "define-library") false))) g.none))) ∷ ((g.list (p 51 53 289 305) (g.part (g.atom (p 52 52 290 304) (g.spelled (k.Name (codes "define-library") false))) g.none))) ∷ ((g.list (p 54 56 306 322) (g.part (g.atom (p 55 55 307 321) (g.spelled (k.Name (codes "define-library") false))) g.none))) ∷ ((g.list (p 57 59 323 339) (g.part (g.atom (p 58 58 324 338) (g.spelled (k.Name (codes "define-library") false))) g.none))) ∷ ((g.list (p 60 62 340 356) (g.part (g.atom (p 61 61 341 355) (g.spelled (k.Name (codes "define-library") false))) g.none))) ∷ ((g.list (p 63 65 357 373) (g.part (g.atom (p 64 64 358 372) (g.spelled (k.Name (codes "define-library") false))) g.none))) ∷ ((g.list (p 66 68 374 390) (g.part (g.atom (p 67 67 375 389) (g.spelled (k.Name (codes "define-library") false))) g.none))) ∷ ((g.list (p 69 71 391 407) (g.part (g.atom (p 70 70 392 406) (g.spelled (k.Name (codes "define-library") false))) g.none))) ∷ ((g.list (p 72 74 408 424) (g.part (g.atom (p 73 73 409 423) (g.spelled (k.Name (codes "define-library") false))) g.none))) ∷ ((g.list (p 75 77 425 441) (g.part (g.atom (p 76 76 426 440) (g.spelled (k.Name (codes "define-library") false))) g.none))) ∷ ((g.list (p 78 80 442 458) (g.part (g.atom (p 79 79 443 457) (g.spelled (k.Name (codes "define-library") false))) g.none))) ∷ ((g.list (p 81 83 459 475) (g.part (g.atom (p 82 82 460 474) (g.spelled (k.Name (codes "define-library") false))) g.none))) ∷ ((g.list (p 84 86 476 492) (g.part (g.atom (p 85 85 477 491) (g.spelled (k.Name (codes "define-library") false))) g.none))) ∷ ((g.list (p 87 89 493 509) (g.part (g.atom (p 88 88 494 508) (g.spelled (k.Name (codes "define-library") false))) g.none))) ∷ ((g.list (p 90 92 510 526) (g.part (g.atom (p 91 91 511 525) (g.spelled (k.Name (codes "define-library") false))) g.none))) ∷ ((g.list (p 93 95 527 543) (g.part (g.atom (p 94 94 528 542) (g.spelled (k.Name (codes "define-library") false))) g.none))) ∷ ((g.list (p 96 98 544 560) (g.part (g.atom (p 97 97 545 559) (g.spelled (k.Name (codes "define-library") false))) g.none))) ∷ ((g.list (p 99 101 561 577) (g.part (g.atom (p 100 100 562 576) (g.spelled (k.Name (codes "define-library") false))) g.none))) ∷ ((g.list (p 102 104 578 594) (g.part (g.atom (p 103 103 579 593) (g.spelled (k.Name (codes "define-library") false))) g.none))) ∷ ((g.list (p 105 107 595 611) (g.part (g.atom (p 106 106 596 610) (g.spelled (k.Name (codes "define-library") false))) g.none))) ∷ ((g.list (p 108 110 612 628) (g.part (g.atom (p 109 109 613 627) (g.spelled (k.Name (codes "define-library") false))) g.none))) ∷ ((g.list (p 111 113 629 645) (g.part (g.atom (p 112 112 630 644) (g.spelled (k.Name (codes "define-library") false))) g.none))) ∷ ((g.list (p 114 116 646 662) (g.part (g.atom (p 115 115 647 661) (g.spelled (k.Name (codes "define-library") false))) g.none))) ∷ ((g.list (p 117 119 663 679) (g.part (g.atom (p 118 118 664 678) (g.spelled (k.Name (codes "define-library") false))) g.none))) ∷ ((g.list (p 120 122 680 696) (g.part (g.atom (p 121 121 681 695) (g.spelled (k.Name (codes "define-library") false))) g.none))) ∷ ((g.list (p 123 125 697 713) (g.part (g.atom (p 124 124 698 712) (g.spelled (k.Name (codes "define-library") false))) g.none))) ∷ ((g.list (p 126 128 714 730) (g.part (g.atom (p 127 127 715 729) (g.spelled (k.Name (codes "define-library") false))) g.none))) ∷ ((g.list (p 129 131 731 747) (g.part (g.atom (p 130 130 732 746) (g.spelled (k.Name (codes "define-library") false))) g.none))) ∷ ((g.list (p 132 134 748 764) (g.part (g.atom (p 133 133 749 763) (g.spelled (k.Name (codes "define-library") false))) g.none))) ∷ ((g.list (p 135 137 765 781) (g.part (g.atom (p 136 136 766 780) (g.spelled (k.Name (codes "define-library") false))) g.none))) ∷ ((g.list (p 138 140 782 798) (g.part (g.atom (p 139 139 783 797) (g.spelled (k.Name (codes "define-library") false))) g.none))) ∷ ((g.list (p 141 143 799 815) (g.part (g.atom (p 142 142 800 814) (g.spelled (k.Name (codes "define-library") false))) g.none))) ∷ ((g.list (p 144 146 816 832) (g.part (g.atom (p 145 145 817 831) (g.spelled (k.Name (codes "define-library") false))) g.none))) ∷ ((g.list (p 147 149 833 849) (g.part (g.atom (p 148 148 834 848) (g.spelled (k.Name (codes "define-library") false))) g.none))) ∷ ((g.list (p 150 152 850 866) (g.part (g.atom (p 151 151 851 865) (g.spelled (k.Name (codes "define-library") false))) g.none))) ∷ ((g.list (p 153 155 867 883) (g.part (g.atom (p 154 154 868 882) (g.spelled (k.Name (codes "define-library") false))) g.none))) ∷ ((g.list (p 156 158 884 900) (g.part (g.atom (p 157 157 885 899) (g.spelled (k.Name (codes "define-library") false))) g.none))) ∷ ((g.list (p 159 161 901 917) (g.part (g.atom (p 160 160 902 916) (g.spelled (k.Name (codes "define-library") false))) g.none))) ∷ ((g.list (p 162 164 918 934) (g.part (g.atom (p 163 163 919 933) (g.spelled (k.Name (codes "define-library") false))) g.none))) ∷ ((g.list (p 165 167 935 951) (g.part (g.atom (p 166 166 936 950) (g.spelled (k.Name (codes "define-library") false))) g.none))) ∷ ((g.list (p 168 170 952 968) (g.part (g.atom (p 169 169 953 967) (g.spelled (k.Name (codes "define-library") false))) g.none))) ∷ ((g.list (p 171 173 969 985) (g.part (g.atom (p 172 172 970 984) (g.spelled (k.Name (codes "define-library") false))) g.none))) ∷ ((g.list (p 174 176 986 1002) (g.part (g.atom (p 175 175 987 1001) (g.spelled (k.Name (codes "define-library") false))) g.none))) ∷ ((g.list (p 177 179 1003 1019) (g.part (g.atom (p 178 178 1004 1018) (g.spelled (k.Name (codes "define-library") false))) g.none))) ∷ ((g.list (p 180 182 1020 1036) (g.part (g.atom (p 181 181 1021 1035) (g.spelled (k.Name (codes "define-library") false))) g.none))) ∷ ((g.list (p 183 185 1037 1053) (g.part (g.atom (p 184 184 1038 1052) (g.spelled (k.Name (codes "define-library") false))) g.none))) ∷ ((g.list (p 186 188 1054 1070) (g.part (g.atom (p 187 187 1055 1069) (g.spelled (k.Name (codes "define-library") false))) g.none))) ∷ ((g.list (p 189 191 1071 1087) (g.part (g.atom (p 190 190 1072 1086) (g.spelled (k.Name (codes "define-library") false))) g.none))) ∷ ((g.list (p 192 194 1088 1104) (g.part (g.atom (p 193 193 1089 1103) (g.spelled (k.Name (codes "define-library") false))) g.none))) ∷ ((g.list (p 195 197 1105 1121) (g.part (g.atom (p 196 196 1106 1120) (g.spelled (k.Name (codes "define-library") false))) g.none))) ∷ ((g.list (p 198 200 1122 1138) (g.part (g.atom (p 199 199 1123 1137) (g.spelled (k.Name (codes "define-library") false))) g.none))) ∷ ((g.list (p 201 203 1139 1155) (g.part (g.atom (p 202 202 1140 1154) (g.spelled (k.Name (codes "define-library") false))) g.none))) ∷ ((g.list (p 204 206 1156 1172) (g.part (g.atom (p 205 205 1157 1171) (g.spelled (k.Name (codes "define-library") false))) g.none))) ∷ ((g.list (p 207 209 1173 1189) (g.part (g.atom (p 208 208 1174 1188) (g.spelled (k.Name (codes "define-library") false))) g.none))) ∷ ((g.list (p 210 212 1190 1206) (g.part (g.atom (p 211 211 1191 1205) (g.spelled (k.Name (codes "define-library") false))) g.none))) ∷ ((g.list (p 213 215 1207 1223) (g.part (g.atom (p 214 214 1208 1222) (g.spelled (k.Name (codes "define-library") false))) g.none))) ∷ ((g.list (p 216 218 1224 1240) (g.part (g.atom (p 217 217 1225 1239) (g.spelled (k.Name (codes "define-library") false))) g.none))) ∷ ((g.list (p 219 221 1241 1257) (g.part (g.atom (p 220 220 1242 1256) (g.spelled (k.Name (codes "define-library") false))) g.none))) ∷ ((g.list (p 222 224 1258 1274) (g.part (g.atom (p 223 223 1259 1273) (g.spelled (k.Name (codes "define-library") false))) g.none))) ∷ ((g.list (p 225 227 1275 1291) (g.part (g.atom (p 226 226 1276 1290) (g.spelled (k.Name (codes "define-library") false))) g.none))) ∷ ((g.list (p 228 230 1292 1308) (g.part (g.atom (p 229 229 1293 1307) (g.spelled (k.Name (codes "define-library") false))) g.none))) ∷ ((g.list (p 231 233 1309 1325) (g.part (g.atom (p 232 232 1310 1324) (g.spelled (k.Name (codes "define-library") false))) g.none))) ∷ ((g.list (p 234 236 1326 1342) (g.part (g.atom (p 235 235 1327 1341) (g.spelled (k.Name (codes "define-library") false))) g.none))) ∷ ((g.list (p 237 239 1343 1359) (g.part (g.atom (p 238 238 1344 1358) (g.spelled (k.Name (codes "define-library") false))) g.none))) ∷ ((g.list (p 240 242 1360 1376) (g.part (g.atom (p 241 241 1361 1375) (g.spelled (k.Name (codes "define-library") false))) g.none))) ∷ ((g.list (p 243 245 1377 1393) (g.part (g.atom (p 244 244 1378 1392) (g.spelled (k.Name (codes "define-library") false))) g.none))) ∷ ((g.list (p 246 248 1394 1410) (g.part (g.atom (p 247 247 1395 1409) (g.spelled (k.Name (codes "define-library") false))) g.none))) ∷ ((g.list (p 249 251 1411 1427) (g.part (g.atom (p 250 250 1412 1426) (g.spelled (k.Name (codes "define-library") false))) g.none))) ∷ ((g.list (p 252 254 1428 1444) (g.part (g.atom (p 253 253 1429 1443) (g.spelled (k.Name (codes "define-library") false))) g.none))) ∷ ((g.list (p 255 257 1445 1461) (g.part (g.atom (p 256 256 1446 1460) (g.spelled (k.Name (codes "define-library") false))) g.none))) ∷ ((g.list (p 258 260 1462 1478) (g.part (g.atom (p 259 259 1463 1477) (g.spelled (k.Name (codes "define-library") false))) g.none))) ∷ ((g.list (p 261 263 1479 1495) (g.part (g.atom (p 262 262 1480 1494) (g.spelled (k.Name (codes "define-library") false))) g.none))) ∷ ((g.list (p 264 266 1496 1512) (g.part (g.atom (p 265 265 1497 1511) (g.spelled (k.Name (codes "define-library") false))) g.none))) ∷ ((g.list (p 267 269 1513 1529) (g.part (g.atom (p 268 268 1514 1528) (g.spelled (k.Name (codes "define-library") false))) g.none))) ∷ ((g.list (p 270 272 1530 1546) (g.part (g.atom (p 271 271 1531 1545) (g.spelled (k.Name (codes "define-library") false))) g.none))) ∷ ((g.list (p 273 275 1547 1563) (g.part (g.atom (p 274 274 1548 1562) (g.spelled (k.Name (codes "define-library") false))) g.none))) ∷ ((g.list (p 276 278 1564 1580) (g.part (g.atom (p 277 277 1565 1579) (g.spelled (k.Name (codes "define-library") false))) g.none))) ∷ ((g.list (p 279 281 1581 1597) (g.part (g.atom (p 280 280 1582 1596) (g.spelled (k.Name (codes "define-library") false))) g.none))) ∷ ((g.list (p 282 284 1598 1614) (g.part (g.atom (p 283 283 1599 1613) (g.spelled (k.Name (codes "define-library") false))) g.none))) ∷ ((g.list (p 285 287 1615 1631) (g.part (g.atom (p 286 286 1616 1630) (g.spelled (k.Name (codes "define-library") false))) g.none))) ∷ ((g.list (p 288 290 1632 1648) (g.part (g.atom (p 289 289 1633 1647) (g.spelled (k.Name (codes "define-library") false))) g.none))) ∷ ((g.list (p 291 293 1649 1665) (g.part (g.atom (p 292 292 1650 1664) (g.spelled (k.Name (codes "define-library") false))) g.none))) ∷ ((g.list (p 294 296 1666 1682) (g.part (g.atom (p 295 295 1667 1681) (g.spelled (k.Name (codes "define-library") false))) g.none))) ∷ ((g.list (p 297 299 1683 1699) (g.part (g.atom (p 298 298 1684 1698) (g.spelled (k.Name (codes "define-library") false))) g.none))) ∷ ((g.list (p 300 302 1700 1716) (g.part (g.atom (p 301 301 1701 1715) (g.spelled (k.Name (codes "define-library") false))) g.none))) ∷ ((g.list (p 303 305 1717 1733) (g.part (g.atom (p 304 304 1718 1732) (g.spelled (k.Name (codes "define-library") false))) g.none))) ∷ ((g.list (p 306 308 1734 1750) (g.part (g.atom (p 307 307 1735 1749) (g.spelled (k.Name (codes "define-library") false))) g.none))) ∷ ((g.list (p 309 311 1751 1767) (g.part (g.atom (p 310 310 1752 1766) (g.spelled (k.Name (codes "define-library") false))) g.none))) ∷ ((g.list (p 312 314 1768 1784) (g.part (g.atom (p 313 313 1769 1783) (g.spelled (k.Name (codes "define-library") false))) g.none))) ∷ ((g.list (p 315 317 1785 1801) (g.part (g.atom (p 316 316 1786 1800) (g.spelled (k.Name (codes "define-library") false))) g.none))) ∷ ((g.list (p 318 320 1802 1818) (g.part (g.atom (p 319 319 1803 1817) (g.spelled (k.Name (codes "define-library") false))) g.none))) ∷ ((g.list (p 321 323 1819 1835) (g.part (g.atom (p 322 322 1820 1834) (g.spelled (k.Name (codes "define-library") false))) g.none))) ∷ ((g.list (p 324 326 1836 1852) (g.part (g.atom (p 325 325 1837 1851) (g.spelled (k.Name (codes "define-library") false))) g.none))) ∷ ((g.list (p 327 329 1853 1869) (g.part (g.atom (p 328 328 1854 1868) (g.spelled (k.Name (codes "define-library") false))) g.none))) ∷ ((g.list (p 330 332 1870 1886) (g.part (g.atom (p 331 331 1871 1885) (g.spelled (k.Name (codes "define-library") false))) g.none))) ∷ ((g.list (p 333 335 1887 1903) (g.part (g.atom (p 334 334 1888 1902) (g.spelled (k.Name (codes "define-library") false))) g.none))) ∷ ((g.list (p 336 338 1904 1920) (g.part (g.atom (p 337 337 1905 1919) (g.spelled (k.Name (codes "define-library") false))) g.none))) ∷ ((g.list (p 339 341 1921 1937) (g.part (g.atom (p 340 340 1922 1936) (g.spelled (k.Name (codes "define-library") false))) g.none))) ∷ ((g.list (p 342 344 1938 1954) (g.part (g.atom (p 343 343 1939 1953) (g.spelled (k.Name (codes "define-library") false))) g.none))) ∷ ((g.list (p 345 347 1955 1971) (g.part (g.atom (p 346 346 1956 1970) (g.spelled (k.Name (codes "define-library") false))) g.none))) ∷ ((g.list (p 348 350 1972 1988) (g.part (g.atom (p 349 349 1973 1987) (g.spelled (k.Name (codes "define-library") false))) g.none))) ∷ ((g.list (p 351 353 1989 2005) (g.part (g.atom (p 352 352 1990 2004) (g.spelled (k.Name (codes "define-library") false))) g.none))) ∷ ((g.list (p 354 356 2006 2022) (g.part (g.atom (p 355 355 2007 2021) (g.spelled (k.Name (codes "define-library") false))) g.none))) ∷ ((g.list (p 357 359 2023 2039) (g.part (g.atom (p 358 358 2024 2038) (g.spelled (k.Name (codes "define-library") false))) g.none))) ∷ ((g.list (p 360 362 2040 2056) (g.part (g.atom (p 361 361 2041 2055) (g.spelled (k.Name (codes "define-library") false))) g.none))) ∷ ((g.list (p 363 365 2057 2073) (g.part (g.atom (p 364 364 2058 2072) (g.spelled (k.Name (codes "define-library") false))) g.none))) ∷ ((g.list (p 366 368 2074 2090) (g.part (g.atom (p 367 367 2075 2089) (g.spelled (k.Name (codes "define-library") false))) g.none))) ∷ ((g.list (p 369 371 2091 2107) (g.part (g.atom (p 370 370 2092 2106) (g.spelled (k.Name (codes "define-library") false))) g.none))) ∷ ((g.list (p 372 374 2108 2124) (g.part (g.atom (p 373 373 2109 2123) (g.spelled (k.Name (codes "define-library") false))) g.none))) ∷ ((g.list (p 375 377 2125 2141) (g.part (g.atom (p 376 376 2126 2140) (g.spelled (k.Name (codes "define-library") false))) g.none))) ∷ ((g.list (p 378 380 2142 2158) (g.part (g.atom (p 379 379 2143 2157) (g.spelled (k.Name (codes "define-library") false))) g.none))) ∷ ((g.list (p 381 383 2159 2175) (g.part (g.atom (p 382 382 2160 2174) (g.spelled (k.Name (codes "define-library") false))) g.none))) ∷ [])) ∷ ((codes "file:///m.scm"), Some (((g.list (p 0 15 0 45) (g.part (g.atom (p 1 1 1 14) (g.spelled (k.Name (codes "define-syntax") false))) (g.part (g.atom (p 2 2 15 16) (g.spelled (k.Name (codes "m") false))) (g.part (g.list (p 3 14 17 44) (g.part (g.atom (p 4 4 18 30) (g.spelled (k.Name (codes "syntax-rules") false))) (g.part (g.list (p 5 6 31 33) g.none) (g.part (g.list (p 7 13 34 43) (g.part (g.list (p 8 11 35 40) (g.part (g.atom (p 9 9 36 37) (g.spelled (k.Name (codes "_") false))) (g.part (g.atom (p 10 10 38 39) (g.spelled (k.Name (codes "a") false))) g.none))) (g.part (g.atom (p 12 12 41 42) (g.spelled (k.Name (codes "a") false))) g.none))) g.none)))) g.none))))) ∷ ((g.list (p 16 19 46 51) (g.part (g.atom (p 17 17 47 48) (g.spelled (k.Name (codes "m") false))) (g.part (g.atom (p 18 18 49 50) (g.spelled (k.Numeral (codes "1")))) g.none)))) ∷ [])) ∷ []) (((codes "file:///a.sld"), Some (((g.list (p 0 2 0 16) (g.part (g.atom (p 1 1 1 15) (g.spelled (k.Name (codes "define-library") false))) g.none))) ∷ ((g.list (p 3 5 17 33) (g.part (g.atom (p 4 4 18 32) (g.spelled (k.Name (codes "define-library") false))) g.none))) ∷ ((g.list (p 6 8 34 50) (g.part (g.atom (p 7 7 35 49) (g.spelled (k.Name (codes "define-library") false))) g.none))) ∷ ((g.list (p 9 11 51 67) (g.part (g.atom (p 10 10 52 66) (g.spelled (k.Name (codes "define-library") false))) g.none))) ∷ ((g.list (p 12 14 68 84) (g.part (g.atom (p 13 13 69 83) (g.spelled (k.Name (codes "define-library") false))) g.none))) ∷ ((g.list (p 15 17 85 101) (g.part (g.atom (p 16 16 86 100) (g.spelled (k.Name (codes "define-library") false))) g.none))) ∷ ((g.list (p 18 20 102 118) (g.part (g.atom (p 19 19 103 117) (g.spelled (k.Name (codes "define-library") false))) g.none))) ∷ ((g.list (p 21 23 119 135) (g.part (g.atom (p 22 22 120 134) (g.spelled (k.Name (codes "define-library") false))) g.none))) ∷ ((g.list (p 24 26 136 152) (g.part (g.atom (p 25 25 137 151) (g.spelled (k.Name (codes "define-library") false))) g.none))) ∷ ((g.list (p 27 29 153 169) (g.part (g.atom (p 28 28 154 168) (g.spelled (k.Name (codes "define-library") false))) g.none))) ∷ ((g.list (p 30 32 170 186) (g.part (g.atom (p 31 31 171 185) (g.spelled (k.Name (codes "define-library") false))) g.none))) ∷ ((g.list (p 33 35 187 203) (g.part (g.atom (p 34 34 188 202) (g.spelled (k.Name (codes "define-library") false))) g.none))) ∷ ((g.list (p 36 38 204 220) (g.part (g.atom (p 37 37 205 219) (g.spelled (k.Name (codes "define-library") false))) g.none))) ∷ ((g.list (p 39 41 221 237) (g.part (g.atom (p 40 40 222 236) (g.spelled (k.Name (codes "define-library") false))) g.none))) ∷ ((g.list (p 42 44 238 254) (g.part (g.atom (p 43 43 239 253) (g.spelled (k.Name (codes "define-library") false))) g.none))) ∷ ((g.list (p 45 47 255 271) (g.part (g.atom (p 46 46 256 270) (g.spelled (k.Name (codes "define-library") false))) g.none))) ∷ ((g.list (p 48 50 272 288) (g.part (g.atom (p 49 49 273 287) (g.spelled (k.Name (codes "define-library") false))) g.none))) ∷ ((g.list (p 51 53 289 305) (g.part (g.atom (p 52 52 290 304) (g.spelled (k.Name (codes "define-library") false))) g.none))) ∷ ((g.list (p 54 56 306 322) (g.part (g.atom (p 55 55 307 321) (g.spelled (k.Name (codes "define-library") false))) g.none))) ∷ ((g.list (p 57 59 323 339) (g.part (g.atom (p 58 58 324 338) (g.spelled (k.Name (codes "define-library") false))) g.none))) ∷ ((g.list (p 60 62 340 356) (g.part (g.atom (p 61 61 341 355) (g.spelled (k.Name (codes "define-library") false))) g.none))) ∷ ((g.list (p 63 65 357 373) (g.part (g.atom (p 64 64 358 372) (g.spelled (k.Name (codes "define-library") false))) g.none))) ∷ ((g.list (p 66 68 374 390) (g.part (g.atom (p 67 67 375 389) (g.spelled (k.Name (codes "define-library") false))) g.none))) ∷ ((g.list (p 69 71 391 407) (g.part (g.atom (p 70 70 392 406) (g.spelled (k.Name (codes "define-library") false))) g.none))) ∷ ((g.list (p 72 74 408 424) (g.part (g.atom (p 73 73 409 423) (g.spelled (k.Name (codes "define-library") false))) g.none))) ∷ ((g.list (p 75 77 425 441) (g.part (g.atom (p 76 76 426 440) (g.spelled (k.Name (codes "define-library") false))) g.none))) ∷ ((g.list (p 78 80 442 458) (g.part (g.atom (p 79 79 443 457) (g.spelled (k.Name (codes "define-library") false))) g.none))) ∷ ((g.list (p 81 83 459 475) (g.part (g.atom (p 82 82 460 474) (g.spelled (k.Name (codes "define-library") false))) g.none))) ∷ ((g.list (p 84 86 476 492) (g.part (g.atom (p 85 85 477 491) (g.spelled (k.Name (codes "define-library") false))) g.none))) ∷ ((g.list (p 87 89 493 509) (g.part (g.atom (p 88 88 494 508) (g.spelled (k.Name (codes "define-library") false))) g.none))) ∷ ((g.list (p 90 92 510 526) (g.part (g.atom (p 91 91 511 525) (g.spelled (k.Name (codes "define-library") false))) g.none))) ∷ ((g.list (p 93 95 527 543) (g.part (g.atom (p 94 94 528 542) (g.spelled (k.Name (codes "define-library") false))) g.none))) ∷ ((g.list (p 96 98 544 560) (g.part (g.atom (p 97 97 545 559) (g.spelled (k.Name (codes "define-library") false))) g.none))) ∷ ((g.list (p 99 101 561 577) (g.part (g.atom (p 100 100 562 576) (g.spelled (k.Name (codes "define-library") false))) g.none))) ∷ ((g.list (p 102 104 578 594) (g.part (g.atom (p 103 103 579 593) (g.spelled (k.Name (codes "define-library") false))) g.none))) ∷ ((g.list (p 105 107 595 611) (g.part (g.atom (p 106 106 596 610) (g.spelled (k.Name (codes "define-library") false))) g.none))) ∷ ((g.list (p 108 110 612 628) (g.part (g.atom (p 109 109 613 627) (g.spelled (k.Name (codes "define-library") false))) g.none))) ∷ ((g.list (p 111 113 629 645) (g.part (g.atom (p 112 112 630 644) (g.spelled (k.Name (codes "define-library") false))) g.none))) ∷ ((g.list (p 114 116 646 662) (g.part (g.atom (p 115 115 647 661) (g.spelled (k.Name (codes "define-library") false))) g.none))) ∷ ((g.list (p 117 119 663 679) (g.part (g.atom (p 118 118 664 678) (g.spelled (k.Name (codes "define-library") false))) g.none))) ∷ ((g.list (p 120 122 680 696) (g.part (g.atom (p 121 121 681 695) (g.spelled (k.Name (codes "define-library") false))) g.none))) ∷ ((g.list (p 123 125 697 713) (g.part (g.atom (p 124 124 698 712) (g.spelled (k.Name (codes "define-library") false))) g.none))) ∷ ((g.list (p 126 128 714 730) (g.part (g.atom (p 127 127 715 729) (g.spelled (k.Name (codes "define-library") false))) g.none))) ∷ ((g.list (p 129 131 731 747) (g.part (g.atom (p 130 130 732 746) (g.spelled (k.Name (codes "define-library") false))) g.none))) ∷ ((g.list (p 132 134 748 764) (g.part (g.atom (p 133 133 749 763) (g.spelled (k.Name (codes "define-library") false))) g.none))) ∷ ((g.list (p 135 137 765 781) (g.part (g.atom (p 136 136 766 780) (g.spelled (k.Name (codes "define-library") false))) g.none))) ∷ ((g.list (p 138 140 782 798) (g.part (g.atom (p 139 139 783 797) (g.spelled (k.Name (codes "define-library") false))) g.none))) ∷ ((g.list (p 141 143 799 815) (g.part (g.atom (p 142 142 800 814) (g.spelled (k.Name (codes "define-library") false))) g.none))) ∷ ((g.list (p 144 146 816 832) (g.part (g.atom (p 145 145 817 831) (g.spelled (k.Name (codes "define-library") false))) g.none))) ∷ ((g.list (p 147 149 833 849) (g.part (g.atom (p 148 148 834 848) (g.spelled (k.Name (codes "define-library") false))) g.none))) ∷ ((g.list (p 150 152 850 866) (g.part (g.atom (p 151 151 851 865) (g.spelled (k.Name (codes "define-library") false))) g.none))) ∷ ((g.list (p 153 155 867 883) (g.part (g.atom (p 154 154 868 882) (g.spelled (k.Name (codes "define-library") false))) g.none))) ∷ ((g.list (p 156 158 884 900) (g.part (g.atom (p 157 157 885 899) (g.spelled (k.Name (codes "define-library") false))) g.none))) ∷ ((g.list (p 159 161 901 917) (g.part (g.atom (p 160 160 902 916) (g.spelled (k.Name (codes "define-library") false))) g.none))) ∷ ((g.list (p 162 164 918 934) (g.part (g.atom (p 163 163 919 933) (g.spelled (k.Name (codes "define-library") false))) g.none))) ∷ ((g.list (p 165 167 935 951) (g.part (g.atom (p 166 166 936 950) (g.spelled (k.Name (codes "define-library") false))) g.none))) ∷ ((g.list (p 168 170 952 968) (g.part (g.atom (p 169 169 953 967) (g.spelled (k.Name (codes "define-library") false))) g.none))) ∷ ((g.list (p 171 173 969 985) (g.part (g.atom (p 172 172 970 984) (g.spelled (k.Name (codes "define-library") false))) g.none))) ∷ ((g.list (p 174 176 986 1002) (g.part (g.atom (p 175 175 987 1001) (g.spelled (k.Name (codes "define-library") false))) g.none))) ∷ ((g.list (p 177 179 1003 1019) (g.part (g.atom (p 178 178 1004 1018) (g.spelled (k.Name (codes "define-library") false))) g.none))) ∷ ((g.list (p 180 182 1020 1036) (g.part (g.atom (p 181 181 1021 1035) (g.spelled (k.Name (codes "define-library") false))) g.none))) ∷ ((g.list (p 183 185 1037 1053) (g.part (g.atom (p 184 184 1038 1052) (g.spelled (k.Name (codes "define-library") false))) g.none))) ∷ ((g.list (p 186 188 1054 1070) (g.part (g.atom (p 187 187 1055 1069) (g.spelled (k.Name (codes "define-library") false))) g.none))) ∷ ((g.list (p 189 191 1071 1087) (g.part (g.atom (p 190 190 1072 1086) (g.spelled (k.Name (codes "define-library") false))) g.none))) ∷ ((g.list (p 192 194 1088 1104) (g.part (g.atom (p 193 193 1089 1103) (g.spelled (k.Name (codes "define-library") false))) g.none))) ∷ ((g.list (p 195 197 1105 1121) (g.part (g.atom (p 196 196 1106 1120) (g.spelled (k.Name (codes "define-library") false))) g.none))) ∷ ((g.list (p 198 200 1122 1138) (g.part (g.atom (p 199 199 1123 1137) (g.spelled (k.Name (codes "define-library") false))) g.none))) ∷ ((g.list (p 201 203 1139 1155) (g.part (g.atom (p 202 202 1140 1154) (g.spelled (k.Name (codes "define-library") false))) g.none))) ∷ ((g.list (p 204 206 1156 1172) (g.part (g.atom (p 205 205 1157 1171) (g.spelled (k.Name (codes "define-library") false))) g.none))) ∷ ((g.list (p 207 209 1173 1189) (g.part (g.atom (p 208 208 1174 1188) (g.spelled (k.Name (codes "define-library") false))) g.none))) ∷ ((g.list (p 210 212 1190 1206) (g.part (g.atom (p 211 211 1191 1205) (g.spelled (k.Name (codes "define-library") false))) g.none))) ∷ ((g.list (p 213 215 1207 1223) (g.part (g.atom (p 214 214 1208 1222) (g.spelled (k.Name (codes "define-library") false))) g.none))) ∷ ((g.list (p 216 218 1224 1240) (g.part (g.atom (p 217 217 1225 1239) (g.spelled (k.Name (codes "define-library") false))) g.none))) ∷ ((g.list (p 219 221 1241 1257) (g.part (g.atom (p 220 220 1242 1256) (g.spelled (k.Name (codes "define-library") false))) g.none))) ∷ ((g.list (p 222 224 1258 1274) (g.part (g.atom (p 223 223 1259 1273) (g.spelled (k.Name (codes "define-library") false))) g.none))) ∷ ((g.list (p 225 227 1275 1291) (g.part (g.atom (p 226 226 1276 1290) (g.spelled (k.Name (codes "define-library") false))) g.none))) ∷ ((g.list (p 228 230 1292 1308) (g.part (g.atom (p 229 229 1293 1307) (g.spelled (k.Name (codes "define-library") false))) g.none))) ∷ ((g.list (p 231 233 1309 1325) (g.part (g.atom (p 232 232 1310 1324) (g.spelled (k.Name (codes "define-library") false))) g.none))) ∷ ((g.list (p 234 236 1326 1342) (g.part (g.atom (p 235 235 1327 1341) (g.spelled (k.Name (codes "define-library") false))) g.none))) ∷ ((g.list (p 237 239 1343 1359) (g.part (g.atom (p 238 238 1344 1358) (g.spelled (k.Name (codes "define-library") false))) g.none))) ∷ ((g.list (p 240 242 1360 1376) (g.part (g.atom (p 241 241 1361 1375) (g.spelled (k.Name (codes "define-library") false))) g.none))) ∷ ((g.list (p 243 245 1377 1393) (g.part (g.atom (p 244 244 1378 1392) (g.spelled (k.Name (codes "define-library") false))) g.none))) ∷ ((g.list (p 246 248 1394 1410) (g.part (g.atom (p 247 247 1395 1409) (g.spelled (k.Name (codes "define-library") false))) g.none))) ∷ ((g.list (p 249 251 1411 1427) (g.part (g.atom (p 250 250 1412 1426) (g.spelled (k.Name (codes "define-library") false))) g.none))) ∷ ((g.list (p 252 254 1428 1444) (g.part (g.atom (p 253 253 1429 1443) (g.spelled (k.Name (codes "define-library") false))) g.none))) ∷ ((g.list (p 255 257 1445 1461) (g.part (g.atom (p 256 256 1446 1460) (g.spelled (k.Name (codes "define-library") false))) g.none))) ∷ ((g.list (p 258 260 1462 1478) (g.part (g.atom (p 259 259 1463 1477) (g.spelled (k.Name (codes "define-library") false))) g.none))) ∷ ((g.list (p 261 263 1479 1495) (g.part (g.atom (p 262 262 1480 1494) (g.spelled (k.Name (codes "define-library") false))) g.none))) ∷ ((g.list (p 264 266 1496 1512) (g.part (g.atom (p 265 265 1497 1511) (g.spelled (k.Name (codes "define-library") false))) g.none))) ∷ ((g.list (p 267 269 1513 1529) (g.part (g.atom (p 268 268 1514 1528) (g.spelled (k.Name (codes "define-library") false))) g.none))) ∷ ((g.list (p 270 272 1530 1546) (g.part (g.atom (p 271 271 1531 1545) (g.spelled (k.Name (codes "define-library") false))) g.none))) ∷ ((g.list (p 273 275 1547 1563) (g.part (g.atom (p 274 274 1548 1562) (g.spelled (k.Name (codes "define-library") false))) g.none))) ∷ ((g.list (p 276 278 1564 1580) (g.part (g.atom (p 277 277 1565 1579) (g.spelled (k.Name (codes "define-library") false))) g.none))) ∷ ((g.list (p 279 281 1581 1597) (g.part (g.atom (p 280 280 1582 1596) (g.spelled (k.Name (codes "define-library") false))) g.none))) ∷ ((g.list (p 282 284 1598 1614) (g.part (g.atom (p 283 283 1599 1613) (g.spelled (k.Name (codes "define-library") false))) g.none))) ∷ ((g.list (p 285 287 1615 1631) (g.part (g.atom (p 286 286 1616 1630) (g.spelled (k.Name (codes "define-library") false))) g.none))) ∷ ((g.list (p 288 290 1632 1648) (g.part (g.atom (p 289 289 1633 1647) (g.spelled (k.Name (codes "define-library") false))) g.none))) ∷ ((g.list (p 291 293 1649 1665) (g.part (g.atom (p 292 292 1650 1664) (g.spelled (k.Name (codes "define-library") false))) g.none))) ∷ ((g.list (p 294 296 1666 1682) (g.part (g.atom (p 295 295 1667 1681) (g.spelled (k.Name (codes "define-library") false))) g.none))) ∷ ((g.list (p 297 299 1683 1699) (g.part (g.atom (p 298 298 1684 1698) (g.spelled (k.Name (codes "define-library") false))) g.none))) ∷ ((g.list (p 300 302 1700 1716) (g.part (g.atom (p 301 301 1701 1715) (g.spelled (k.Name (codes "define-library") false))) g.none))) ∷ ((g.list (p 303 305 1717 1733) (g.part (g.atom (p 304 304 1718 1732) (g.spelled (k.Name (codes "define-library") false))) g.none))) ∷ ((g.list (p 306 308 1734 1750) (g.part (g.atom (p 307 307 1735 1749) (g.spelled (k.Name (codes "define-library") false))) g.none))) ∷ ((g.list (p 309 311 1751 1767) (g.part (g.atom (p 310 310 1752 1766) (g.spelled (k.Name (codes "define-library") false))) g.none))) ∷ ((g.list (p 312 314 1768 1784) (g.part (g.atom (p 313 313 1769 1783) (g.spelled (k.Name (codes "define-library") false))) g.none))) ∷ ((g.list (p 315 317 1785 1801) (g.part (g.atom (p 316 316 1786 1800) (g.spelled (k.Name (codes "define-library") false))) g.none))) ∷ ((g.list (p 318 320 1802 1818) (g.part (g.atom (p 319 319 1803 1817) (g.spelled (k.Name (codes "define-library") false))) g.none))) ∷ ((g.list (p 321 323 1819 1835) (g.part (g.atom (p 322 322 1820 1834) (g.spelled (k.Name (codes "define-library") false))) g.none))) ∷ ((g.list (p 324 326 1836 1852) (g.part (g.atom (p 325 325 1837 1851) (g.spelled (k.Name (codes "define-library") false))) g.none))) ∷ ((g.list (p 327 329 1853 1869) (g.part (g.atom (p 328 328 1854 1868) (g.spelled (k.Name (codes "define-library") false))) g.none))) ∷ ((g.list (p 330 332 1870 1886) (g.part (g.atom (p 331 331 1871 1885) (g.spelled (k.Name (codes "define-library") false))) g.none))) ∷ ((g.list (p 333 335 1887 1903) (g.part (g.atom (p 334 334 1888 1902) (g.spelled (k.Name (codes "define-library") false))) g.none))) ∷ ((g.list (p 336 338 1904 1920) (g.part (g.atom (p 337 337 1905 1919) (g.spelled (k.Name (codes "define-library") false))) g.none))) ∷ ((g.list (p 339 341 1921 1937) (g.part (g.atom (p 340 340 1922 1936) (g.spelled (k.Name (codes "define-library") false))) g.none))) ∷ ((g.list (p 342 344 1938 1954) (g.part (g.atom (p 343 343 1939 1953) (g.spelled (k.Name (codes "define-library") false))) g.none))) ∷ ((g.list (p 345 347 1955 1971) (g.part (g.atom (p 346 346 1956 1970) (g.spelled (k.Name (codes "define-library") false))) g.none))) ∷ ((g.list (p 348 350 1972 1988) (g.part (g.atom (p 349 349 1973 1987) (g.spelled (k.Name (codes "define-library") false))) g.none))) ∷ ((g.list (p 351 353 1989 2005) (g.part (g.atom (p 352 352 1990 2004) (g.spelled (k.Name (codes "define-library") false))) g.none))) ∷ ((g.list (p 354 356 2006 2022) (g.part (g.atom (p 355 355 2007 2021) (g.spelled (k.Name (codes "define-library") false))) g.none))) ∷ ((g.list (p 357 359 2023 2039) (g.part (g.atom (p 358 358 2024 2038) (g.spelled (k.Name (codes "define-library") false))) g.none))) ∷ ((g.list (p 360 362 2040 2056) (g.part (g.atom (p 361 361 2041 2055) (g.spelled (k.Name (codes "define-library") false))) g.none))) ∷ ((g.list (p 363 365 2057 2073) (g.part (g.atom (p 364 364 2058 2072) (g.spelled (k.Name (codes "define-library") false))) g.none))) ∷ ((g.list (p 366 368 2074 2090) (g.part (g.atom (p 367 367 2075 2089) (g.spelled (k.Name (codes "define-library") false))) g.none))) ∷ ((g.list (p 369 371 2091 2107) (g.part (g.atom (p 370 370 2092 2106) (g.spelled (k.Name (codes "define-library") false))) g.none))) ∷ ((g.list (p 372 374 2108 2124) (g.part (g.atom (p 373 373 2109 2123) (g.spelled (k.Name (codes "define-library") false))) g.none))) ∷ ((g.list (p 375 377 2125 2141) (g.part (g.atom (p 376 376 2126 2140) (g.spelled (k.Name (codes "define-library") false))) g.none))) ∷ ((g.list (p 378 380 2142 2158) (g.part (g.atom (p 379 379 2143 2157) (g.spelled (k.Name (codes "define-library") false))) g.none))) ∷ [])) ∷ ((codes "file:///m.scm"), Some (((g.list (p 0 15 0 45) (g.part (g.atom (p 1 1 1 14) (g.spelled (k.Name (codes "define-syntax") false))) (g.part (g.atom (p 2 2 15 16) (g.spelled (k.Name (codes "m") false))) (g.part (g.list (p 3 14 17 44) (g.part (g.atom (p 4 4 18 30) (g.spelled (k.Name (codes "syntax-rules") false))) (g.part (g.list (p 5 6 31 33) g.none) (g.part (g.list (p 7 13 34 43) (g.part (g.list (p 8 11 35 40) (g.part (g.atom (p 9 9 36 37) (g.spelled (k.Name (codes "_") false))) (g.part (g.atom (p 10 10 38 39) (g.spelled (k.Name (codes "a") false))) g.none))) (g.part (g.atom (p 12 12 41 42) (g.spelled (k.Name (codes "a") false))) g.none))) g.none)))) g.none))))) ∷ ((g.list (p 16 19 46 51) (g.part (g.atom (p 17 17 47 48) (g.spelled (k.Name (codes "m") false))) (g.part (g.atom (p 18 18 49 50) (g.spelled (k.Numeral (codes "1")))) g.none)))) ∷ [])) ∷ []) ≡ ([], 1)
+unfolding base_names standard_libraries prelude encode_utf8
+unit_was_behind_the_most = refl
+
+pub asked_a_library_behind_the_clause_that_holds : carried_rows (((codes "file:///a.scm"), Some (((g.list (p 0 15 0 45) (g.part (g.atom (p 1 1 1 14) (g.spelled (k.Name (codes "define-syntax") false))) (g.part (g.atom (p 2 2 15 16) (g.spelled (k.Name (codes "m") false))) (g.part (g.list (p 3 14 17 44) (g.part (g.atom (p 4 4 18 30) (g.spelled (k.Name (codes "syntax-rules") false))) (g.part (g.list (p 5 6 31 33) g.none) (g.part (g.list (p 7 13 34 43) (g.part (g.list (p 8 11 35 40) (g.part (g.atom (p 9 9 36 37) (g.spelled (k.Name (codes "_") false))) (g.part (g.atom (p 10 10 38 39) (g.spelled (k.Name (codes "a") false))) g.none))) (g.part (g.atom (p 12 12 41 42) (g.spelled (k.Name (codes "a") false))) g.none))) g.none)))) g.none))))) ∷ ((g.list (p 16 37 46 94) (g.part (g.atom (p 17 17 47 58) (g.spelled (k.Name (codes "cond-expand") false))) (g.part (g.list (p 18 24 59 71) (g.part (g.atom (p 19 19 60 64) (g.spelled (k.Name (codes "r7rs") false))) (g.part (g.list (p 20 23 65 70) (g.part (g.atom (p 21 21 66 67) (g.spelled (k.Name (codes "m") false))) (g.part (g.atom (p 22 22 68 69) (g.spelled (k.Numeral (codes "1")))) g.none))) g.none))) (g.part (g.list (p 25 36 72 93) (g.part (g.list (p 26 31 73 86) (g.part (g.atom (p 27 27 74 81) (g.spelled (k.Name (codes "library") false))) (g.part (g.list (p 28 30 82 85) (g.part (g.atom (p 29 29 83 84) (g.spelled (k.Name (codes "l") false))) g.none)) g.none))) (g.part (g.list (p 32 35 87 92) (g.part (g.atom (p 33 33 88 89) (g.spelled (k.Name (codes "m") false))) (g.part (g.atom (p 34 34 90 91) (g.spelled (k.Numeral (codes "2")))) g.none))) g.none))) g.none))))) ∷ [])) ∷ []) (((codes "file:///a.scm"), Some (((g.list (p 0 15 0 45) (g.part (g.atom (p 1 1 1 14) (g.spelled (k.Name (codes "define-syntax") false))) (g.part (g.atom (p 2 2 15 16) (g.spelled (k.Name (codes "m") false))) (g.part (g.list (p 3 14 17 44) (g.part (g.atom (p 4 4 18 30) (g.spelled (k.Name (codes "syntax-rules") false))) (g.part (g.list (p 5 6 31 33) g.none) (g.part (g.list (p 7 13 34 43) (g.part (g.list (p 8 11 35 40) (g.part (g.atom (p 9 9 36 37) (g.spelled (k.Name (codes "_") false))) (g.part (g.atom (p 10 10 38 39) (g.spelled (k.Name (codes "a") false))) g.none))) (g.part (g.atom (p 12 12 41 42) (g.spelled (k.Name (codes "a") false))) g.none))) g.none)))) g.none))))) ∷ ((g.list (p 16 37 46 94) (g.part (g.atom (p 17 17 47 58) (g.spelled (k.Name (codes "cond-expand") false))) (g.part (g.list (p 18 24 59 71) (g.part (g.atom (p 19 19 60 64) (g.spelled (k.Name (codes "r7rs") false))) (g.part (g.list (p 20 23 65 70) (g.part (g.atom (p 21 21 66 67) (g.spelled (k.Name (codes "m") false))) (g.part (g.atom (p 22 22 68 69) (g.spelled (k.Numeral (codes "1")))) g.none))) g.none))) (g.part (g.list (p 25 36 72 93) (g.part (g.list (p 26 31 73 86) (g.part (g.atom (p 27 27 74 81) (g.spelled (k.Name (codes "library") false))) (g.part (g.list (p 28 30 82 85) (g.part (g.atom (p 29 29 83 84) (g.spelled (k.Name (codes "l") false))) g.none)) g.none))) (g.part (g.list (p 32 35 87 92) (g.part (g.atom (p 33 33 88 89) (g.spelled (k.Name (codes "m") false))) (g.part (g.atom (p 34 34 90 91) (g.spelled (k.Numeral (codes "2")))) g.none))) g.none))) g.none))))) ∷ [])) ∷ ((codes "file:///l.sld"), Some (((g.list (p 0 5 0 20) (g.part (g.atom (p 1 1 1 15) (g.spelled (k.Name (codes "define-library") false))) (g.part (g.list (p 2 4 16 19) (g.part (g.atom (p 3 3 17 18) (g.spelled (k.Name (codes "l") false))) g.none)) g.none)))) ∷ [])) ∷ []) ≡ ((0, 0) ∷ [], 1)
+unfolding base_names standard_libraries prelude encode_utf8
+asked_a_library_behind_the_clause_that_holds = refl
+
+pub values_and_records_carried : carried_rows (((codes "file:///a.scm"), Some (((g.list (p 0 12 0 38) (g.part (g.atom (p 1 1 1 19) (g.spelled (k.Name (codes "define-record-type") false))) (g.part (g.atom (p 2 2 20 21) (g.spelled (k.Name (codes "p") false))) (g.part (g.list (p 3 6 22 27) (g.part (g.atom (p 4 4 23 24) (g.spelled (k.Name (codes "q") false))) (g.part (g.atom (p 5 5 25 26) (g.spelled (k.Name (codes "x") false))) g.none))) (g.part (g.atom (p 7 7 28 30) (g.spelled (k.Name (codes "p?") false))) (g.part (g.list (p 8 11 31 37) (g.part (g.atom (p 9 9 32 33) (g.spelled (k.Name (codes "x") false))) (g.part (g.atom (p 10 10 34 36) (g.spelled (k.Name (codes "px") false))) g.none))) g.none))))))) ∷ ((g.list (p 13 24 39 69) (g.part (g.atom (p 14 14 40 53) (g.spelled (k.Name (codes "define-values") false))) (g.part (g.list (p 15 19 54 61) (g.part (g.atom (p 16 16 55 56) (g.spelled (k.Name (codes "a") false))) (g.tail (g.atom (p 18 18 59 60) (g.spelled (k.Name (codes "b") false)))))) (g.part (g.list (p 20 23 62 68) (g.part (g.atom (p 21 21 63 65) (g.spelled (k.Name (codes "px") false))) (g.part (g.atom (p 22 22 66 67) (g.spelled (k.Numeral (codes "1")))) g.none))) g.none))))) ∷ ((g.list (p 25 29 70 80) (g.part (g.atom (p 26 26 71 75) (g.spelled (k.Name (codes "list") false))) (g.part (g.atom (p 27 27 76 77) (g.spelled (k.Name (codes "a") false))) (g.part (g.atom (p 28 28 78 79) (g.spelled (k.Name (codes "b") false))) g.none))))) ∷ [])) ∷ []) (((codes "file:///a.scm"), Some (((g.list (p 0 4 0 12) (g.part (g.atom (p 1 1 1 7) (g.spelled (k.Name (codes "define") false))) (g.part (g.atom (p 2 2 8 9) (g.spelled (k.Name (codes "w") false))) (g.part (g.atom (p 3 3 10 11) (g.spelled (k.Numeral (codes "0")))) g.none))))) ∷ ((g.list (p 5 17 13 51) (g.part (g.atom (p 6 6 14 32) (g.spelled (k.Name (codes "define-record-type") false))) (g.part (g.atom (p 7 7 33 34) (g.spelled (k.Name (codes "p") false))) (g.part (g.list (p 8 11 35 40) (g.part (g.atom (p 9 9 36 37) (g.spelled (k.Name (codes "q") false))) (g.part (g.atom (p 10 10 38 39) (g.spelled (k.Name (codes "x") false))) g.none))) (g.part (g.atom (p 12 12 41 43) (g.spelled (k.Name (codes "p?") false))) (g.part (g.list (p 13 16 44 50) (g.part (g.atom (p 14 14 45 46) (g.spelled (k.Name (codes "x") false))) (g.part (g.atom (p 15 15 47 49) (g.spelled (k.Name (codes "px") false))) g.none))) g.none))))))) ∷ ((g.list (p 18 29 52 82) (g.part (g.atom (p 19 19 53 66) (g.spelled (k.Name (codes "define-values") false))) (g.part (g.list (p 20 24 67 74) (g.part (g.atom (p 21 21 68 69) (g.spelled (k.Name (codes "a") false))) (g.tail (g.atom (p 23 23 72 73) (g.spelled (k.Name (codes "b") false)))))) (g.part (g.list (p 25 28 75 81) (g.part (g.atom (p 26 26 76 78) (g.spelled (k.Name (codes "px") false))) (g.part (g.atom (p 27 27 79 80) (g.spelled (k.Numeral (codes "1")))) g.none))) g.none))))) ∷ ((g.list (p 30 34 83 93) (g.part (g.atom (p 31 31 84 88) (g.spelled (k.Name (codes "list") false))) (g.part (g.atom (p 32 32 89 90) (g.spelled (k.Name (codes "a") false))) (g.part (g.atom (p 33 33 91 92) (g.spelled (k.Name (codes "b") false))) g.none))))) ∷ [])) ∷ []) ≡ ((0, 1) ∷ (0, 2) ∷ (0, 3) ∷ [], 0)
+unfolding base_names standard_libraries prelude encode_utf8
+values_and_records_carried = refl
+
+pub values_and_records_redefined : carried_rows (((codes "file:///a.scm"), Some (((g.list (p 0 40 0 121) (g.part (g.atom (p 1 1 1 15) (g.spelled (k.Name (codes "define-library") false))) (g.part (g.list (p 2 4 16 19) (g.part (g.atom (p 3 3 17 18) (g.spelled (k.Name (codes "l") false))) g.none)) (g.part (g.list (p 5 11 20 42) (g.part (g.atom (p 6 6 21 27) (g.spelled (k.Name (codes "import") false))) (g.part (g.list (p 7 10 28 41) (g.part (g.atom (p 8 8 29 35) (g.spelled (k.Name (codes "scheme") false))) (g.part (g.atom (p 9 9 36 40) (g.spelled (k.Name (codes "base") false))) g.none))) g.none))) (g.part (g.list (p 12 39 43 120) (g.part (g.atom (p 13 13 44 49) (g.spelled (k.Name (codes "begin") false))) (g.part (g.list (p 14 26 50 88) (g.part (g.atom (p 15 15 51 69) (g.spelled (k.Name (codes "define-record-type") false))) (g.part (g.atom (p 16 16 70 71) (g.spelled (k.Name (codes "p") false))) (g.part (g.list (p 17 20 72 77) (g.part (g.atom (p 18 18 73 74) (g.spelled (k.Name (codes "q") false))) (g.part (g.atom (p 19 19 75 76) (g.spelled (k.Name (codes "x") false))) g.none))) (g.part (g.atom (p 21 21 78 80) (g.spelled (k.Name (codes "p?") false))) (g.part (g.list (p 22 25 81 87) (g.part (g.atom (p 23 23 82 83) (g.spelled (k.Name (codes "x") false))) (g.part (g.atom (p 24 24 84 86) (g.spelled (k.Name (codes "px") false))) g.none))) g.none)))))) (g.part (g.list (p 27 38 89 119) (g.part (g.atom (p 28 28 90 103) (g.spelled (k.Name (codes "define-values") false))) (g.part (g.list (p 29 33 104 111) (g.part (g.atom (p 30 30 105 106) (g.spelled (k.Name (codes "a") false))) (g.tail (g.atom (p 32 32 109 110) (g.spelled (k.Name (codes "b") false)))))) (g.part (g.list (p 34 37 112 118) (g.part (g.atom (p 35 35 113 115) (g.spelled (k.Name (codes "px") false))) (g.part (g.atom (p 36 36 116 117) (g.spelled (k.Numeral (codes "1")))) g.none))) g.none)))) g.none)))) g.none)))))) ∷ [])) ∷ []) (((codes "file:///a.scm"), Some (((g.list (p 0 45 0 134) (g.part (g.atom (p 1 1 1 15) (g.spelled (k.Name (codes "define-library") false))) (g.part (g.list (p 2 4 16 19) (g.part (g.atom (p 3 3 17 18) (g.spelled (k.Name (codes "l") false))) g.none)) (g.part (g.list (p 5 11 20 42) (g.part (g.atom (p 6 6 21 27) (g.spelled (k.Name (codes "import") false))) (g.part (g.list (p 7 10 28 41) (g.part (g.atom (p 8 8 29 35) (g.spelled (k.Name (codes "scheme") false))) (g.part (g.atom (p 9 9 36 40) (g.spelled (k.Name (codes "base") false))) g.none))) g.none))) (g.part (g.list (p 12 44 43 133) (g.part (g.atom (p 13 13 44 49) (g.spelled (k.Name (codes "begin") false))) (g.part (g.list (p 14 18 50 62) (g.part (g.atom (p 15 15 51 57) (g.spelled (k.Name (codes "define") false))) (g.part (g.atom (p 16 16 58 59) (g.spelled (k.Name (codes "b") false))) (g.part (g.atom (p 17 17 60 61) (g.spelled (k.Numeral (codes "0")))) g.none)))) (g.part (g.list (p 19 31 63 101) (g.part (g.atom (p 20 20 64 82) (g.spelled (k.Name (codes "define-record-type") false))) (g.part (g.atom (p 21 21 83 84) (g.spelled (k.Name (codes "p") false))) (g.part (g.list (p 22 25 85 90) (g.part (g.atom (p 23 23 86 87) (g.spelled (k.Name (codes "q") false))) (g.part (g.atom (p 24 24 88 89) (g.spelled (k.Name (codes "x") false))) g.none))) (g.part (g.atom (p 26 26 91 93) (g.spelled (k.Name (codes "p?") false))) (g.part (g.list (p 27 30 94 100) (g.part (g.atom (p 28 28 95 96) (g.spelled (k.Name (codes "x") false))) (g.part (g.atom (p 29 29 97 99) (g.spelled (k.Name (codes "px") false))) g.none))) g.none)))))) (g.part (g.list (p 32 43 102 132) (g.part (g.atom (p 33 33 103 116) (g.spelled (k.Name (codes "define-values") false))) (g.part (g.list (p 34 38 117 124) (g.part (g.atom (p 35 35 118 119) (g.spelled (k.Name (codes "a") false))) (g.tail (g.atom (p 37 37 122 123) (g.spelled (k.Name (codes "b") false)))))) (g.part (g.list (p 39 42 125 131) (g.part (g.atom (p 40 40 126 128) (g.spelled (k.Name (codes "px") false))) (g.part (g.atom (p 41 41 129 130) (g.spelled (k.Numeral (codes "1")))) g.none))) g.none)))) g.none))))) g.none)))))) ∷ [])) ∷ []) ≡ ((0, 2) ∷ [], 0)
+unfolding base_names standard_libraries prelude encode_utf8
+values_and_records_redefined = refl
