@@ -1,5 +1,5 @@
 -- Which units and forms of a program go on in the next one, by their texts alone, and which numbers they have there.
-use Rattle.std.specs.Prelude.{ℕ, zero, suc, ◌+◌, ◌-◌, ◌==◌, List, [], ◌∷◌, ◌++◌, length, reverse, drop, Bool, true, false, not, ◌&&◌, Option, Some, None, if◌then◌else◌}
+use Rattle.std.specs.Prelude.{ℕ, zero, suc, ◌+◌, ◌-◌, ◌==◌, ◌≤◌, ◌<◌, List, [], ◌∷◌, ◌++◌, length, reverse, drop, Bool, true, false, not, ◌&&◌, Option, Some, None, if◌then◌else◌}
 use Rattle.std.specs.List.{list_any}
 use Rattle.std.specs.Str.{bytes_eq}
 use Rattle.scheme_model.specs.Trees.{Tree}
@@ -55,6 +55,11 @@ by_ends fs gs =
     let front = common_front fs gs in
     let end = common_front (reverse (drop front fs)) (reverse (drop front gs)) in
     in_step 0 0 front ++ in_step (length fs - end) (length gs - end) end
+
+-- pairs whose numbers rise on both sides, from these numbers on and below those
+abbrev pub Rise : (before after below_before below_after : ℕ) → List (ℕ × ℕ) → Type 0
+Rise b a m n [] = Unit {0}
+Rise b a m n (q ∷ qs) = (b ≤ q.0) × (q.0 < m) × (a ≤ q.1) × (q.1 < n) × Rise (suc q.0) (suc q.1) m n qs
 
 -- the forms of a unit with included forms are paired place by place, and only where all are the same and at home at the same places
 abbrev pub form_pairs : List FormText → List FormText → Option (List (ℕ × ℕ))
