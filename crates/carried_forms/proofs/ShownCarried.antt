@@ -1,9 +1,9 @@
 -- Carried forms and the work of an event in the notation of rows; and which forms would be carried if questions of one kind weren't asked.
-use Rattle.std.specs.Prelude.{ℕ, List, [], ◌∷◌, ◌++◌, map, filter, Bool, true, false, not, ◌&&◌, Option, Some, None, if◌then◌else◌}
+use Rattle.std.specs.Prelude.{ℕ, List, [], ◌∷◌, map, filter, Bool, true, false, ◌&&◌, Option, Some, None, if◌then◌else◌}
 use Rattle.std.specs.List.{flat_map}
 use Rattle.scheme_model.specs.Meaning.{same_meaning}
 use Rattle.scheme_model.specs.Program.{Document, enough_turns}
-use Rattle.scheme_model.specs.Questions.{Around, Moment, Question, LooksUp, UsesRules, Compares, IsAssigned, Requires, Defines, Answer, Means, Expands, Says, Ends, answer}
+use Rattle.scheme_model.specs.Questions.{Around, Moment, Question, LooksUp, UsesRules, Compares, IsAssigned, Requires, Defines, Answer, Means, answer}
 use Rattle.scheme_model.specs.FormsAlike.{questions_of_pass, questions_of_left}
 use Rattle.carried_forms.specs.Renumbering.{Renumbering, new_moment, new_question, new_answer}
 use Rattle.carried_forms.specs.Paired.{UnitPair, unit_pairs, renumbering}

@@ -1,18 +1,18 @@
 -- The work of an event is at most the macro uses of the program that is there after it, and all of them where nothing was open before.
-use Rattle.std.proofs.Common.{◌≡◌, ℕ, zero, suc, ◌+◌, ◌≤◌, List, [], ◌∷◌, ◌++◌, map, length, Bool, true, false, cond, Option, Some, None, refl, sym, ap, ◌∙◌, arith}
+use Rattle.std.proofs.Common.{◌≡◌, ℕ, zero, suc, ◌+◌, ◌≤◌, List, [], ◌∷◌, ◌++◌, map, length, Bool, true, false, cond, Option, Some, None, refl, ap, ◌∙◌, arith}
 use Rattle.scheme_model.specs.Ident.{Ident, Written}
 use Rattle.scheme_model.specs.Trees.{Tree}
 use Rattle.scheme_model.specs.Requirements.{Known}
 use Rattle.scheme_model.specs.Order.{Note}
 use Rattle.scheme_model.specs.Substitution.{Clock}
 use Rattle.scheme_model.specs.ScopedExpansion.{FramedIdent, ScopedState}
-use Rattle.scheme_model.specs.Program.{Document, Placed, Prepared, WholeFault, units_of, prepare, known_in, fault_before, is_ready, first_ready, enough_turns}
+use Rattle.scheme_model.specs.Program.{Placed, Prepared, WholeFault, units_of, prepare, known_in, fault_before, is_ready, first_ready, enough_turns}
 use Rattle.scheme_model.specs.ScopedProgram.{ScopedProgress, forms_over, scoped_unit_over, scoped_start_after, scoped_worked, scoped_before}
 use Rattle.scheme_model.specs.FormsAlike.{set_aside, finish}
 use Rattle.macro_uses.specs.MacroUses.{total_of, program_uses}
-use Rattle.macro_uses.specs.ScopedUses.{scoped_unit_uses, scoped_uses_by_fault, scoped_worked_uses, scoped_work_uses, scoped_program_uses}
+use Rattle.macro_uses.specs.ScopedUses.{scoped_unit_uses, scoped_uses_by_fault, scoped_worked_uses, scoped_work_uses}
 use Rattle.macro_uses.proofs.ProgramUses.{program_counts}
-use Rattle.carried_forms.specs.Worked.{WorkedForm, GoneForm, around_form, gone_through, gone_on, worked_forms, WorkedUnit, worked_unit, unless_broken, worked_next, worked_units, units_at_work, OpenDocument, read_documents, unit_texts}
+use Rattle.carried_forms.specs.Worked.{WorkedForm, GoneForm, around_form, gone_through, gone_on, worked_forms, WorkedUnit, worked_unit, unless_broken, worked_next, worked_units, OpenDocument, read_documents}
 use Rattle.carried_forms.specs.Carried.{is_among, uses_beside, work_beside, carried, work}
 
 -- ---- numbers of the forms at work

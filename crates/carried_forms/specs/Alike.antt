@@ -1,5 +1,5 @@
 -- Whether trees, rules and answers are equal, places and all.
-use Rattle.std.specs.Prelude.{ℕ, List, [], ◌∷◌, Bool, true, false, ◌&&◌, Option, Some, None}
+use Rattle.std.specs.Prelude.{List, [], ◌∷◌, Bool, true, false, ◌&&◌, Option, Some, None}
 use Rattle.scheme_model.specs.Identifiers.{same_number}
 use Rattle.scheme_model.specs.Ident.{Ident, same_ident}
 use Rattle.scheme_model.specs.Meaning.{same_meaning}

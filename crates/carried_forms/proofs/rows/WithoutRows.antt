@@ -1,13 +1,13 @@
 -- Open documents before and after an event, and the forms that would be carried if questions of one kind weren't asked.
 -- Written by tests/definitions/rows; each row is checked by computing it.
-use Rattle.std.specs.Prelude.{◌≡◌, ℕ, Bool, true, false, List, [], ◌∷◌, Option, Some, None, codes, refl}
+use Rattle.std.specs.Prelude.{◌≡◌, ℕ, false, [], ◌∷◌, Some, codes, refl}
 use Rattle.std.specs.Char.{encode_utf8}
 use Rattle.scheme_model.specs.StandardNames.{base_names}
 use Rattle.scheme_model.specs.StandardLibraries.{standard_libraries}
 use Rattle.scheme_model.specs.Prelude.{prelude}
 use Rattle.scheme_model.specs.Kinds as k
 use Rattle.scheme_model.specs.Data as g
-use Rattle.carried_forms.proofs.ShownCarried.{Kind, LookUp, Keyword, Rules, Comparison, Assignment, Library, Outcome, without_rows}
+use Rattle.carried_forms.proofs.ShownCarried.{LookUp, Keyword, Rules, Comparison, Assignment, Library, Outcome, without_rows}
 
 abbrev p : ℕ → ℕ → ℕ → ℕ → g.Place
 p first last start end = record { first = first; last = last; start = start; end = end }
