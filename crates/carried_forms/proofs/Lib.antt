@@ -1,0 +1,5 @@
+pub mod ShownCarried  -- Carried forms and the work of an event in the notation of rows; and which forms would be carried if questions of one kind weren't asked
+pub mod ShownPairs  -- Units that include texts, and their forms that go on, in the notation of rows
+pub mod WorkLaws  -- The work of an event is at most the macro uses of the program that is there after it, and all of them where nothing was open before
+pub mod PairLaws  -- The forms of a unit are paired in order, so no two of them get one number
+pub mod rows

@@ -1,0 +1,3 @@
+pub mod CarriedRows
+pub mod WithoutRows
+pub mod PairedRows

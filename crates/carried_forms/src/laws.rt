@@ -1,0 +1,20 @@
+//! Laws of the definition. Each is the contract of a function that does nothing.
+ghost use Rattle.std.specs.Prelude.{◌≡◌, ◌≤◌, ℕ, List, [], length};
+ghost use Rattle.macro_uses.specs.MacroUses.{program_uses};
+ghost use Rattle.carried_forms.specs.Paired.{FormText, UnitText, by_ends, Rise, unit_pairs, renumbering};
+ghost use Rattle.carried_forms.specs.Worked.{OpenDocument, read_documents};
+ghost use Rattle.carried_forms.specs.Carried.{work};
+
+/// The forms of a unit are paired one to one and in their order, and no two forms of a unit get one number, whether they go on or not.
+pub fn forms_are_paired_in_order()
+    ensures order { (fs gs : List FormText) → Rise 0 0 (length fs) (length gs) (by_ends fs gs) }
+    ensures numbers { (us vs : List UnitText) (u f g : ℕ) → (renumbering (unit_pairs us vs)).form u f ≡ (renumbering (unit_pairs us vs)).form u g → f ≡ g }
+{}
+
+/// The work of an event is at most the macro uses of the program that is there after it; it is all of them where nothing was open before, and
+/// none where nothing is open after.
+pub fn work_is_bounded()
+    ensures most { (before after : List OpenDocument) → work before after ≤ program_uses (read_documents after) }
+    ensures all { (after : List OpenDocument) → work [] after ≡ program_uses (read_documents after) }
+    ensures none { (before : List OpenDocument) → work before [] ≡ 0 }
+{}
