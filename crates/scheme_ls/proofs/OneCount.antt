@@ -1,11 +1,10 @@
 -- What a run counts is told by its words, by what it read and wrote, and by its number, unless memory ran out or a write failed.
-use Rattle.std.proofs.Common.{◌≡◌, ◌∙◌, ◌⊎◌, inl, inr, ◌+◌, ◌<◌, ◌≤◌, ◌^◌, ℕ, List, [], ◌∷◌, ◌++◌, map, length, take, drop, Option, Some, None, Bool, true, false, Err, refl, sym, ap, subst, append_assoc, append-nil, arith}
+use Rattle.std.proofs.Common.{◌≡◌, ◌∙◌, ◌⊎◌, inl, inr, ◌+◌, ◌<◌, ◌≤◌, ℕ, List, [], ◌∷◌, ◌++◌, length, drop, Option, Some, None, Bool, true, false, refl, sym, ap, subst, append_assoc, append-nil, arith}
 use Rattle.std.specs.FinMap.{entries}
 use Rattle.std.specs.List.{AllByRecursion}
 use Rattle.std.proofs.lemmas.List.{append_cancel_left, length-map, take-append-drop}
 use Rattle.ls_base.specs.declared.places.Pos.{Pos}
-use Rattle.ls_base.specs.Limits.{max_text}
-use Rattle.ls_outside.specs.Calls.{AllTake, CallsTake, LastTakesNone}
+use Rattle.ls_outside.specs.Calls.{LastTakesNone}
 use Rattle.ls_outside.specs.Sources.{AreCuts, bytes_of}
 use Rattle.command_words.specs.declared.command.Command.{Command}
 use Rattle.command_words.specs.declared.command.Command.TheVariants.{Arrows, Check, Rename, Replay, Selfrun, Serve, ServeAhead, TooManyFiles, Unknown}
@@ -15,23 +14,20 @@ use Rattle.program_expansion.specs.UsesInTurn.{uses_in}
 use Rattle.program_answers.proofs.TextLists.{one_row}
 use Rattle.rename_conditions.specs.Readers.{Reader}
 use Rattle.rename_conditions.proofs.ReaderLaws.{readers_are_one}
-use Rattle.file_fetching.specs.Fetching.{AreHeld, FetchStopsAs, ReadEach, max_recording}
-use Rattle.file_fetching.specs.FilesSeen.{FilesSeen}
+use Rattle.file_fetching.specs.Fetching.{AreHeld, ReadEach, max_recording}
 use Rattle.file_fetching.specs.declared.fetching.FetchStop.{FetchStop}
 use Rattle.file_fetching.specs.declared.fetching.FetchStop.TheVariants as fetch
 use Rattle.file_commands.specs.Checking.{opened}
 use Rattle.file_commands.specs.Renaming.{renaming_uses}
 use Rattle.file_commands.specs.declared.renaming.Renamed.{Renamed}
 use Rattle.file_commands.specs.declared.renaming.Renamed.TheVariants as renamed
-use Rattle.generated_workspace.specs.Generated.{selfrun_texts}
 use Rattle.generated_workspace.specs.Selfrun.{selfrun_uses}
-use Rattle.command_output.specs.Prints.{SinkSeen}
-use Rattle.command_output.specs.Reads.{SourceSeen, source_seen}
+use Rattle.command_output.specs.Reads.{source_seen}
 use Rattle.command_output.specs.Statuses.{code_of, fetch_status}
 use Rattle.command_output.specs.Streams.{Streams, streams}
 use Rattle.command_output.specs.declared.status.Status.{Status}
 use Rattle.session_serving.specs.CountedBytes.{CountsAll}
-use Rattle.session_serving.specs.ServeOutcome.{Serves, max_stream}
+use Rattle.session_serving.specs.ServeOutcome.{Serves}
 use Rattle.session_serving.specs.SessionEnds.{session_status}
 use Rattle.session_serving.specs.declared.answering.Exit.TheVariants as exits
 use Rattle.session_serving.specs.declared.serve.SessionEnd.{SessionEnd}
@@ -45,7 +41,7 @@ use Rattle.text_arrows.specs.declared.arrows.ArrowsEnd.TheVariants as arrows
 use Rattle.text_arrows.specs.declared.arrows.TextEnd.TheVariants as text
 use Rattle.text_arrows.proofs.OneText as alone
 use Rattle.scheme_ls.specs.RunOutcome.{CommandEndsAs, NothingDone, RunEnds, Seen, counting}
-use Rattle.scheme_ls.specs.WorkOutcome.{CheckEndsAs, PrintsLines, RenameEndsAs, Replays, ReplayEndsAs, RunsOut, SelfrunEndsAs, WorkEndsAs, WorkSeen, check_status, rename_status, recording_piece, work_seen}
+use Rattle.scheme_ls.specs.WorkOutcome.{CheckEndsAs, PrintsLines, RenameEndsAs, Replays, ReplayEndsAs, RunsOut, WorkEndsAs, WorkSeen, check_status, rename_status, recording_piece, work_seen}
 
 -- a number that neither want of memory nor a failed write has
 record IsPlain (code : ℕ) : Type 0 where

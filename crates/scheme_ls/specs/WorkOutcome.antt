@@ -12,7 +12,6 @@ use Rattle.file_fetching.specs.Fetching.{FetchStopsAs, Fetches, FetchesAll, Fetc
 use Rattle.file_fetching.specs.declared.fetching.FetchStop.{FetchStop}
 use Rattle.file_commands.specs.Checking.{checked_in, opened}
 use Rattle.file_commands.specs.Renaming.{renamed_in, renaming_uses}
-use Rattle.file_commands.specs.declared.checking.Checked.{Checked}
 use Rattle.file_commands.specs.declared.renaming.Renamed.{Renamed}
 use Rattle.file_commands.specs.declared.renaming.Renamed.TheVariants.{Edits, Refused, NotUtf8}
 use Rattle.generated_workspace.specs.Generated.{selfrun_texts}
