@@ -1,10 +1,10 @@
 -- Small units of which one form is kept, computed.
-use Rattle.std.proofs.Common.{◌≡◌, ℕ, List, [], ◌∷◌, map, Bool, true, false, Option, Some, None, Result, Ok, Err, refl}
+use Rattle.std.proofs.Common.{◌≡◌, ℕ, List, [], ◌∷◌, map, Bool, true, false, Option, Some, None, Result, Ok, Err, refl, ◌++◌}
 use Rattle.std.specs.Prelude.{codes}
-use Rattle.scheme_model.specs.Ident.{Ident}
+use Rattle.scheme_model.specs.Ident.{Ident, symbol_of}
 use Rattle.scheme_model.specs.Trees.{Tree, vector, no_trees}
 use Rattle.scheme_model.specs.Requirements.{Known}
-use Rattle.scheme_model.specs.Cores.{Quote, Bound, LocalNumber, Definition, Parts, no_parts, part, Part, Expression as expression_part, Define as define_part, Values as values_part, Fields as fields_part, Syntax as syntax_part}
+use Rattle.scheme_model.specs.Cores.{Core, Ref, Quote, Bound, LocalNumber, Definition, Parts, no_parts, part, Part, Expression as expression_part, Define as define_part, Values as values_part, Fields as fields_part, Syntax as syntax_part}
 use Rattle.scheme_model.specs.Steps.{Broken}
 use Rattle.scheme_model.specs.Order.{Left}
 use Rattle.scheme_model.specs.UnitExpansion.{Formed, unit}
@@ -121,8 +121,11 @@ moves_again = refl
 -- ---- a macro use behind
 
 -- (define-syntax m (syntax-rules () ((_) x))), (m) and (m)
+abbrev macro_of : List ℕ → Tree Ident
+macro_of x = form (word (codes "define-syntax") ∷ word (codes "m") ∷ form (word (codes "syntax-rules") ∷ form [] ∷ form (form (word (codes "_") ∷ []) ∷ word x ∷ []) ∷ []) ∷ [])
+
 abbrev macro : Tree Ident
-macro = form (word (codes "define-syntax") ∷ word (codes "m") ∷ form (word (codes "syntax-rules") ∷ form [] ∷ form (form (word (codes "_") ∷ []) ∷ word (codes "x") ∷ []) ∷ []) ∷ [])
+macro = macro_of (codes "x")
 
 abbrev uses : Tree Ident
 uses = form (word (codes "m") ∷ [])
@@ -143,6 +146,39 @@ told = refl
 
 one_worked : unit_worked nowhere 20 with_uses empty ≡ 1
 one_worked = refl
+
+-- ---- a macro that has changed
+
+-- what the parts refer to
+abbrev refers : Option (List Formed) → List (List (List ℕ))
+refers None = []
+refers (Some rs) = map (λ (r : Formed). by_result r.result) rs
+  where
+    by_core : Core → List (List ℕ)
+    by_core (Ref x) = symbol_of x.ident ∷ []
+    by_core c = []
+
+    by_part : Part → List (List ℕ)
+    by_part (expression_part c) = by_core c
+    by_part p = []
+
+    by_parts : Parts → List (List ℕ)
+    by_parts no_parts = []
+    by_parts (part p ps) = by_part p ++ by_parts ps
+
+    by_result : Result Parts Broken → List (List ℕ)
+    by_result (Ok ps) = by_parts ps
+    by_result (Err e) = []
+
+-- (define-syntax m (syntax-rules () ((_) y))), and (m), which was kept where m gave x and has another answer now
+abbrev stale : List FormOrKept
+stale = anew 0 (macro_of (codes "y")) ∷ keeping 1 uses (kept_at 1 macro uses) ∷ []
+
+refers_to_old : refers (kept_unit stale) ≡ [] ∷ (codes "x" ∷ []) ∷ []
+refers_to_old = refl
+
+refers_to_new : refers (fresh_unit stale) ≡ [] ∷ (codes "y" ∷ []) ∷ []
+refers_to_new = refl
 
 -- ---- too many nodes
 
