@@ -1,5 +1,5 @@
 -- Which units and forms of a program go on in the next one, by their texts alone, and which numbers they have there.
-use Rattle.std.specs.Prelude.{ℕ, zero, suc, ◌+◌, ◌-◌, ◌==◌, ◌≤◌, ◌<◌, List, [], ◌∷◌, ◌++◌, length, reverse, drop, Bool, true, false, not, ◌&&◌, Option, Some, None, if◌then◌else◌}
+use Rattle.std.specs.Prelude.{◌≡◌, ℕ, zero, suc, ◌+◌, ◌-◌, ◌==◌, ◌≤◌, ◌<◌, List, [], ◌∷◌, ◌++◌, length, reverse, drop, Bool, true, false, not, ◌&&◌, Option, Some, None, if◌then◌else◌}
 use Rattle.std.specs.List.{list_any}
 use Rattle.std.specs.Str.{bytes_eq}
 use Rattle.scheme_model.specs.Trees.{Tree}
@@ -86,6 +86,20 @@ same_kind IsProgram IsProgram = true
 -- of one document, kind and name, and neither is broken as a whole
 abbrev pub is_same_unit : UnitText → UnitText → Bool
 is_same_unit u v = not u.broken && (not v.broken && (bytes_eq u.uri v.uri && (same_kind u.kind v.kind && same_option same_library u.name v.name)))
+
+-- no two units that aren't broken are of one document, kind and name
+abbrev pub IsAlone : UnitText → List UnitText → Type 0
+IsAlone u [] = Unit {0}
+IsAlone u (v ∷ vs) = (is_same_unit u v ≡ false) × IsAlone u vs
+
+abbrev pub AreTold : List UnitText → Type 0
+AreTold [] = Unit {0}
+AreTold (u ∷ us) = IsAlone u us × AreTold us
+
+-- units from a number on are broken where they stand behind the most
+abbrev pub AreWithin : ℕ → List UnitText → Type 0
+AreWithin n [] = Unit {0}
+AreWithin n (u ∷ us) = (prelude_unit ≤ n → u.broken ≡ true) × AreWithin (suc n) us
 
 abbrev pub with_forms : (before after size : ℕ) → Option (List (ℕ × ℕ)) → List UnitPair
 with_forms b a size None = []

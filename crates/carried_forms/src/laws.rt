@@ -1,7 +1,7 @@
 //! Laws of the definition. Each is the contract of a function that does nothing.
 ghost use Rattle.std.specs.Prelude.{◌≡◌, ◌≤◌, ℕ, List, [], length};
 ghost use Rattle.macro_uses.specs.MacroUses.{program_uses};
-ghost use Rattle.carried_forms.specs.Paired.{FormText, UnitText, by_ends, Rise, unit_pairs, renumbering};
+ghost use Rattle.carried_forms.specs.Paired.{FormText, UnitText, by_ends, Rise, AreTold, AreWithin, unit_pairs, renumbering};
 ghost use Rattle.carried_forms.specs.Worked.{OpenDocument, read_documents};
 ghost use Rattle.carried_forms.specs.Carried.{work};
 
@@ -9,6 +9,12 @@ ghost use Rattle.carried_forms.specs.Carried.{work};
 pub fn forms_are_paired_in_order()
     ensures order { (fs gs : List FormText) → Rise 0 0 (length fs) (length gs) (by_ends fs gs) }
     ensures numbers { (us vs : List UnitText) (u f g : ℕ) → (renumbering (unit_pairs us vs)).form u f ≡ (renumbering (unit_pairs us vs)).form u g → f ≡ g }
+{}
+
+/// Units get numbers one to one, whether they go on or not: before the event no two units that aren't broken as a whole are of one document, kind
+/// and name, and after it units behind the most are broken.
+pub fn units_are_numbered_apart()
+    ensures { (us vs : List UnitText) → AreTold us → AreWithin 0 vs → (u v : ℕ) → (renumbering (unit_pairs us vs)).unit u ≡ (renumbering (unit_pairs us vs)).unit v → u ≡ v }
 {}
 
 /// The work of an event is at most the macro uses of the program that is there after it; it is all of them where nothing was open before, and
