@@ -20,7 +20,7 @@ both false b h = absurd cc
 bytes_told : (s t : List ℕ) → bytes_eq s t ≡ true → s ≡ t
 bytes_told s t = (bytes_eq-Decides s t).0
 
-bytes_itself : (s : List ℕ) → bytes_eq s s ≡ true
+pub bytes_itself : (s : List ℕ) → bytes_eq s s ≡ true
 bytes_itself s = (bytes_eq-Decides s s).1 refl
 
 part_told : (p q : LibraryPart) → same_part p q ≡ true → p ≡ q
@@ -67,14 +67,14 @@ not_true : (b : Bool) → not b ≡ true → b ≡ false
 not_true true h = absurd cc
 not_true false h = refl
 
-record SameKey (u v : UnitText) : Type 0 where
-  here : u.broken ≡ false
-  there : v.broken ≡ false
-  uri : u.uri ≡ v.uri
-  kind : u.kind ≡ v.kind
-  name : u.name ≡ v.name
+pub record SameKey (u v : UnitText) : Type 0 where
+  pub here : u.broken ≡ false
+  pub there : v.broken ≡ false
+  pub uri : u.uri ≡ v.uri
+  pub kind : u.kind ≡ v.kind
+  pub name : u.name ≡ v.name
 
-key_told : (u v : UnitText) → is_same_unit u v ≡ true → SameKey u v
+pub key_told : (u v : UnitText) → is_same_unit u v ≡ true → SameKey u v
 key_told u v h =
     let a = both (not u.broken) (not v.broken && (bytes_eq u.uri v.uri && (same_kind u.kind v.kind && same_option same_library u.name v.name))) h in
     let b = both (not v.broken) (bytes_eq u.uri v.uri && (same_kind u.kind v.kind && same_option same_library u.name v.name)) a.1 in
@@ -82,7 +82,7 @@ key_told u v h =
     let d = both (same_kind u.kind v.kind) (same_option same_library u.name v.name) c.1 in
     record { here = not_true u.broken a.0; there = not_true v.broken b.0; uri = bytes_told u.uri v.uri c.0; kind = kind_told u.kind v.kind d.0; name = name_told u.name v.name d.1 }
 
-by_key : (u v : UnitText) → SameKey u v → is_same_unit u v ≡ true
+pub by_key : (u v : UnitText) → SameKey u v → is_same_unit u v ≡ true
 by_key u v k =
     (λ j. not (k.here j) && (not (k.there j) && (bytes_eq u.uri (sym k.uri j) && (same_kind u.kind (sym k.kind j) && same_option same_library u.name (sym k.name j)))))
     ∙ (λ j. bytes_itself u.uri j && (kind_itself u.kind j && name_itself u.name j))

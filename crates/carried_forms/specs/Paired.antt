@@ -117,6 +117,12 @@ pairs_from b (u ∷ us) vs = pair_of b u 0 vs ++ pairs_from (suc b) us vs
 abbrev pub unit_pairs : List UnitText → List UnitText → List UnitPair
 unit_pairs us vs = pairs_from 0 us vs
 
+-- each unit that isn't broken with itself, and all its forms
+abbrev pub with_themselves : ℕ → List UnitText → List UnitPair
+with_themselves n [] = []
+with_themselves n (u ∷ us) =
+    (if u.broken then [] else record { before = n; after = n; size = length u.forms; forms = in_step 0 0 (length u.forms) } ∷ []) ++ with_themselves (suc n) us
+
 -- ---- numbers
 
 -- the unit of the prelude goes on as itself

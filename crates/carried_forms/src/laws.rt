@@ -1,7 +1,7 @@
 //! Laws of the definition. Each is the contract of a function that does nothing.
 ghost use Rattle.std.specs.Prelude.{◌≡◌, ◌≤◌, ℕ, List, [], length};
 ghost use Rattle.macro_uses.specs.MacroUses.{program_uses};
-ghost use Rattle.carried_forms.specs.Paired.{FormText, UnitText, by_ends, Rise, AreTold, AreWithin, unit_pairs, renumbering};
+ghost use Rattle.carried_forms.specs.Paired.{FormText, UnitText, by_ends, Rise, AreTold, AreWithin, unit_pairs, with_themselves, renumbering};
 ghost use Rattle.carried_forms.specs.Worked.{OpenDocument, read_documents};
 ghost use Rattle.carried_forms.specs.Carried.{work};
 
@@ -15,6 +15,12 @@ pub fn forms_are_paired_in_order()
 /// and name, and after it units behind the most are broken.
 pub fn units_are_numbered_apart()
     ensures { (us vs : List UnitText) → AreTold us → AreWithin 0 vs → (u v : ℕ) → (renumbering (unit_pairs us vs)).unit u ≡ (renumbering (unit_pairs us vs)).unit v → u ≡ v }
+{}
+
+/// Where nothing changed each unit that isn't broken goes on as itself with all its forms, where no two such units are of one document, kind and
+/// name.
+pub fn nothing_changed()
+    ensures { (us : List UnitText) → AreTold us → unit_pairs us us ≡ with_themselves 0 us }
 {}
 
 /// The work of an event is at most the macro uses of the program that is there after it; it is all of them where nothing was open before, and
