@@ -1,6 +1,6 @@
 -- Where nothing changed, units and forms go on as themselves.
-use Rattle.std.proofs.Common.{◌≡◌, ℕ, zero, suc, ◌+◌, ◌-◌, List, [], ◌∷◌, ◌++◌, length, drop, Bool, true, false, cond, Option, Some, None, refl, sym, ap, ◌∙◌, arith, append_assoc, subst, eq-eqb}
-use Rattle.std.specs.Prelude.{reverse, not, ◌&&◌, ◌==◌}
+use Rattle.std.proofs.Common.{◌≡◌, ℕ, suc, ◌+◌, ◌-◌, List, [], ◌∷◌, ◌++◌, length, drop, Bool, true, false, cond, Option, Some, None, refl, sym, ap, ◌∙◌, arith, append_assoc, subst, eq-eqb}
+use Rattle.std.specs.Prelude.{reverse, ◌&&◌, ◌==◌}
 use Rattle.std.specs.List.{list_any}
 use Rattle.std.specs.Str.{bytes_eq}
 use Rattle.std.proofs.lemmas.List.{append-nil, length-reverse, length-drop, length-append}
@@ -9,8 +9,8 @@ use Rattle.scheme_model.specs.Trees.{Atom, Numeral, Quoted, Character, Boolean, 
 use Rattle.scheme_model.specs.Matching.{same_atom, same_truth}
 use Rattle.scheme_model.specs.Entries.{same_occ}
 use Rattle.carried_forms.specs.Alike.{same_option, same_list, same_tree, same_trees, same_tail}
-use Rattle.carried_forms.specs.Paired.{FormText, is_same_form, is_same_at_home, common_front, in_step, by_ends, form_pairs, UnitText, is_same_unit, IsAlone, AreTold, UnitPair, with_forms, pair_of, pairs_from, unit_pairs, with_themselves}
-use Rattle.carried_forms.proofs.UnitLaws.{bytes_itself, SameKey, key_told, by_key}
+use Rattle.carried_forms.specs.Paired.{FormText, is_same_at_home, common_front, in_step, by_ends, form_pairs, UnitText, is_same_unit, IsAlone, AreTold, with_forms, pair_of, pairs_from, unit_pairs, with_themselves}
+use Rattle.carried_forms.proofs.UnitLaws.{bytes_itself, key_told, by_key}
 
 -- ---- trees
 

@@ -1,6 +1,6 @@
 -- Open documents before and after an event, the forms that are carried, and the work of the event, from outside.
 -- Written by tests/definitions/rows; each row is checked by computing it.
-use Rattle.std.specs.Prelude.{◌≡◌, ℕ, Bool, true, false, List, [], ◌∷◌, Option, Some, None, codes, refl}
+use Rattle.std.specs.Prelude.{◌≡◌, ℕ, false, [], ◌∷◌, Some, None, codes, refl}
 use Rattle.std.specs.Char.{encode_utf8}
 use Rattle.scheme_model.specs.StandardNames.{base_names}
 use Rattle.scheme_model.specs.StandardLibraries.{standard_libraries}

@@ -1,6 +1,6 @@
 -- Open documents that include texts before and after an event, and the units and forms that are paired, from outside.
 -- Written by tests/definitions/rows; each row is checked by computing it.
-use Rattle.std.specs.Prelude.{◌≡◌, ℕ, Bool, true, false, List, [], ◌∷◌, Option, Some, None, codes, refl}
+use Rattle.std.specs.Prelude.{◌≡◌, ℕ, false, List, [], ◌∷◌, Option, Some, codes, refl}
 use Rattle.std.specs.Char.{encode_utf8}
 use Rattle.scheme_model.specs.Kinds as k
 use Rattle.scheme_model.specs.Data as g
