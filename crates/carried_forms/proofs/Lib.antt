@@ -2,4 +2,7 @@ pub mod ShownCarried  -- Carried forms and the work of an event in the notation 
 pub mod ShownPairs  -- Units that include texts, and their forms that go on, in the notation of rows
 pub mod WorkLaws  -- The work of an event is at most the macro uses of the program that is there after it, and all of them where nothing was open before
 pub mod PairLaws  -- The forms of a unit are paired in order, so no two of them get one number
+pub mod UnitLaws  -- Units that go on are paired one to one, so no two units get one number
+pub mod SameLaws  -- Where nothing changed, units and forms go on as themselves
+pub mod CarriedLaws  -- The carried forms are exactly those that go on, were worked on and ask alike
 pub mod rows

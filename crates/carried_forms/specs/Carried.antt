@@ -1,6 +1,6 @@
 -- The forms that are carried from a program to the next, since what they ask of what is around them has the same answers there, and the
 -- work of an event: the macro uses of all forms that aren't carried.
-use Rattle.std.specs.Prelude.{ℕ, ◌+◌, ◌==◌, List, [], ◌∷◌, ◌++◌, Bool, true, false, ◌&&◌, Option, Some, None, if◌then◌else◌}
+use Rattle.std.specs.Prelude.{◌≡◌, ◌⊎◌, ℕ, ◌+◌, ◌==◌, List, [], ◌∷◌, ◌++◌, Bool, true, false, ◌&&◌, Option, Some, None, if◌then◌else◌}
 use Rattle.std.specs.List.{list_all}
 use Rattle.scheme_model.specs.Substitution.{Clock}
 use Rattle.scheme_model.specs.Program.{enough_turns}
@@ -48,6 +48,19 @@ carried_in r us vs b a (q ∷ qs) =
 abbrev pub carried_by : Renumbering → List WorkedUnit → List WorkedUnit → List UnitPair → List (ℕ × ℕ)
 carried_by r us vs [] = []
 carried_by r us vs (p ∷ ps) = carried_in r us vs p.before p.after p.forms ++ carried_by r us vs ps
+
+abbrev pub IsIn : {X : Type 0} → X → List X → Type 0
+IsIn x [] = ⊥
+IsIn x (y ∷ ys) = (x ≡ y) ⊎ IsIn x ys
+
+-- a form that goes on in one of these units, was worked on before and after, and asks alike
+pub record IsCarried (r : Renumbering) (us vs : List WorkedUnit) (ps : List UnitPair) (c : ℕ × ℕ) : Type 0 where
+  pub unit : UnitPair
+  pub goes_on : IsIn unit ps
+  pub forms : ℕ × ℕ
+  pub with_it : IsIn forms unit.forms
+  pub alike : both_alike r (worked_at us unit.before forms.0) (worked_at vs unit.after forms.1) ≡ true
+  pub is : c ≡ (unit.after, forms.1)
 
 -- the carried forms by their units and numbers afterwards
 abbrev pub carried : (before after : List OpenDocument) → List (ℕ × ℕ)

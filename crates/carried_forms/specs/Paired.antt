@@ -1,5 +1,5 @@
 -- Which units and forms of a program go on in the next one, by their texts alone, and which numbers they have there.
-use Rattle.std.specs.Prelude.{ℕ, zero, suc, ◌+◌, ◌-◌, ◌==◌, ◌≤◌, ◌<◌, List, [], ◌∷◌, ◌++◌, length, reverse, drop, Bool, true, false, not, ◌&&◌, Option, Some, None, if◌then◌else◌}
+use Rattle.std.specs.Prelude.{◌≡◌, ℕ, zero, suc, ◌+◌, ◌-◌, ◌==◌, ◌≤◌, ◌<◌, List, [], ◌∷◌, ◌++◌, length, reverse, drop, Bool, true, false, not, ◌&&◌, Option, Some, None, if◌then◌else◌}
 use Rattle.std.specs.List.{list_any}
 use Rattle.std.specs.Str.{bytes_eq}
 use Rattle.scheme_model.specs.Trees.{Tree}
@@ -87,6 +87,20 @@ same_kind IsProgram IsProgram = true
 abbrev pub is_same_unit : UnitText → UnitText → Bool
 is_same_unit u v = not u.broken && (not v.broken && (bytes_eq u.uri v.uri && (same_kind u.kind v.kind && same_option same_library u.name v.name)))
 
+-- no two units that aren't broken are of one document, kind and name
+abbrev pub IsAlone : UnitText → List UnitText → Type 0
+IsAlone u [] = Unit {0}
+IsAlone u (v ∷ vs) = (is_same_unit u v ≡ false) × IsAlone u vs
+
+abbrev pub AreTold : List UnitText → Type 0
+AreTold [] = Unit {0}
+AreTold (u ∷ us) = IsAlone u us × AreTold us
+
+-- units from a number on are broken where they stand behind the most
+abbrev pub AreWithin : ℕ → List UnitText → Type 0
+AreWithin n [] = Unit {0}
+AreWithin n (u ∷ us) = (prelude_unit ≤ n → u.broken ≡ true) × AreWithin (suc n) us
+
 abbrev pub with_forms : (before after size : ℕ) → Option (List (ℕ × ℕ)) → List UnitPair
 with_forms b a size None = []
 with_forms b a size (Some fs) = record { before = b; after = a; size = size; forms = fs } ∷ []
@@ -102,6 +116,12 @@ pairs_from b (u ∷ us) vs = pair_of b u 0 vs ++ pairs_from (suc b) us vs
 
 abbrev pub unit_pairs : List UnitText → List UnitText → List UnitPair
 unit_pairs us vs = pairs_from 0 us vs
+
+-- each unit that isn't broken with itself, and all its forms
+abbrev pub with_themselves : ℕ → List UnitText → List UnitPair
+with_themselves n [] = []
+with_themselves n (u ∷ us) =
+    (if u.broken then [] else record { before = n; after = n; size = length u.forms; forms = in_step 0 0 (length u.forms) } ∷ []) ++ with_themselves (suc n) us
 
 -- ---- numbers
 

@@ -1,14 +1,33 @@
 //! Laws of the definition. Each is the contract of a function that does nothing.
 ghost use Rattle.std.specs.Prelude.{◌≡◌, ◌≤◌, ℕ, List, [], length};
 ghost use Rattle.macro_uses.specs.MacroUses.{program_uses};
-ghost use Rattle.carried_forms.specs.Paired.{FormText, UnitText, by_ends, Rise, unit_pairs, renumbering};
-ghost use Rattle.carried_forms.specs.Worked.{OpenDocument, read_documents};
-ghost use Rattle.carried_forms.specs.Carried.{work};
+ghost use Rattle.carried_forms.specs.Renumbering.{Renumbering};
+ghost use Rattle.carried_forms.specs.Paired.{FormText, UnitText, UnitPair, by_ends, Rise, AreTold, AreWithin, unit_pairs, with_themselves, renumbering};
+ghost use Rattle.carried_forms.specs.Worked.{WorkedUnit, OpenDocument, read_documents};
+ghost use Rattle.carried_forms.specs.Carried.{IsIn, IsCarried, carried_by, work};
 
 /// The forms of a unit are paired one to one and in their order, and no two forms of a unit get one number, whether they go on or not.
 pub fn forms_are_paired_in_order()
     ensures order { (fs gs : List FormText) → Rise 0 0 (length fs) (length gs) (by_ends fs gs) }
     ensures numbers { (us vs : List UnitText) (u f g : ℕ) → (renumbering (unit_pairs us vs)).form u f ≡ (renumbering (unit_pairs us vs)).form u g → f ≡ g }
+{}
+
+/// Units get numbers one to one, whether they go on or not: before the event no two units that aren't broken as a whole are of one document, kind
+/// and name, and after it units behind the most are broken.
+pub fn units_are_numbered_apart()
+    ensures { (us vs : List UnitText) → AreTold us → AreWithin 0 vs → (u v : ℕ) → (renumbering (unit_pairs us vs)).unit u ≡ (renumbering (unit_pairs us vs)).unit v → u ≡ v }
+{}
+
+/// Where nothing changed each unit that isn't broken goes on as itself with all its forms, where no two such units are of one document, kind and
+/// name.
+pub fn nothing_changed()
+    ensures { (us : List UnitText) → AreTold us → unit_pairs us us ≡ with_themselves 0 us }
+{}
+
+/// The carried forms are exactly those that go on, were worked on before and after, and have the same answers to all that they ask.
+pub fn carried_exactly()
+    ensures only { (r : Renumbering) (us vs : List WorkedUnit) (ps : List UnitPair) (c : ℕ × ℕ) → IsIn c (carried_by r us vs ps) → IsCarried r us vs ps c }
+    ensures all { (r : Renumbering) (us vs : List WorkedUnit) (ps : List UnitPair) (c : ℕ × ℕ) → IsCarried r us vs ps c → IsIn c (carried_by r us vs ps) }
 {}
 
 /// The work of an event is at most the macro uses of the program that is there after it; it is all of them where nothing was open before, and

@@ -315,3 +315,7 @@ values_and_records_carried = refl
 pub values_and_records_redefined : carried_rows (((codes "file:///a.scm"), Some (((g.list (p 0 40 0 121) (g.part (g.atom (p 1 1 1 15) (g.spelled (k.Name (codes "define-library") false))) (g.part (g.list (p 2 4 16 19) (g.part (g.atom (p 3 3 17 18) (g.spelled (k.Name (codes "l") false))) g.none)) (g.part (g.list (p 5 11 20 42) (g.part (g.atom (p 6 6 21 27) (g.spelled (k.Name (codes "import") false))) (g.part (g.list (p 7 10 28 41) (g.part (g.atom (p 8 8 29 35) (g.spelled (k.Name (codes "scheme") false))) (g.part (g.atom (p 9 9 36 40) (g.spelled (k.Name (codes "base") false))) g.none))) g.none))) (g.part (g.list (p 12 39 43 120) (g.part (g.atom (p 13 13 44 49) (g.spelled (k.Name (codes "begin") false))) (g.part (g.list (p 14 26 50 88) (g.part (g.atom (p 15 15 51 69) (g.spelled (k.Name (codes "define-record-type") false))) (g.part (g.atom (p 16 16 70 71) (g.spelled (k.Name (codes "p") false))) (g.part (g.list (p 17 20 72 77) (g.part (g.atom (p 18 18 73 74) (g.spelled (k.Name (codes "q") false))) (g.part (g.atom (p 19 19 75 76) (g.spelled (k.Name (codes "x") false))) g.none))) (g.part (g.atom (p 21 21 78 80) (g.spelled (k.Name (codes "p?") false))) (g.part (g.list (p 22 25 81 87) (g.part (g.atom (p 23 23 82 83) (g.spelled (k.Name (codes "x") false))) (g.part (g.atom (p 24 24 84 86) (g.spelled (k.Name (codes "px") false))) g.none))) g.none)))))) (g.part (g.list (p 27 38 89 119) (g.part (g.atom (p 28 28 90 103) (g.spelled (k.Name (codes "define-values") false))) (g.part (g.list (p 29 33 104 111) (g.part (g.atom (p 30 30 105 106) (g.spelled (k.Name (codes "a") false))) (g.tail (g.atom (p 32 32 109 110) (g.spelled (k.Name (codes "b") false)))))) (g.part (g.list (p 34 37 112 118) (g.part (g.atom (p 35 35 113 115) (g.spelled (k.Name (codes "px") false))) (g.part (g.atom (p 36 36 116 117) (g.spelled (k.Numeral (codes "1")))) g.none))) g.none)))) g.none)))) g.none)))))) ∷ [])) ∷ []) (((codes "file:///a.scm"), Some (((g.list (p 0 45 0 134) (g.part (g.atom (p 1 1 1 15) (g.spelled (k.Name (codes "define-library") false))) (g.part (g.list (p 2 4 16 19) (g.part (g.atom (p 3 3 17 18) (g.spelled (k.Name (codes "l") false))) g.none)) (g.part (g.list (p 5 11 20 42) (g.part (g.atom (p 6 6 21 27) (g.spelled (k.Name (codes "import") false))) (g.part (g.list (p 7 10 28 41) (g.part (g.atom (p 8 8 29 35) (g.spelled (k.Name (codes "scheme") false))) (g.part (g.atom (p 9 9 36 40) (g.spelled (k.Name (codes "base") false))) g.none))) g.none))) (g.part (g.list (p 12 44 43 133) (g.part (g.atom (p 13 13 44 49) (g.spelled (k.Name (codes "begin") false))) (g.part (g.list (p 14 18 50 62) (g.part (g.atom (p 15 15 51 57) (g.spelled (k.Name (codes "define") false))) (g.part (g.atom (p 16 16 58 59) (g.spelled (k.Name (codes "b") false))) (g.part (g.atom (p 17 17 60 61) (g.spelled (k.Numeral (codes "0")))) g.none)))) (g.part (g.list (p 19 31 63 101) (g.part (g.atom (p 20 20 64 82) (g.spelled (k.Name (codes "define-record-type") false))) (g.part (g.atom (p 21 21 83 84) (g.spelled (k.Name (codes "p") false))) (g.part (g.list (p 22 25 85 90) (g.part (g.atom (p 23 23 86 87) (g.spelled (k.Name (codes "q") false))) (g.part (g.atom (p 24 24 88 89) (g.spelled (k.Name (codes "x") false))) g.none))) (g.part (g.atom (p 26 26 91 93) (g.spelled (k.Name (codes "p?") false))) (g.part (g.list (p 27 30 94 100) (g.part (g.atom (p 28 28 95 96) (g.spelled (k.Name (codes "x") false))) (g.part (g.atom (p 29 29 97 99) (g.spelled (k.Name (codes "px") false))) g.none))) g.none)))))) (g.part (g.list (p 32 43 102 132) (g.part (g.atom (p 33 33 103 116) (g.spelled (k.Name (codes "define-values") false))) (g.part (g.list (p 34 38 117 124) (g.part (g.atom (p 35 35 118 119) (g.spelled (k.Name (codes "a") false))) (g.tail (g.atom (p 37 37 122 123) (g.spelled (k.Name (codes "b") false)))))) (g.part (g.list (p 39 42 125 131) (g.part (g.atom (p 40 40 126 128) (g.spelled (k.Name (codes "px") false))) (g.part (g.atom (p 41 41 129 130) (g.spelled (k.Numeral (codes "1")))) g.none))) g.none)))) g.none))))) g.none)))))) ∷ [])) ∷ []) ≡ ((0, 2) ∷ [], 0)
 unfolding base_names standard_libraries prelude encode_utf8
 values_and_records_redefined = refl
+
+pub asked_the_names_in_a_quasiquotation : carried_rows (((codes "file:///a.scm"), Some (((g.list (p 0 7 0 20) (g.part (g.atom (p 1 1 1 11) (g.spelled (k.Name (codes "quasiquote") false))) (g.part (g.list (p 2 6 12 19) (g.part (g.atom (p 3 3 13 14) (g.spelled (k.Name (codes "a") false))) (g.part (g.atom (p 4 4 15 16) (g.spelled (k.Name (codes "b") false))) (g.part (g.atom (p 5 5 17 18) (g.spelled (k.Numeral (codes "1")))) g.none)))) g.none)))) ∷ ((g.list (p 8 14 21 39) (g.part (g.atom (p 9 9 22 32) (g.spelled (k.Name (codes "quasiquote") false))) (g.part (g.list (p 10 13 33 38) (g.part (g.atom (p 11 11 34 35) (g.spelled (k.Name (codes "a") false))) (g.part (g.atom (p 12 12 36 37) (g.spelled (k.Numeral (codes "1")))) g.none))) g.none)))) ∷ [])) ∷ []) (((codes "file:///a.scm"), Some (((g.list (p 0 7 0 20) (g.part (g.atom (p 1 1 1 11) (g.spelled (k.Name (codes "quasiquote") false))) (g.part (g.list (p 2 6 12 19) (g.part (g.atom (p 3 3 13 14) (g.spelled (k.Name (codes "a") false))) (g.part (g.atom (p 4 4 15 16) (g.spelled (k.Name (codes "b") false))) (g.part (g.atom (p 5 5 17 18) (g.spelled (k.Numeral (codes "1")))) g.none)))) g.none)))) ∷ ((g.list (p 8 14 21 39) (g.part (g.atom (p 9 9 22 32) (g.spelled (k.Name (codes "quasiquote") false))) (g.part (g.list (p 10 13 33 38) (g.part (g.atom (p 11 11 34 35) (g.spelled (k.Name (codes "a") false))) (g.part (g.atom (p 12 12 36 37) (g.spelled (k.Numeral (codes "1")))) g.none))) g.none)))) ∷ ((g.list (p 15 19 40 52) (g.part (g.atom (p 16 16 41 47) (g.spelled (k.Name (codes "define") false))) (g.part (g.atom (p 17 17 48 49) (g.spelled (k.Name (codes "b") false))) (g.part (g.atom (p 18 18 50 51) (g.spelled (k.Numeral (codes "1")))) g.none))))) ∷ [])) ∷ []) ≡ ((0, 1) ∷ [], 0)
+unfolding base_names standard_libraries prelude encode_utf8
+asked_the_names_in_a_quasiquotation = refl

@@ -71,3 +71,7 @@ part_of_another_name = refl
 pub bad_declaration_in_a_part : pair_rows (t (((codes "/l.sld")) ∷ ((codes "/p.scm")) ∷ []) ((0, (codes "l.sld"), 0) ∷ (0, (codes "p.scm"), 1) ∷ (1, (codes "l.sld"), 0) ∷ (1, (codes "p.scm"), 1) ∷ (0, (codes "/l.sld"), 0) ∷ (0, (codes "/p.scm"), 1) ∷ (1, (codes "/l.sld"), 0) ∷ (1, (codes "/p.scm"), 1) ∷ []) ((Some (((g.list (p 0 23 0 96) (g.part (g.atom (p 1 1 1 15) (g.spelled (k.Name (codes "define-library") false))) (g.part (g.list (p 2 4 16 19) (g.part (g.atom (p 3 3 17 18) (g.spelled (k.Name (codes "l") false))) g.none)) (g.part (g.list (p 5 11 20 42) (g.part (g.atom (p 6 6 21 27) (g.spelled (k.Name (codes "import") false))) (g.part (g.list (p 7 10 28 41) (g.part (g.atom (p 8 8 29 35) (g.spelled (k.Name (codes "scheme") false))) (g.part (g.atom (p 9 9 36 40) (g.spelled (k.Name (codes "base") false))) g.none))) g.none))) (g.part (g.list (p 12 15 43 81) (g.part (g.atom (p 13 13 44 72) (g.spelled (k.Name (codes "include-library-declarations") false))) (g.part (g.atom (p 14 14 73 80) (g.spelled (k.Quoted (codes "p.scm")))) g.none))) (g.part (g.list (p 16 22 82 95) (g.part (g.atom (p 17 17 83 88) (g.spelled (k.Name (codes "begin") false))) (g.part (g.list (p 18 21 89 94) (g.part (g.atom (p 19 19 90 91) (g.spelled (k.Name (codes "f") false))) (g.part (g.atom (p 20 20 92 93) (g.spelled (k.Numeral (codes "1")))) g.none))) g.none))) g.none))))))) ∷ [])) ∷ (Some (((g.list (p 0 6 0 13) (g.part (g.atom (p 1 1 1 6) (g.spelled (k.Name (codes "begin") false))) (g.part (g.list (p 2 5 7 12) (g.part (g.atom (p 3 3 8 9) (g.spelled (k.Name (codes "f") false))) (g.part (g.atom (p 4 4 10 11) (g.spelled (k.Numeral (codes "1")))) g.none))) g.none)))) ∷ [])) ∷ [])) (t (((codes "/l.sld")) ∷ ((codes "/p.scm")) ∷ []) ((0, (codes "l.sld"), 0) ∷ (0, (codes "p.scm"), 1) ∷ (1, (codes "l.sld"), 0) ∷ (1, (codes "p.scm"), 1) ∷ (0, (codes "/l.sld"), 0) ∷ (0, (codes "/p.scm"), 1) ∷ (1, (codes "/l.sld"), 0) ∷ (1, (codes "/p.scm"), 1) ∷ []) ((Some (((g.list (p 0 23 0 96) (g.part (g.atom (p 1 1 1 15) (g.spelled (k.Name (codes "define-library") false))) (g.part (g.list (p 2 4 16 19) (g.part (g.atom (p 3 3 17 18) (g.spelled (k.Name (codes "l") false))) g.none)) (g.part (g.list (p 5 11 20 42) (g.part (g.atom (p 6 6 21 27) (g.spelled (k.Name (codes "import") false))) (g.part (g.list (p 7 10 28 41) (g.part (g.atom (p 8 8 29 35) (g.spelled (k.Name (codes "scheme") false))) (g.part (g.atom (p 9 9 36 40) (g.spelled (k.Name (codes "base") false))) g.none))) g.none))) (g.part (g.list (p 12 15 43 81) (g.part (g.atom (p 13 13 44 72) (g.spelled (k.Name (codes "include-library-declarations") false))) (g.part (g.atom (p 14 14 73 80) (g.spelled (k.Quoted (codes "p.scm")))) g.none))) (g.part (g.list (p 16 22 82 95) (g.part (g.atom (p 17 17 83 88) (g.spelled (k.Name (codes "begin") false))) (g.part (g.list (p 18 21 89 94) (g.part (g.atom (p 19 19 90 91) (g.spelled (k.Name (codes "f") false))) (g.part (g.atom (p 20 20 92 93) (g.spelled (k.Numeral (codes "1")))) g.none))) g.none))) g.none))))))) ∷ [])) ∷ (Some (((g.list (p 0 3 0 5) (g.part (g.atom (p 1 1 1 2) (g.spelled (k.Name (codes "f") false))) (g.part (g.atom (p 2 2 3 4) (g.spelled (k.Numeral (codes "1")))) g.none)))) ∷ [])) ∷ [])) ≡ ((1, 1, ([])) ∷ [])
 unfolding encode_utf8
 bad_declaration_in_a_part = refl
+
+pub included_form_between_others_that_give_nothing : pair_rows (t (((codes "/l.sld")) ∷ ((codes "/p.scm")) ∷ []) ((0, (codes "l.sld"), 0) ∷ (0, (codes "p.scm"), 1) ∷ (1, (codes "l.sld"), 0) ∷ (1, (codes "p.scm"), 1) ∷ (0, (codes "/l.sld"), 0) ∷ (0, (codes "/p.scm"), 1) ∷ (1, (codes "/l.sld"), 0) ∷ (1, (codes "/p.scm"), 1) ∷ []) ((Some (((g.list (p 0 23 0 96) (g.part (g.atom (p 1 1 1 15) (g.spelled (k.Name (codes "define-library") false))) (g.part (g.list (p 2 4 16 19) (g.part (g.atom (p 3 3 17 18) (g.spelled (k.Name (codes "l") false))) g.none)) (g.part (g.list (p 5 11 20 42) (g.part (g.atom (p 6 6 21 27) (g.spelled (k.Name (codes "import") false))) (g.part (g.list (p 7 10 28 41) (g.part (g.atom (p 8 8 29 35) (g.spelled (k.Name (codes "scheme") false))) (g.part (g.atom (p 9 9 36 40) (g.spelled (k.Name (codes "base") false))) g.none))) g.none))) (g.part (g.list (p 12 15 43 81) (g.part (g.atom (p 13 13 44 72) (g.spelled (k.Name (codes "include-library-declarations") false))) (g.part (g.atom (p 14 14 73 80) (g.spelled (k.Quoted (codes "p.scm")))) g.none))) (g.part (g.list (p 16 22 82 95) (g.part (g.atom (p 17 17 83 88) (g.spelled (k.Name (codes "begin") false))) (g.part (g.list (p 18 21 89 94) (g.part (g.atom (p 19 19 90 91) (g.spelled (k.Name (codes "f") false))) (g.part (g.atom (p 20 20 92 93) (g.spelled (k.Numeral (codes "1")))) g.none))) g.none))) g.none))))))) ∷ [])) ∷ (Some (((g.list (p 0 2 0 7) (g.part (g.atom (p 1 1 1 6) (g.spelled (k.Name (codes "begin") false))) g.none))) ∷ ((g.list (p 3 10 8 28) (g.part (g.atom (p 4 4 9 14) (g.spelled (k.Name (codes "begin") false))) (g.part (g.list (p 5 9 15 27) (g.part (g.atom (p 6 6 16 22) (g.spelled (k.Name (codes "define") false))) (g.part (g.atom (p 7 7 23 24) (g.spelled (k.Name (codes "f") false))) (g.part (g.atom (p 8 8 25 26) (g.spelled (k.Numeral (codes "1")))) g.none)))) g.none)))) ∷ ((g.list (p 11 13 29 36) (g.part (g.atom (p 12 12 30 35) (g.spelled (k.Name (codes "begin") false))) g.none))) ∷ [])) ∷ [])) (t (((codes "/l.sld")) ∷ ((codes "/p.scm")) ∷ []) ((0, (codes "l.sld"), 0) ∷ (0, (codes "p.scm"), 1) ∷ (1, (codes "l.sld"), 0) ∷ (1, (codes "p.scm"), 1) ∷ (0, (codes "/l.sld"), 0) ∷ (0, (codes "/p.scm"), 1) ∷ (1, (codes "/l.sld"), 0) ∷ (1, (codes "/p.scm"), 1) ∷ []) ((Some (((g.list (p 0 23 0 96) (g.part (g.atom (p 1 1 1 15) (g.spelled (k.Name (codes "define-library") false))) (g.part (g.list (p 2 4 16 19) (g.part (g.atom (p 3 3 17 18) (g.spelled (k.Name (codes "l") false))) g.none)) (g.part (g.list (p 5 11 20 42) (g.part (g.atom (p 6 6 21 27) (g.spelled (k.Name (codes "import") false))) (g.part (g.list (p 7 10 28 41) (g.part (g.atom (p 8 8 29 35) (g.spelled (k.Name (codes "scheme") false))) (g.part (g.atom (p 9 9 36 40) (g.spelled (k.Name (codes "base") false))) g.none))) g.none))) (g.part (g.list (p 12 15 43 81) (g.part (g.atom (p 13 13 44 72) (g.spelled (k.Name (codes "include-library-declarations") false))) (g.part (g.atom (p 14 14 73 80) (g.spelled (k.Quoted (codes "p.scm")))) g.none))) (g.part (g.list (p 16 22 82 95) (g.part (g.atom (p 17 17 83 88) (g.spelled (k.Name (codes "begin") false))) (g.part (g.list (p 18 21 89 94) (g.part (g.atom (p 19 19 90 91) (g.spelled (k.Name (codes "f") false))) (g.part (g.atom (p 20 20 92 93) (g.spelled (k.Numeral (codes "1")))) g.none))) g.none))) g.none))))))) ∷ [])) ∷ (Some (((g.list (p 0 5 0 20) (g.part (g.atom (p 1 1 1 12) (g.spelled (k.Name (codes "cond-expand") false))) (g.part (g.list (p 2 4 13 19) (g.part (g.atom (p 3 3 14 18) (g.spelled (k.Name (codes "else") false))) g.none)) g.none)))) ∷ ((g.list (p 6 13 21 41) (g.part (g.atom (p 7 7 22 27) (g.spelled (k.Name (codes "begin") false))) (g.part (g.list (p 8 12 28 40) (g.part (g.atom (p 9 9 29 35) (g.spelled (k.Name (codes "define") false))) (g.part (g.atom (p 10 10 36 37) (g.spelled (k.Name (codes "f") false))) (g.part (g.atom (p 11 11 38 39) (g.spelled (k.Numeral (codes "1")))) g.none)))) g.none)))) ∷ ((g.list (p 14 19 42 62) (g.part (g.atom (p 15 15 43 54) (g.spelled (k.Name (codes "cond-expand") false))) (g.part (g.list (p 16 18 55 61) (g.part (g.atom (p 17 17 56 60) (g.spelled (k.Name (codes "else") false))) g.none)) g.none)))) ∷ [])) ∷ [])) ≡ ((0, 0, ((0, 0) ∷ (1, 1) ∷ (2, 2) ∷ [])) ∷ (1, 1, ([])) ∷ [])
+unfolding encode_utf8
+included_form_between_others_that_give_nothing = refl
