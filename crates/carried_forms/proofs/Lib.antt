@@ -6,4 +6,5 @@ pub mod UnitLaws  -- Units that go on are paired one to one, so no two units get
 pub mod SameLaws  -- Where nothing changed, units and forms go on as themselves
 pub mod CarriedLaws  -- The carried forms are exactly those that go on, were worked on and ask alike
 pub mod ProgramUnits  -- The units of programs are told apart
+pub mod AnswerLaws  -- Answers that are told to be the same are equal
 pub mod rows
