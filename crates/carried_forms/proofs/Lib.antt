@@ -5,4 +5,6 @@ pub mod PairLaws  -- The forms of a unit are paired in order, so no two of them 
 pub mod UnitLaws  -- Units that go on are paired one to one, so no two units get one number
 pub mod SameLaws  -- Where nothing changed, units and forms go on as themselves
 pub mod CarriedLaws  -- The carried forms are exactly those that go on, were worked on and ask alike
+pub mod ProgramUnits  -- The units of programs are told apart
+pub mod AnswerLaws  -- Answers that are told to be the same are equal
 pub mod rows

@@ -1,5 +1,5 @@
 -- The units of a program that are worked on, each form with what is around it at its two turns, and what it counted.
-use Rattle.std.specs.Prelude.{ℕ, zero, suc, List, [], ◌∷◌, ◌++◌, map, length, Bool, true, false, Option, Some, None, Result}
+use Rattle.std.specs.Prelude.{◌≡◌, ℕ, zero, suc, List, [], ◌∷◌, ◌++◌, map, length, Bool, true, false, Option, Some, None, Result}
 use Rattle.scheme_model.specs.Ident.{Ident, Written}
 use Rattle.scheme_model.specs.Data.{place_of}
 use Rattle.scheme_model.specs.DataTrees.{tree_of}
@@ -90,6 +90,15 @@ worked_units all ps known (suc n) g =
 pub record OpenDocument : Type 0 where
   pub uri : List ℕ
   pub data_in : Document
+
+-- no uri stands twice
+abbrev pub IsElsewhere : List ℕ → List OpenDocument → Type 0
+IsElsewhere uri [] = Unit {0}
+IsElsewhere uri (d ∷ ds) = (uri ≡ d.uri → ⊥) × IsElsewhere uri ds
+
+abbrev pub AreOpenOnce : List OpenDocument → Type 0
+AreOpenOnce [] = Unit {0}
+AreOpenOnce (d ∷ ds) = IsElsewhere d.uri ds × AreOpenOnce ds
 
 abbrev pub read_documents : List OpenDocument → List Document
 read_documents ds = map (λ d. d.data_in) ds

@@ -1,10 +1,11 @@
 //! Laws of the definition. Each is the contract of a function that does nothing.
-ghost use Rattle.std.specs.Prelude.{◌≡◌, ◌≤◌, ℕ, List, [], length};
+ghost use Rattle.std.specs.Prelude.{◌≡◌, ◌≤◌, ℕ, true, List, [], length};
 ghost use Rattle.macro_uses.specs.MacroUses.{program_uses};
-ghost use Rattle.carried_forms.specs.Renumbering.{Renumbering};
+ghost use Rattle.scheme_model.specs.Questions.{Around, Moment, Question, answer};
+ghost use Rattle.carried_forms.specs.Renumbering.{Renumbering, new_moment, new_question, new_answer};
 ghost use Rattle.carried_forms.specs.Paired.{FormText, UnitText, UnitPair, by_ends, Rise, AreTold, AreWithin, unit_pairs, with_themselves, renumbering};
-ghost use Rattle.carried_forms.specs.Worked.{WorkedUnit, OpenDocument, read_documents};
-ghost use Rattle.carried_forms.specs.Carried.{IsIn, IsCarried, carried_by, work};
+ghost use Rattle.carried_forms.specs.Worked.{WorkedUnit, OpenDocument, AreOpenOnce, read_documents, unit_texts};
+ghost use Rattle.carried_forms.specs.Carried.{has_same_answer, IsIn, IsCarried, carried_by, work};
 
 /// The forms of a unit are paired one to one and in their order, and no two forms of a unit get one number, whether they go on or not.
 pub fn forms_are_paired_in_order()
@@ -18,10 +19,22 @@ pub fn units_are_numbered_apart()
     ensures { (us vs : List UnitText) → AreTold us → AreWithin 0 vs → (u v : ℕ) → (renumbering (unit_pairs us vs)).unit u ≡ (renumbering (unit_pairs us vs)).unit v → u ≡ v }
 {}
 
+/// Programs are so, where no uri is open twice: of their units that aren't broken as a whole no two are of one document, kind and name, and units
+/// behind the most are broken (R7RS 5.1, 5.6).
+pub fn programs_tell_their_units()
+    ensures told { (ds : List OpenDocument) → AreOpenOnce ds → AreTold (unit_texts ds) }
+    ensures within { (ds : List OpenDocument) → AreOpenOnce ds → AreWithin 0 (unit_texts ds) }
+{}
+
 /// Where nothing changed each unit that isn't broken goes on as itself with all its forms, where no two such units are of one document, kind and
 /// name.
 pub fn nothing_changed()
     ensures { (us : List UnitText) → AreTold us → unit_pairs us us ≡ with_themselves 0 us }
+{}
+
+/// The test for one answer tells that it is one: where it holds, the answer there is the answer here in the new numbers.
+pub fn same_answers_are_equal()
+    ensures { (r : Renumbering) (w v : Around) (n : Moment) (q : Question) → has_same_answer r w v (n, q) ≡ true → answer v (new_moment r n) (new_question r q) ≡ new_answer r (answer w n q) }
 {}
 
 /// The carried forms are exactly those that go on, were worked on before and after, and have the same answers to all that they ask.
