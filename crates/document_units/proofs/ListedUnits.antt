@@ -62,7 +62,7 @@ kinds_same kinds.Program = refl
 
 declared_read : (fs : List UnitForm) → FormsRead fs → AreDeclaredRead fs
 declared_read [] h = tt
-declared_read (f ∷ fs) h = (λ _. h.0, declared_read fs h.1)
+declared_read (f ∷ fs) h = ((λ _. h.0.0, h.0.1), declared_read fs h.1)
 
 specs_match : (spelled : LibraryName → List ℕ) (cs : List code_import.ImportSpec) (ss : List ImportSpec) → AreSpecs cs ss → AreImports spelled cs ss → AllMatch (IsSpec spelled) cs ss
 specs_match spelled [] [] h k = tt

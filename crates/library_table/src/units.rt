@@ -1,7 +1,12 @@
 //! Units as they are read from texts (R7RS 5.1, 5.6.1), before anything is expanded.
+ghost use Rattle.std.specs.Prelude.{◌≡◌};
+ghost use Rattle.scheme_model.specs.Declarations.{home_of};
+ghost use Rattle.library_table.specs.UnitsRead.{form_of};
+
 use datum_reader::Datum;
 use import_sets::{ImportSet, SetName};
 use ls_base::{Items, Span, Text};
+use scheme_model::Home;
 use syntax_tree::units::UnitKind;
 
 /// An import set, with the bytes of the set, of the set inside its outermost modifier, and of its library's name. Without a
@@ -23,11 +28,28 @@ pub struct ExportSpec {
     pub outer: SetName,
 }
 
-/// A form of a unit, and whether it is a library's declaration.
+/// A form of a unit, whether it is a library's declaration, and the home of its text where that is included.
 #[derive(Debug, Drop)]
 pub struct UnitForm {
     pub datum: Datum,
     pub declared: bool,
+    pub home: Option<Home>,
+}
+
+impl UnitForm {
+    /// The home of the form with this number of a unit: that unit, unless its text is included.
+    pub fn home_in(&self, unit: u32, number: u32) -> Home
+        ensures { result ≡ home_of unit number (form_of self.now) }
+    {
+        match self.home {
+            Some(home) => home,
+            None => Home {
+                unit,
+                form: number,
+                first: self.datum.first,
+            },
+        }
+    }
 }
 
 /// A library or a program: its library's name as a text, its first token's bytes, and what it imports, exports and holds.

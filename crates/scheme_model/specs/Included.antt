@@ -3,6 +3,7 @@
 -- `begin`, and as a declaration.
 use Rattle.std.specs.Prelude.{ℕ, zero, suc, ◌+◌, ◌-◌, ◌==◌, nat_lt, List, [], ◌∷◌, ◌++◌, map, length, Bool, true, false, not, ◌&&◌, ◌||◌, Option, Some, None, Result, Ok, Err, codes, if◌then◌else◌}
 use Rattle.std.specs.List.{list_any}
+use Rattle.scheme_model.specs.declared.Home.{Home}
 use Rattle.scheme_model.specs.Data.{Datum, atom, list, vector, bytes, Data, none, part, tail, Place, place_of}
 use Rattle.scheme_model.specs.Trees.{Tree, Trees, no_trees, tree}
 use Rattle.scheme_model.specs.ExpansionFaults.{Fault}
@@ -12,14 +13,8 @@ use Rattle.scheme_model.specs.Includes.{StringAt, includes, includes_declaration
 
 -- ---- forms with their homes
 
--- where the text of an included form stands: the unit of its document's program, and the datum there that it is or stands in, by its number
--- among the data of that program and by its first token
-pub record Home : Type 0 where
-  pub unit : ℕ
-  pub form : ℕ
-  pub first : ℕ
-
--- a datum that is gone through, the document in whose text it stands, and its home where that text is included
+-- a datum that is gone through, the document in whose text it stands, and its home where that text is included: the unit of its
+-- document's program, and the datum there that it is or stands in, by its number among the data of that program and by its first token
 pub record Homed : Type 0 where
   pub document : ℕ
   pub home : Option Home

@@ -5,9 +5,10 @@ use Rattle.std.specs.List.{list_any}
 use Rattle.std.specs.Str.{bytes_eq}
 use Rattle.scheme_model.specs.Identifiers.{Name, Written}
 use Rattle.scheme_model.specs.Ident.{Written as WrittenIdent}
-use Rattle.scheme_model.specs.Data.{Datum, place_of}
-use Rattle.scheme_model.specs.DataTrees.{tree_of, form_of}
-use Rattle.scheme_model.specs.Trees.{Tree, name, atom, list, vector, no_trees, tree, proper, placed_in}
+use Rattle.scheme_model.specs.Data.{Datum}
+use Rattle.scheme_model.specs.declared.Home.{Home}
+use Rattle.scheme_model.specs.DataTrees.{tree_of, form_as}
+use Rattle.scheme_model.specs.Trees.{Tree, name, atom, list, vector, no_trees, tree, proper, placed_in, placed_by}
 use Rattle.scheme_model.specs.ExpansionFaults.{Named, Fault, IncludeRefused}
 use Rattle.scheme_model.specs.Meaning.{Meaning, Standard, Global}
 use Rattle.scheme_model.specs.Requirements.{LibraryName, Symbol, same_library, Known}
@@ -18,7 +19,7 @@ use Rattle.scheme_model.specs.UnitExpansion.{Formed, unit}
 use Rattle.scheme_model.specs.Prelude.{PreludeMacro, prelude}
 use Rattle.scheme_model.specs.StandardLibraries.{StandardLibrary, standard_libraries, standard}
 use Rattle.scheme_model.specs.Entries.{StandardName, Entry, entry_at, ImportSet, Library, Only, Except, Prefix, Rename, Bad, set_of, library_in, ImportFault, BadSet, entries_of, gather, place_origin}
-use Rattle.scheme_model.specs.Declarations.{UnitForm, UnitKind, IsLibrary, IsProgram, UnitSource, units_in, library_names, list_parts, is_headed}
+use Rattle.scheme_model.specs.Declarations.{UnitForm, home_of, UnitKind, IsLibrary, IsProgram, UnitSource, units_in, library_names, list_parts, is_headed}
 
 -- ---- the units of the documents
 
@@ -95,7 +96,7 @@ library_datum Bad d = d
 abbrev pub spec_with : Datum → ImportSet → ImportSpec
 spec_with d set = record { set = set; whole = d; library = library_datum set d }
 
--- a set in a form, whose first token has this number
+-- a set in a form, by the form's home
 abbrev pub spec_of : ℕ → ℕ → ℕ → Datum → ImportSpec
 spec_of unit form first d = spec_with d (set_of (tree_of (λ s. s) (placed_in unit form first) d))
 
@@ -105,7 +106,8 @@ behind_first (Some []) = []
 behind_first (Some (d ∷ ds)) = ds
 
 abbrev pub specs_in : ℕ → ℕ → UnitForm → List ImportSpec
-specs_in unit form f = if is_import f then map (spec_of unit form (place_of f.datum).first) (behind_first (list_parts f.datum)) else []
+specs_in unit form f =
+    let h = home_of unit form f in if is_import f then map (spec_of h.unit h.form h.first) (behind_first (list_parts f.datum)) else []
 
 abbrev pub specs_from : ℕ → ℕ → List UnitForm → List ImportSpec
 specs_from unit form [] = []
@@ -135,13 +137,14 @@ export_of form (list (tree r (tree (atom a p) ts)) tail o) = []
 export_of form (list (tree r (tree (list us end p) ts)) tail o) = []
 export_of form (list (tree r (tree (vector us p) ts)) tail o) = []
 
-abbrev pub exports_with : ℕ → ℕ → ℕ → List Datum → List ExportSpec
-exports_with unit form first [] = []
-exports_with unit form first (d ∷ ds) = export_of form (tree_of (λ s. s) (placed_in unit form first) d) ++ exports_with unit form first ds
+-- the exports in a form with this number and this home
+abbrev pub exports_with : (form : ℕ) → Home → List Datum → List ExportSpec
+exports_with form h [] = []
+exports_with form h (d ∷ ds) = export_of form (tree_of (λ s. s) (placed_by h) d) ++ exports_with form h ds
 
 abbrev pub exports_in : ℕ → ℕ → UnitForm → List ExportSpec
 exports_in unit form f =
-    if is_export f then exports_with unit form (place_of f.datum).first (behind_first (list_parts f.datum)) else []
+    if is_export f then exports_with form (home_of unit form f) (behind_first (list_parts f.datum)) else []
 
 abbrev pub exports_from : ℕ → ℕ → List UnitForm → List ExportSpec
 exports_from unit form [] = []
@@ -376,10 +379,10 @@ with_entries n es before u s = if u == n then entry_meaning (entry_at es s) else
 
 -- ---- the forms
 
--- the forms that are expanded, which aren't declarations
+-- the forms that are expanded, which aren't declarations, each by its number and its home
 abbrev pub form_trees : ℕ → ℕ → List UnitForm → List (ℕ × Tree Name)
 form_trees unit form [] = []
-form_trees unit form (f ∷ fs) = if f.declared then form_trees unit (suc form) fs else (form, form_of unit form f.datum) ∷ form_trees unit (suc form) fs
+form_trees unit form (f ∷ fs) = if f.declared then form_trees unit (suc form) fs else (form, form_as unit (home_of unit form f) f.datum) ∷ form_trees unit (suc form) fs
 
 abbrev pub start_of : Prepared → Table → List KeptMacro → Entries → State
 start_of p table macros entry = record {
