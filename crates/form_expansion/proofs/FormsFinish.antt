@@ -388,7 +388,7 @@ module _ (known : Known) (old b c : Bench) (unit form : ℕ) (l : Left Identifie
               table = step_table;
               result = Err x.0;
               met = (searched known).counted step.1;
-              result_is = (e, told, subst (λ (u : ℕ). IsFault c.work.symbols u form e x.0) step_unit x.3);
+              result_is = (e, told, x.3);
               definitions =
                   subst (λ (bs : List code_binder.Binder). AllMatch (IsNumbered c.work.symbols form) (reverse bs) (numbered_in unit form step.1.table)) (sym defines)
                   (subst (λ (u : ℕ). AllMatch (IsNumbered c.work.symbols form) (reverse next.definitions) (numbered_in u form step.1.table)) step_unit goes.counts.definitions);

@@ -106,7 +106,7 @@ abbrev pub IsSetAside : Work → Region → (unit form : ℕ) → code.Declared 
 IsSetAside work region unit form d None (Ok l) = AllMatch (WaitsFor work unit form) d.uses.items l.uses × AllMatch (ItemFor work region unit form) d.aside l.items
 IsSetAside work region unit form d None (Err b) = ⊥
 IsSetAside work region unit form d (Some e) (Ok l) = ⊥
-IsSetAside work region unit form d (Some e) (Err b) = IsFault work.symbols unit form e b
+IsSetAside work region unit form d (Some e) (Err b) = IsFault work.symbols e b
 
 -- a form that isn't broken has space for what it set aside
 abbrev pub HasSpaceLeft : Budget → Option FormFault → Type 0

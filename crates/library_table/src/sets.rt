@@ -235,6 +235,7 @@ pub fn spec_of(alloc: Global, datum: &Datum, home: Home) -> Mem<ImportSpec>
     let inner = inner_span(&set, datum);
     let library = library_span(&set, datum);
     Ok(ImportSpec {
+        unit: home.unit,
         set,
         span: datum.span,
         inner,

@@ -1,8 +1,9 @@
 -- What a document holds (R7RS 5.1, 5.6.1): libraries, whose declarations are flattened, and a program.
-use Rattle.std.specs.Prelude.{ℕ, List, [], ◌∷◌, ◌++◌, map, filter, Bool, true, false, not, ◌&&◌, ◌||◌, Option, Some, None, Result, Ok, Err, codes, if◌then◌else◌}
+use Rattle.std.specs.Prelude.{ℕ, zero, suc, ◌+◌, ◌==◌, nat_le, List, [], ◌∷◌, ◌++◌, map, filter, Bool, true, false, not, ◌&&◌, ◌||◌, Option, Some, None, Result, Ok, Err, codes, if◌then◌else◌}
 use Rattle.std.specs.Option.{is_some}
 use Rattle.std.specs.Str.{bytes_eq, encode_utf8_all}
 use Rattle.scheme_model.specs.declared.Home.{Home}
+use Rattle.scheme_model.specs.declared.Occ.{Occ}
 use Rattle.scheme_model.specs.Kinds.{Leaf, Name, Numeral, Quoted, Character, Truth}
 use Rattle.scheme_model.specs.Data.{Atom, spelled, implied, Datum, atom, list, vector, bytes, Data, none, part, tail, Place, place_of}
 use Rattle.scheme_model.specs.DataTrees.{mark_symbol, tree_of}
@@ -79,9 +80,28 @@ abbrev pub home_or : (unit form : ℕ) → Datum → Option Home → Home
 home_or unit form d None = record { unit = unit; form = form; first = (place_of d).first }
 home_or unit form d (Some h) = h
 
+-- the unit where it is at home
+abbrev pub unit_or : (unit : ℕ) → Option Home → ℕ
+unit_or unit None = unit
+unit_or unit (Some h) = h.unit
+
 -- the home of the form with a number
 abbrev pub home_of : (unit form : ℕ) → UnitForm → Home
 home_of unit form f = home_or unit form f.datum f.home
+
+-- an occurrence is that of a token of a datum whose text has this home
+abbrev pub is_token_of : Home → Datum → Occ → Bool
+is_token_of h d o = h.unit == o.unit && (h.form == o.form && (nat_le (place_of d).first (h.first + o.token) && nat_le (h.first + o.token) (place_of d).last))
+
+-- an occurrence is that of a token of the n-th of forms that are numbered from one on
+abbrev pub holds_at : (unit form : ℕ) → List UnitForm → (n : ℕ) → Occ → Bool
+holds_at unit form [] n o = false
+holds_at unit form (f ∷ fs) zero o = is_token_of (home_of unit form f) f.datum o
+holds_at unit form (f ∷ fs) (suc n) o = holds_at unit (suc form) fs n o
+
+-- the form of a unit with a number holds an occurrence
+abbrev pub forms_hold : (unit : ℕ) → List UnitForm → (form : ℕ) → Occ → Bool
+forms_hold unit fs form o = holds_at unit 0 fs form o
 
 -- the forms, or the first bad declaration
 abbrev pub Flat : Type 0

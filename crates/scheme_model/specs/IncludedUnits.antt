@@ -10,7 +10,7 @@ use Rattle.scheme_model.specs.Data.{Datum, Data, none, part, tail, Place, place_
 use Rattle.scheme_model.specs.DataTrees.{form_as}
 use Rattle.scheme_model.specs.Trees.{Tree, placed_by}
 use Rattle.scheme_model.specs.Requirements.{LibraryName, Known, library_name_of}
-use Rattle.scheme_model.specs.Declarations.{home_or, UnitKind, IsLibrary, IsProgram, name_or, behind_head, is_headed, is_library, is_proper, symbol_tree}
+use Rattle.scheme_model.specs.Declarations.{home_or, is_token_of, UnitKind, IsLibrary, IsProgram, name_or, behind_head, is_headed, is_library, is_proper, symbol_tree}
 use Rattle.scheme_model.specs.Includes.{Document, data_of, Naming, naming, is_on_circle, is_part, usable, program_data, has_program, max_units}
 use Rattle.scheme_model.specs.Included.{Homed, FlatForm, LostString, Listing, Lists, BadAfter, TooLong, Texts, bad, forms_of, declarations, Sources, all_texts, included_data}
 
@@ -47,13 +47,7 @@ included_tree unit f = form_as unit f.home f.datum
 
 -- an occurrence is that of a token of a form
 abbrev pub holds : IncludedForm → Occ → Bool
-holds f o =
-    f.home.unit == o.unit && (f.home.form == o.form && (nat_le (place_of f.datum).first (f.home.first + o.token) && nat_le (f.home.first + o.token) (place_of f.datum).last))
-
--- where a fault stands that names an identifier: there, if that is a token of its form, and else where the form was read that was at work
-abbrev pub fault_place : IncludedForm → (named here : Option Occ) → Option Occ
-fault_place f None here = here
-fault_place f (Some o) here = if holds f o then Some o else here
+holds f o = is_token_of f.home f.datum o
 
 -- ---- units
 

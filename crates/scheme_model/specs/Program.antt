@@ -72,8 +72,9 @@ is_include f = is_declared (codes "include") f || (is_declared (codes "include-c
 
 -- ---- imports
 
--- an import set with the data of the set and of its library's name
+-- an import set with the data of the set and of its library's name, and a unit of the document where they stand
 pub record ImportSpec : Type 0 where
+  pub unit : ℕ
   pub set : ImportSet
   pub whole : Datum
   pub library : Datum
@@ -93,12 +94,12 @@ library_datum (Prefix s p) d = library_datum s (second_or d (list_parts d))
 library_datum (Rename s ps) d = library_datum s (second_or d (list_parts d))
 library_datum Bad d = d
 
-abbrev pub spec_with : Datum → ImportSet → ImportSpec
-spec_with d set = record { set = set; whole = d; library = library_datum set d }
+abbrev pub spec_with : (unit : ℕ) → Datum → ImportSet → ImportSpec
+spec_with unit d set = record { unit = unit; set = set; whole = d; library = library_datum set d }
 
 -- a set in a form, by the form's home
 abbrev pub spec_of : ℕ → ℕ → ℕ → Datum → ImportSpec
-spec_of unit form first d = spec_with d (set_of (tree_of (λ s. s) (placed_in unit form first) d))
+spec_of unit form first d = spec_with unit d (set_of (tree_of (λ s. s) (placed_in unit form first) d))
 
 abbrev pub behind_first : Option (List Datum) → List Datum
 behind_first None = []
@@ -154,7 +155,7 @@ exports_from unit form (f ∷ fs) = exports_in unit form f ++ exports_from unit 
 
 pub data WholeFault : Type 0 where
   TooMany : WholeFault
-  BadDeclaration : Datum → WholeFault
+  BadDeclaration : (unit : ℕ) → Datum → WholeFault
   DefinedTwice : WholeFault
   ImportCycle : WholeFault
   TooLarge : WholeFault
@@ -162,7 +163,7 @@ pub data WholeFault : Type 0 where
 -- the code of its diagnostic
 abbrev pub whole_code : WholeFault → ℕ
 whole_code TooMany = 67
-whole_code (BadDeclaration d) = 61
+whole_code (BadDeclaration unit d) = 61
 whole_code DefinedTwice = 63
 whole_code ImportCycle = 62
 whole_code TooLarge = 66
@@ -272,15 +273,16 @@ is_repeated all p = later (name_if p.number p.placed.source)
     later None = false
     later (Some n) = is_some (standard n) || not (is_first (unit_named n 0 all) p.number)
 
-abbrev pub declared_fault : Result (List UnitForm) Datum → Option WholeFault → Option WholeFault
-declared_fault (Ok fs) other = other
-declared_fault (Err d) other = Some (BadDeclaration d)
+-- a bad declaration, in the text of the unit with this number
+abbrev pub declared_fault : (unit : ℕ) → Result (List UnitForm) Datum → Option WholeFault → Option WholeFault
+declared_fault unit (Ok fs) other = other
+declared_fault unit (Err d) other = Some (BadDeclaration unit d)
 
 -- what breaks a unit before its forms are expanded
 abbrev pub fault_before : List Placed → List Prepared → Prepared → Option WholeFault
 fault_before all ps p =
     if nat_le max_units p.number then Some TooMany
-    else declared_fault p.placed.source.forms (if is_repeated all p then Some DefinedTwice else if on_circle ps p then Some ImportCycle else None)
+    else declared_fault p.number p.placed.source.forms (if is_repeated all p then Some DefinedTwice else if on_circle ps p then Some ImportCycle else None)
 
 -- ---- what a unit comes to
 

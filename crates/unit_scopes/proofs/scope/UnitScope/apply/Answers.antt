@@ -58,7 +58,7 @@ returns-in_default-clause-used c = λ known ls s fs keyword m ts tail stands the
     let begun : c.begin_use.new.self ≡ with_use_begun u scope = c.in_ok-number.ensures.begun in
     subst (λ (v : UnitScope). EndsHere (InstanceFor w r u.unit u.form.number) w w r u v ls (Err c.fails_at.result) (use_of (searched known) at.here fs keyword m ts tail s)) (sym begun)
     (subst (λ (x : ExpandFault). EndsHere (InstanceFor w r u.unit u.form.number) w w r u (with_use_begun u scope) ls (Err x) (use_of (searched known) at.here fs keyword m ts tail s))
-    (sym (c.fails_at.ensures ∙ ap (λ (v : UnitScope). named_fault v.unit v.form.number at.here 26 c.name_of.result) begun))
+    (sym c.fails_at.ensures)
     (unmatched_ends known at.here fs keyword m ts tail s w r u ls stands (InstanceFor w r u.unit u.form.number) scope at_scope few at.keyword c.name_of.result for.target c.name_of.ensures.ident c.name_of.ensures.place none))
 
 pub instance-requires-clause-matched : goal.instance-requires-clause-matched
