@@ -49,12 +49,7 @@ fn name_if(alloc: Global, datum: &Datum, home: Home) -> Mem<Option<SetName>>
 }
 
 /// The export that a part of an export declaration is.
-fn export_of(
-    alloc: Global,
-    datum: &Datum,
-    number: u32,
-    home: Home,
-) -> Mem<Option<ExportSpec>>
+fn export_of(alloc: Global, datum: &Datum, number: u32, home: Home) -> Mem<Option<ExportSpec>>
     ensures { IfOk result (λ spec. IsExportOf spec (export_of number (tree_at (place home) datum.now))) }
 {
     match look_at(datum) {
@@ -67,12 +62,7 @@ fn export_of(
 }
 
 /// An identifier as an export.
-fn plain_export(
-    alloc: Global,
-    datum: &Datum,
-    number: u32,
-    home: Home,
-) -> Mem<Option<ExportSpec>>
+fn plain_export(alloc: Global, datum: &Datum, number: u32, home: Home) -> Mem<Option<ExportSpec>>
     ensures { IfOk result (λ spec. (s : List ℕ) (o : Option Occ) → tree_at (place home) datum.now ≡ name_tree s o → IsExportOf spec (export_of number (name_tree s o))) }
 {
     match name_if(alloc, datum, home)? {
@@ -164,13 +154,7 @@ fn add_exports(
         return Ok(());
     }
     let home = form.home_in(unit, number);
-    Ok(add_all(
-        alloc,
-        specs,
-        behind_first(&form.datum),
-        number,
-        home,
-    )?)
+    Ok(add_all(alloc, specs, behind_first(&form.datum), number, home)?)
 }
 
 /// What the forms of a unit export.

@@ -103,12 +103,7 @@ fn pair_of(alloc: Global, datum: &Datum, home: Home) -> Result<NamePair, ShapeFa
 }
 
 /// The two identifiers of a list.
-fn pair_in(
-    alloc: Global,
-    parts: &[Datum],
-    dotted: bool,
-    home: Home,
-) -> Result<NamePair, ShapeFault>
+fn pair_in(alloc: Global, parts: &[Datum], dotted: bool, home: Home) -> Result<NamePair, ShapeFault>
     ensures { (end : Tail (List ℕ)) → is_dotted end ≡ dotted →
         Reads paired result (pair_in (trees_at (place home) parts.now) end) }
 {

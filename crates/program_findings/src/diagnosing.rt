@@ -62,7 +62,9 @@ pub fn add_faults(
 {
     for (place, form) in forms.iter().enumerate() {
         let number = number_of(place)?;
-        add_fault(alloc, symbols, places, unit, number, sources, form, findings)?;
+        add_fault(
+            alloc, symbols, places, unit, number, sources, form, findings,
+        )?;
     }
     Ok(())
 }

@@ -173,9 +173,7 @@ fn gathered(
     if imports_nothing(source) {
         return Ok(base_given(alloc, symbols)?);
     }
-    Ok(sets_given(
-        alloc, symbols, places, libraries, source, findings,
-    )?)
+    Ok(sets_given(alloc, symbols, places, libraries, source, findings)?)
 }
 
 /// What `(scheme base)` gives.

@@ -4,7 +4,7 @@ use Rattle.std.proofs.Common.{◌≡◌, ℕ, zero, suc, ◌+◌, ◌<◌, ◌�
 use Rattle.std.proofs.lemmas.Bool.{le-leb, lt-leb}
 use Rattle.scheme_model.specs.declared.Occ.{Occ}
 use Rattle.scheme_model.specs.Ident.{Ident as Identifier}
-use Rattle.scheme_model.specs.ExpansionFaults.{Fault, NodeBudget, DepthBudget, fault_code, fault_name, error_text}
+use Rattle.scheme_model.specs.ExpansionFaults.{Named, Fault, NodeBudget, DepthBudget, fault_code, fault_name, error_text}
 use Rattle.scheme_model.specs.Requirements.{Known}
 use Rattle.scheme_model.specs.Steps.{Broken, Step, ◌>>=◌, done, fails}
 use Rattle.scheme_model.specs.Order.{counting, max_nodes}
@@ -34,7 +34,7 @@ pub plain_is : (names : Names) (here : Option Occ) (f : Fault Identifier) → fa
 plain_is names here f named text = record {
   code = refl;
   name = subst (IsNamedBy names None) (sym named) tt;
-  place = ap (λ n. named_occ n) (sym named);
+  place = ap (λ (n : Option (Named Identifier)). named_occ n) (sym named);
   here = refl;
   text = sym text;
 }
