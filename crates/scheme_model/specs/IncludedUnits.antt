@@ -1,7 +1,6 @@
 -- The units of documents that include texts (R7RS 4.1.7, 5.1, 5.6.1): the forms of each with their homes, what breaks it before names
 -- are looked at, and the strings in it that mean no text.
-use Rattle.std.specs.Prelude.{ℕ, zero, suc, ◌+◌, ◌==◌, nat_le, List, [], ◌∷◌, ◌++◌, map, filter, length, Bool, true, false, not, ◌&&◌, Option, Some, None, Result, Ok, Err, codes, if◌then◌else◌, ◌^◌}
-use Rattle.std.specs.Option.{is_some}
+use Rattle.std.specs.Prelude.{ℕ, suc, ◌+◌, ◌==◌, nat_le, List, [], ◌∷◌, ◌++◌, map, length, Bool, true, false, not, ◌&&◌, Option, Some, None, codes, if◌then◌else◌, ◌^◌}
 use Rattle.std.specs.List.{list_any}
 use Rattle.scheme_model.specs.declared.Home.{Home}
 use Rattle.scheme_model.specs.declared.Occ.{Occ}
@@ -11,7 +10,7 @@ use Rattle.scheme_model.specs.DataTrees.{form_as}
 use Rattle.scheme_model.specs.Trees.{Tree, placed_by}
 use Rattle.scheme_model.specs.Requirements.{LibraryName, Known, library_name_of}
 use Rattle.scheme_model.specs.Declarations.{home_or, is_token_of, UnitKind, IsLibrary, IsProgram, name_or, behind_head, is_headed, is_library, is_proper, symbol_tree}
-use Rattle.scheme_model.specs.Includes.{Document, data_of, Naming, naming, is_on_circle, is_part, usable, program_data, has_program, max_units}
+use Rattle.scheme_model.specs.Includes.{Document, data_of, Naming, naming, is_on_circle, is_part, usable, program_data, max_units}
 use Rattle.scheme_model.specs.Included.{Homed, FlatForm, LostString, Listing, Lists, BadAfter, TooLong, Texts, bad, forms_of, declarations, Sources, all_texts, included_data}
 
 -- ---- forms of units
