@@ -22,7 +22,6 @@ use Rattle.syntax_tree.specs.declared.trees.table.Region.{Region}
 use Rattle.scope_env.specs.Environment.{Scope}
 use Rattle.scope_env.specs.Standing.{bound_by}
 use Rattle.core_tree.specs.Names.{AllMatch}
-use Rattle.core_tree.specs.Traces.{IsFault}
 use Rattle.unit_scopes.specs.Asks.{AreWithin, AskedStands}
 use Rattle.unit_scopes.specs.Chains.{body_chain}
 use Rattle.unit_scopes.specs.Counts.{with_nodes, Counts}

@@ -22,7 +22,6 @@ use Rattle.syntax_tree.proofs.Places.{none_some}
 use Rattle.core_tree.specs.Names.{AllMatch, IsTarget, IsUse}
 use Rattle.core_tree.specs.Cores.{PartStands, PartsStand}
 use Rattle.core_tree.specs.Levels.{PartBinds, PartsBind}
-use Rattle.core_tree.specs.Traces.{IsFault}
 use Rattle.core_tree.specs.declared.cores.Binder as code_binder
 use Rattle.core_tree.specs.declared.cores.CorePart as code_part
 use Rattle.core_tree.specs.declared.traces.FormFault.{FormFault}

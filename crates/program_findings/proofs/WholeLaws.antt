@@ -2,7 +2,7 @@
 use Rattle.std.proofs.Common.{◌≡◌, ℕ, List, [], ◌∷◌, map, Bool, true, cond, Option, Some, refl, sym, ap, ◌∙◌, subst}
 use Rattle.scheme_model.specs.Program as model
 use Rattle.scheme_model.specs.Program.{Prepared, whole_code, result_at}
-use Rattle.scheme_model.specs.Diagnostics.{Span, Bytes, Diagnostic, document_if, document_of, at_bytes, unit_diagnostics, unit_start, whole_fault}
+use Rattle.scheme_model.specs.Diagnostics.{Span, Bytes, Diagnostic, document_of, at_bytes, unit_diagnostics, unit_start, whole_fault}
 use Rattle.core_tree.specs.Units.{unit_errors}
 use Rattle.document_units.specs.declared.listing.WholeFault.{WholeFault}
 use Rattle.document_units.specs.declared.listing.WholeFault.TheVariants as code

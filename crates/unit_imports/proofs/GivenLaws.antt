@@ -34,7 +34,7 @@ use Rattle.document_units.specs.declared.findings.At.{At}
 use Rattle.document_units.specs.declared.places.Places as code_places
 use Rattle.document_units.specs.Findings.{diagnostic, told_at}
 use Rattle.document_units.specs.Libraries.{library_of}
-use Rattle.document_units.specs.Places.{ArePlaces, bytes_at, number_at, spans_of, start_of}
+use Rattle.document_units.specs.Places.{ArePlaces, bytes_at, number_at, spans_of}
 use Rattle.document_units.specs.Readings.{Read, span_seen}
 use Rattle.unit_imports.specs.Joining.{GatheredAs, GroupsStand}
 use Rattle.unit_imports.specs.SetsGiven.{AreEntriesIf, AreLibraries, ComesTo, ImportsAs, exports_at, set_exports, with_set}

@@ -2,7 +2,7 @@
 use Rattle.std.specs.Prelude.{◌≡◌, ℕ, Option, Some, None, Result, Err}
 use Rattle.std.specs.Option.{option_map}
 use Rattle.scheme_model.specs.declared.Occ.{Occ}
-use Rattle.scheme_model.specs.ExpansionFaults.{Named, named, Fault, BadRules, TwoEllipses, DuplicateVariable, EllipsisDepth, IdleEllipsis, BadForm, DuplicateBinder, BadPlace, BadRecord, BadQuasi, fault_code, fault_name}
+use Rattle.scheme_model.specs.ExpansionFaults.{named, Fault, BadRules, TwoEllipses, DuplicateVariable, EllipsisDepth, IdleEllipsis, BadForm, DuplicateBinder, BadPlace, BadRecord, BadQuasi, fault_code, fault_name}
 use Rattle.scheme_model.specs.Diagnostics.{named_occ}
 use Rattle.scheme_model.specs.Ident.{Ident as Identifier}
 use Rattle.syntax_tree.specs.Names.{Names}

@@ -1,4 +1,4 @@
-use Rattle.std.proofs.Common.{◌≡◌, ℕ, ◌<◌, ◌≤◌, List, length, Some, Ok, Err, sym, ap, ◌∙◌, subst, arith}
+use Rattle.std.proofs.Common.{◌≡◌, ℕ, ◌<◌, ◌≤◌, List, length, Some, Ok, Err, sym, ◌∙◌, subst, arith}
 use Rattle.std.proofs.lemmas.Option.{slice_get_within}
 use Rattle.scheme_model.specs.Order.{use_of}
 use Rattle.syntax_tree.specs.Macros.{AreLeaves}
@@ -7,7 +7,6 @@ use Rattle.syntax_tree.specs.declared.trees.nodes.Tree as number
 use Rattle.unit_scopes.specs.Macros.{macro_in}
 use Rattle.unit_scopes.specs.Searched.{searched}
 use Rattle.unit_scopes.specs.Stepped.{with_use_begun}
-use Rattle.unit_scopes.specs.Counts.{named_fault}
 use Rattle.unit_scopes.specs.Used.{match_of_use, InstanceFor}
 use Rattle.unit_scopes.specs.Outcomes.{At, EndsHere}
 use Rattle.feature_requirements.specs.declared.fault.ExpandFault.{ExpandFault}

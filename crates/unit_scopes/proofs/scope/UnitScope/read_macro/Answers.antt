@@ -1,4 +1,4 @@
-use Rattle.std.proofs.Common.{Err, sym, ◌∙◌, subst}
+use Rattle.std.proofs.Common.{Err, sym, subst}
 use Rattle.scheme_model.specs.Order.{rules_at}
 use Rattle.scheme_model.specs.RulesShape.{Rules}
 use Rattle.scheme_model.specs.Ident.{Ident as Identifier}
