@@ -55,7 +55,7 @@ pub record IsExpanded (work : Work) (unit form : ℕ) (c : code_form.UnitForm) (
 -- of a broken form the fault counts, and its definitions, which are told with those of its unit
 abbrev pub IsResult : Work → (unit form : ℕ) → code_form.UnitForm → Result Parts Broken → Counted → Type 0
 IsResult work unit form c (Ok ps) met = IsExpanded work unit form c ps met
-IsResult work unit form c (Err e) met = (f : code_fault.FormFault) × (c.fault ≡ Some f) × IsFault work.symbols unit form f e
+IsResult work unit form c (Err e) met = (f : code_fault.FormFault) × (c.fault ≡ Some f) × IsFault work.symbols f e
 
 -- the forms from a number on: each is the next that was expanded, or blank
 abbrev pub FormsStand : Work → (unit form : ℕ) → List code_form.UnitForm → List Formed → Type 0

@@ -19,11 +19,13 @@ pub struct Trace {
     pub uses: Items<MacroUse>,
 }
 
-/// The fault of a form that is broken: its code, the identifier that it names, its place, and the text of a `syntax-error`.
+/// The fault of a form that is broken: its code, the identifier that it names, with that identifier's place, the place of the form
+/// that was read where it was found, and the text of a `syntax-error`.
 #[derive(Debug, Drop)]
 pub struct FormFault {
     pub code: u32,
     pub name: Option<IdNo>,
     pub occ: Option<Occ>,
+    pub here: Option<Occ>,
     pub text: Option<Text>,
 }

@@ -1,12 +1,13 @@
 -- The tree of a datum with its names changed is its tree with the changed names.
 use Rattle.std.proofs.Common.{◌≡◌, ℕ, List, Some, refl, ap}
+use Rattle.scheme_model.specs.declared.Home.{Home}
 use Rattle.scheme_model.specs.declared.Occ.{Occ}
-use Rattle.scheme_model.specs.Trees.{Tree, list as list_of, vector as vector_of, Trees, tree, dotted, map_tree, map_trees, map_tail, placed_in}
+use Rattle.scheme_model.specs.Trees.{Tree, list as list_of, vector as vector_of, Trees, tree, dotted, map_tree, map_trees, map_tail, placed_in, placed_by}
 use Rattle.scheme_model.specs.Kinds.{Name, Numeral, Quoted, Character, Truth}
 use Rattle.scheme_model.specs.Data.{Atom, spelled, implied, Datum, atom, list, vector, bytes, Data, none, part, tail, place_of}
-use Rattle.scheme_model.specs.DataTrees.{atom_tree, tree_of, parts_of, end_of, form_of}
+use Rattle.scheme_model.specs.DataTrees.{atom_tree, tree_of, parts_of, end_of, form_as, form_of}
 use Rattle.scheme_model.specs.Ident.{Written, root}
-use Rattle.datum_reader.specs.Seeded.{seeded}
+use Rattle.datum_reader.specs.Seeded.{seeded, seeded_as}
 
 module _ {A B : Type 0} (f : A → B) (written : List ℕ → A) (place : ℕ → Occ) where
   atom_mapped : (a : Atom) (o : Occ) → map_tree f (atom_tree written a o) ≡ atom_tree (λ s. f (written s)) a o
@@ -37,3 +38,6 @@ module _ {A B : Type 0} (f : A → B) (written : List ℕ → A) (place : ℕ �
 -- the tree that a datum becomes is its form's tree in the definitions
 pub seeded_is_form : (unit form : ℕ) (d : Datum) → map_tree root (seeded unit form d) ≡ form_of unit form d
 seeded_is_form unit form d = tree_mapped root (Written unit) (placed_in unit form (place_of d).first) d
+
+pub taken_is_form : (into : ℕ) (h : Home) (d : Datum) → map_tree root (seeded_as into h d) ≡ form_as into h d
+taken_is_form into h d = tree_mapped root (Written into) (placed_by h) d

@@ -8,8 +8,9 @@ use Rattle.std.specs.Str.{chars, IsUtf8, encode_utf8_all}
 use Rattle.std.specs.declared.alloc.Global.{Global}
 use Rattle.ls_base.specs.Limits.{max_text, max_tree_nodes, max_tree_depth}
 use Rattle.std.proofs.lemmas.Option.{slice_get-map}
+use Rattle.scheme_model.specs.declared.Home.{Home}
 use Rattle.scheme_model.specs.declared.Occ.{Occ}
-use Rattle.scheme_model.specs.Trees.{Bytes, Tree, atom as atom_of, list as list_of, vector as vector_of, tree, placed_in}
+use Rattle.scheme_model.specs.Trees.{Bytes, Tree, atom as atom_of, list as list_of, vector as vector_of, tree, placed_by}
 use Rattle.datum_reader.specs.declared.datum.Atom as code_atom
 use Rattle.datum_reader.specs.declared.datum.Mark as code_mark
 use Rattle.datum_reader.specs.Views.{leaf_of, mark_of, shape_step, datum_step, placed, shape_of, datum_of, data_of, end_data}
@@ -90,44 +91,44 @@ tail_can (Some d) h = (h.right.0, seedable (datum_of d.value) h.right.1 (omega (
 
 -- ---- the tree
 
-module _ (unit form first : ℕ) where
+module _ (into : ℕ) (home : Home) where
   abbrev tree_at : Datum → Tree Identifier
-  tree_at = tree_of unit (placed_in unit form first)
+  tree_at = tree_of into (placed_by home)
 
   abbrev place : code.Datum → Occ
-  place d = placed_in unit form first d.first
+  place d = placed_by home d.first
 
-  parts-row : (ds : List code.Datum) (end : Option (Box code.Datum)) → parts_of unit (placed_in unit form first) (row (data_of ds) (end_data end)) ≡ parts_trees unit form first ds
+  parts-row : (ds : List code.Datum) (end : Option (Box code.Datum)) → parts_of into (placed_by home) (row (data_of ds) (end_data end)) ≡ parts_trees into home ds
   parts-row [] None = refl
   parts-row [] (Some d) = refl
-  parts-row (d ∷ ds) end = ap (tree (part_tree unit form first d)) (parts-row ds end)
+  parts-row (d ∷ ds) end = ap (tree (part_tree into home d)) (parts-row ds end)
 
-  end-row : (ds : List code.Datum) (end : Option (Box code.Datum)) → end_of unit (placed_in unit form first) (row (data_of ds) (end_data end)) ≡ tail_tree unit form first end
+  end-row : (ds : List code.Datum) (end : Option (Box code.Datum)) → end_of into (placed_by home) (row (data_of ds) (end_data end)) ≡ tail_tree into home end
   end-row [] None = refl
   end-row [] (Some d) = refl
   end-row (d ∷ ds) end = end-row ds end
 
-  pub small_tree : (d : code.Datum) → CanBeSeeded d → tree_size (part_tree unit form first d) ≤ max_tree_nodes
-  small_tree d h = omega (arith, size_is unit (placed_in unit form first) (datum_of d), is_small (datum_of d) h)
+  pub small_tree : (d : code.Datum) → CanBeSeeded d → tree_size (part_tree into home d) ≤ max_tree_nodes
+  small_tree d h = omega (arith, size_is into (placed_by home) (datum_of d), is_small (datum_of d) h)
 
-  pub shallow_tree : (d : code.Datum) → CanBeSeeded d → tree_depth (part_tree unit form first d) ≤ max_tree_depth
-  shallow_tree d h = omega (arith, depth_is unit (placed_in unit form first) (datum_of d), is_shallow (datum_of d) h)
+  pub shallow_tree : (d : code.Datum) → CanBeSeeded d → tree_depth (part_tree into home d) ≤ max_tree_depth
+  shallow_tree d h = omega (arith, depth_is into (placed_by home) (datum_of d), is_shallow (datum_of d) h)
 
   -- what the parts of a list are, and its tree
   pub record ListParts (d : code.Datum) (o : Occ) (ds : List code.Datum) (end : Option (Box code.Datum)) : Type 0 where
     pub parts : All CanBeSeeded ds
     pub tail : TailCanBeSeeded end
-    pub whole : part_tree unit form first d ≡ list_of (parts_trees unit form first ds) (tail_tree unit form first end) (Some o)
-    pub size : (trees_size (parts_trees unit form first ds) + tail_size (tail_tree unit form first end)) + 1 ≡ tree_size (part_tree unit form first d)
+    pub whole : part_tree into home d ≡ list_of (parts_trees into home ds) (tail_tree into home end) (Some o)
+    pub size : (trees_size (parts_trees into home ds) + tail_size (tail_tree into home end)) + 1 ≡ tree_size (part_tree into home d)
 
   pub list_parts : (d : code.Datum) (o : Occ) (xs : Vec code.Datum Global) (ds : List code.Datum) (end : Option (Box code.Datum)) → d.shape ≡ shape.List xs end → ds ≡ xs.items →
       o ≡ place d → CanBeSeeded d → ListParts d o ds end
   list_parts d o xs ds end e same here h =
       let is : datum_of d ≡ list (at d) (row (data_of ds) (end_data end)) =
       datum-list d xs end e ∙ ap (λ (l : List code.Datum). list (at d) (row (data_of l) (end_data end))) (sym same) in
-      let t : part_tree unit form first d ≡ list_of (parts_trees unit form first ds) (tail_tree unit form first end) (Some o) =
+      let t : part_tree into home d ≡ list_of (parts_trees into home ds) (tail_tree into home end) (Some o) =
       ap tree_at is ∙ (λ j. list_of (parts-row ds end j) (end-row ds end j) (Some (sym here j))) in
-      let size : tree_size (part_tree unit form first d) ≡ 1 + (trees_size (parts_trees unit form first ds) + tail_size (tail_tree unit form first end)) = ap (λ (x : Tree Identifier). tree_size x) t in
+      let size : tree_size (part_tree into home d) ≡ 1 + (trees_size (parts_trees into home ds) + tail_size (tail_tree into home end)) = ap (λ (x : Tree Identifier). tree_size x) t in
       let l = list (at d) (row (data_of ds) (end_data end)) in
       let can : CanSeed l = subst CanSeed is h in
       let all : CanSeedAll (row (data_of ds) (end_data end)) = record { right = can.right; small = omega (arith, is_small l can); shallow = omega (arith, is_shallow l can) } in
@@ -141,17 +142,17 @@ module _ (unit form first : ℕ) where
   -- the same of a vector
   pub record VectorParts (d : code.Datum) (o : Occ) (ds : List code.Datum) : Type 0 where
     pub parts : All CanBeSeeded ds
-    pub whole : part_tree unit form first d ≡ vector_of (parts_trees unit form first ds) (Some o)
-    pub size : trees_size (parts_trees unit form first ds) + 1 ≡ tree_size (part_tree unit form first d)
+    pub whole : part_tree into home d ≡ vector_of (parts_trees into home ds) (Some o)
+    pub size : trees_size (parts_trees into home ds) + 1 ≡ tree_size (part_tree into home d)
 
   pub vector_parts : (d : code.Datum) (o : Occ) (xs : Vec code.Datum Global) (ds : List code.Datum) → d.shape ≡ shape.Vector xs → ds ≡ xs.items → o ≡ place d →
       CanBeSeeded d → VectorParts d o ds
   vector_parts d o xs ds e same here h =
       let is : datum_of d ≡ vector (at d) (row (data_of ds) none) =
       datum-vector d xs e ∙ ap (λ (l : List code.Datum). vector (at d) (row (data_of l) none)) (sym same) in
-      let t : part_tree unit form first d ≡ vector_of (parts_trees unit form first ds) (Some o) =
+      let t : part_tree into home d ≡ vector_of (parts_trees into home ds) (Some o) =
       ap tree_at is ∙ (λ j. vector_of (parts-row ds None j) (Some (sym here j))) in
-      let size : tree_size (part_tree unit form first d) ≡ 1 + trees_size (parts_trees unit form first ds) = ap (λ (x : Tree Identifier). tree_size x) t in
+      let size : tree_size (part_tree into home d) ≡ 1 + trees_size (parts_trees into home ds) = ap (λ (x : Tree Identifier). tree_size x) t in
       let v = vector (at d) (row (data_of ds) none) in
       let can : CanSeed v = subst CanSeed is h in
       record {
@@ -161,18 +162,18 @@ module _ (unit form first : ℕ) where
       }
 
   -- an atom and a bytevector have one node
-  pub atom_whole : (d : code.Datum) (o : Occ) (a : Atom) → datum_of d ≡ atom (at d) a → o ≡ place d → part_tree unit form first d ≡ atom_tree unit a o
-  atom_whole d o a e here = ap tree_at e ∙ ap (atom_tree unit a) (sym here)
+  pub atom_whole : (d : code.Datum) (o : Occ) (a : Atom) → datum_of d ≡ atom (at d) a → o ≡ place d → part_tree into home d ≡ atom_tree into a o
+  atom_whole d o a e here = ap tree_at e ∙ ap (atom_tree into a) (sym here)
 
-  pub atom_part-size : (d : code.Datum) (a : Atom) → datum_of d ≡ atom (at d) a → 0 + 1 ≡ tree_size (part_tree unit form first d)
-  atom_part-size d a e = let size = ap (λ (x : Datum). tree_size (tree_at x)) e ∙ atom-size unit a (place d) in omega (arith, size)
+  pub atom_part-size : (d : code.Datum) (a : Atom) → datum_of d ≡ atom (at d) a → 0 + 1 ≡ tree_size (part_tree into home d)
+  atom_part-size d a e = let size = ap (λ (x : Datum). tree_size (tree_at x)) e ∙ atom-size into a (place d) in omega (arith, size)
 
   pub bytes_whole : (d : code.Datum) (o : Occ) (xs : Vec (List ℕ) Global) (texts : List (List ℕ)) → d.shape ≡ shape.Bytes xs → texts ≡ xs.items → o ≡ place d →
-      part_tree unit form first d ≡ atom_of (Bytes (join_with_byte 32 (map encode_utf8_all (map chars texts)))) (Some o)
+      part_tree into home d ≡ atom_of (Bytes (join_with_byte 32 (map encode_utf8_all (map chars texts)))) (Some o)
   bytes_whole d o xs texts e same here =
       ap tree_at (datum-bytes d xs e) ∙ (λ j. atom_of (Bytes (join_with_byte 32 (map encode_utf8_all (map chars (sym same j))))) (Some (sym here j)))
 
-  pub bytes-size : (d : code.Datum) (texts : Vec (List ℕ) Global) → d.shape ≡ shape.Bytes texts → 0 + 1 ≡ tree_size (part_tree unit form first d)
+  pub bytes-size : (d : code.Datum) (texts : Vec (List ℕ) Global) → d.shape ≡ shape.Bytes texts → 0 + 1 ≡ tree_size (part_tree into home d)
   bytes-size d texts e = let size = ap (λ (x : Datum). tree_size (tree_at x)) (datum-bytes d texts e) in omega (arith, size)
 
 -- ---- what may be seeded

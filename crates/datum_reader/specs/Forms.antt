@@ -1,9 +1,9 @@
 -- The places of tokens in forms.
 use Rattle.std.specs.Prelude.{ℕ}
 use Rattle.scheme_model.specs.declared.Occ.{Occ}
-use Rattle.scheme_model.specs.Trees.{placed_in}
-use Rattle.datum_reader.specs.declared.start.Start.{Start}
+use Rattle.scheme_model.specs.declared.Home.{Home}
+use Rattle.scheme_model.specs.Trees.{placed_by}
 
 -- a token's place by its number in the text
-abbrev pub place : Start → ℕ → Occ
-place s n = placed_in s.unit s.form s.first n
+abbrev pub place : Home → ℕ → Occ
+place h n = placed_by h n

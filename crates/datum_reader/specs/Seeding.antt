@@ -5,7 +5,8 @@ use Rattle.std.specs.declared.alloc.Global.{Global}
 use Rattle.std.specs.List.{AllByRecursion}
 use Rattle.std.specs.Option.{option_map}
 use Rattle.ls_base.specs.declared.memory.Memory.{Memory}
-use Rattle.scheme_model.specs.Trees.{Tree, Trees, no_trees, tree, Tail, proper, dotted, placed_in}
+use Rattle.scheme_model.specs.declared.Home.{Home}
+use Rattle.scheme_model.specs.Trees.{Tree, Trees, no_trees, tree, Tail, proper, dotted}
 use Rattle.scheme_model.specs.Measures.{tree_size, trees_size, tail_size}
 use Rattle.scheme_model.specs.Ident.{Ident as Identifier}
 use Rattle.syntax_tree.specs.Names.{Names, KeepsNames}
@@ -22,7 +23,7 @@ use Rattle.syntax_tree.specs.declared.trees.faults.PoolFault.{PoolFault}
 use Rattle.syntax_tree.specs.declared.trees.faults.PoolFault.TheVariants as fault
 use Rattle.datum_reader.specs.declared.datum.Datum.{Datum}
 use Rattle.datum_reader.specs.WellFormed.{is_list, CanSeed}
-use Rattle.datum_reader.specs.Seeded.{tree_of}
+use Rattle.datum_reader.specs.Seeded.{seeded_as}
 use Rattle.datum_reader.specs.Views.{datum_of}
 
 -- trees in a row
@@ -30,16 +31,16 @@ abbrev pub trees_from : List (Tree Identifier) → Trees Identifier
 trees_from [] = no_trees
 trees_from (t ∷ ts) = tree t (trees_from ts)
 
--- the tree of a part of a form, whose first token has this number in the text
-abbrev pub part_tree : ℕ → ℕ → ℕ → Datum → Tree Identifier
-part_tree unit form first d = tree_of unit (placed_in unit form first) (datum_of d)
+-- the tree of a part of a form, whose names are written in this unit and whose text has this home
+abbrev pub part_tree : (into : ℕ) → Home → Datum → Tree Identifier
+part_tree into h d = seeded_as into h (datum_of d)
 
-abbrev pub parts_trees : ℕ → ℕ → ℕ → List Datum → Trees Identifier
-parts_trees unit form first ds = trees_from (map (part_tree unit form first) ds)
+abbrev pub parts_trees : (into : ℕ) → Home → List Datum → Trees Identifier
+parts_trees into h ds = trees_from (map (part_tree into h) ds)
 
-abbrev pub tail_tree : ℕ → ℕ → ℕ → Option (Box Datum) → Tail Identifier
-tail_tree unit form first None = proper
-tail_tree unit form first (Some d) = dotted (part_tree unit form first d.value)
+abbrev pub tail_tree : (into : ℕ) → Home → Option (Box Datum) → Tail Identifier
+tail_tree into h None = proper
+tail_tree into h (Some d) = dotted (part_tree into h d.value)
 
 -- trees can be made of data that reading gives, and of a tail, which is no list
 abbrev pub CanBeSeeded : Datum → Type 0

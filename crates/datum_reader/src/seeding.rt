@@ -1,20 +1,20 @@
 //! The tree of a datum (R7RS 7.1.2), with the places of its tokens.
 ghost use Rattle.std.specs.Prelude.{◌≡◌, ◌+◌, ◌^◌, ◌<◌, ◌≤◌, All, MatchResult, IfOk, OnOk, Err};
-ghost use Rattle.scheme_model.specs.Trees.{map_tree, placed_in};
+ghost use Rattle.scheme_model.specs.Trees.{map_tree, placed_by};
 ghost use Rattle.scheme_model.specs.Measures.{tree_size};
-ghost use Rattle.scheme_model.specs.DataTrees.{form_of};
+ghost use Rattle.scheme_model.specs.DataTrees.{form_as, form_of};
 ghost use Rattle.scheme_model.specs.Ident.{root};
 ghost use Rattle.syntax_tree.specs.Names.{KeepsNames};
 ghost use Rattle.syntax_tree.specs.Interned.{interned};
 ghost use Rattle.syntax_tree.specs.Works.{StandsFor, IsOpened, LiesIn, KeepsTrees, SameRegions, AddsIn, live_count};
 ghost use Rattle.datum_reader.specs.WellFormed.{WasRead};
-ghost use Rattle.datum_reader.specs.Seeded.{seeded};
+ghost use Rattle.datum_reader.specs.Seeded.{seeded, seeded_as};
 ghost use Rattle.datum_reader.specs.Seeding.{part_tree, parts_trees, tail_tree, CanBeSeeded, TailCanBeSeeded, Seeds, SeedsAll, SeedsTail, Prepares};
 ghost use Rattle.datum_reader.specs.Views.{datum_of};
 
 use crate::datum::{Datum, Shape};
 use crate::seeding::leaves::{atom_node, bytes_node, mark_node};
-use scheme_model::Occ;
+use scheme_model::{Home, Occ};
 use std::alloc::Global;
 use syntax_tree::trees::{Node, PoolFault, Region, Tree, Work};
 
@@ -49,31 +49,58 @@ pub fn seed(
         (λ _. live_count work.new < live_count work.old + tree_size (seeded unit form (datum_of datum.now))) }
     ensures full { result ≡ Err PoolFault.Full → 2 ^ 31 < live_count work.old + tree_size (seeded unit form (datum_of datum.now)) }
 {
-    let start = Start {
+    let home = Home {
         unit,
         form,
         first: datum.first,
     };
-    Ok(seed_datum(alloc, work, region, datum, start)?)
+    Ok(seed_as(alloc, work, region, datum, home, unit)?)
 }
 
-/// A form's unit and number, and the number of its first token in the text.
+/// Adds the tree of a datum of a text with this home, as `seed` does, its names written in the unit `into`.
+pub fn seed_as(
+    alloc: Global,
+    work: &mut Work,
+    region: &Region,
+    datum: &Datum,
+    home: Home,
+    into: u32,
+) -> Result<Tree, PoolFault>
+    requires region { IsOpened work.old region.now }
+    requires read { WasRead (datum_of datum.now) }
+    ensures tree { IfOk result (λ tree. StandsFor work.new tree (seeded_as into home (datum_of datum.now))) }
+    ensures form { map_tree root (seeded_as into home (datum_of datum.now)) ≡ form_as into home (datum_of datum.now) }
+    ensures region { IfOk result (λ tree. LiesIn work.new region.now tree) }
+    ensures keeps { KeepsTrees work.old work.new }
+    ensures added { AddsIn work.old work.new region.now }
+    ensures regions { SameRegions work.old work.new }
+    ensures names { MatchResult result (λ _. work.new.symbols ≡ interned (seeded_as into home (datum_of datum.now)) work.old.symbols)
+        (λ _. KeepsNames work.new.symbols (interned (seeded_as into home (datum_of datum.now)) work.old.symbols)) }
+    ensures old_names { KeepsNames work.old.symbols work.new.symbols }
+    ensures nodes { MatchResult result (λ _. live_count work.new ≡ live_count work.old + tree_size (seeded_as into home (datum_of datum.now)))
+        (λ _. live_count work.new < live_count work.old + tree_size (seeded_as into home (datum_of datum.now))) }
+    ensures full { result ≡ Err PoolFault.Full → 2 ^ 31 < live_count work.old + tree_size (seeded_as into home (datum_of datum.now)) }
+{
+    let taken = Taken { into, home };
+    Ok(seed_datum(alloc, work, region, datum, taken)?)
+}
+
+/// A form as a unit takes it: the unit in which its names are written, and the home of its text.
 #[derive(Clone, Copy, Debug)]
-struct Start {
-    unit: u32,
-    form: u32,
-    first: u32,
+struct Taken {
+    into: u32,
+    home: Home,
 }
 
-impl Start {
-    /// The place of a token by its number in the text: numbers of a form count from its first token.
+impl Taken {
+    /// The place of a token by its number in the text.
     fn place(self, token: u32) -> Occ
-        ensures { result ≡ placed_in self.unit self.form self.first token }
+        ensures { result ≡ placed_by self.home token }
     {
         Occ {
-            unit: self.unit,
-            form: self.form,
-            token: token.saturating_sub(self.first),
+            unit: self.home.unit,
+            form: self.home.form,
+            token: token.saturating_sub(self.home.first),
         }
     }
 }
@@ -85,13 +112,13 @@ fn seed_datum(
     work: &mut Work,
     region: &Region,
     datum: &Datum,
-    start: Start,
+    taken: Taken,
 ) -> Result<Tree, PoolFault>
     requires region { IsOpened work.old region.now }
     requires read { CanBeSeeded datum.now }
-    ensures { Seeds work.old work.new region.now (part_tree start.unit start.form start.first datum.now) result }
+    ensures { Seeds work.old work.new region.now (part_tree taken.into taken.home datum.now) result }
 {
-    let node = seed_node(alloc, work, region, datum, start)?;
+    let node = seed_node(alloc, work, region, datum, taken)?;
     Ok(work.add(region, node)?)
 }
 
@@ -102,25 +129,25 @@ fn seed_node(
     work: &mut Work,
     region: &Region,
     datum: &Datum,
-    start: Start,
+    taken: Taken,
 ) -> Result<Node, PoolFault>
     requires region { IsOpened work.old region.now }
     requires read { CanBeSeeded datum.now }
-    ensures { Prepares work.old work.new region.now (part_tree start.unit start.form start.first datum.now) result }
+    ensures { Prepares work.old work.new region.now (part_tree taken.into taken.home datum.now) result }
 {
-    let occ = start.place(datum.first);
+    let occ = taken.place(datum.first);
     match &datum.shape {
-        Shape::Atom(atom) => Ok(atom_node(&mut work.symbols, atom, start.unit, occ)?),
-        Shape::Implied(mark) => Ok(mark_node(&mut work.symbols, *mark, start.unit)?),
+        Shape::Atom(atom) => Ok(atom_node(&mut work.symbols, atom, taken.into, occ)?),
+        Shape::Implied(mark) => Ok(mark_node(&mut work.symbols, *mark, taken.into)?),
         Shape::Bytes(numerals) => Ok(bytes_node(alloc, &mut work.symbols, numerals, occ)?),
         Shape::Vector(parts) => {
-            let items = seed_parts(alloc, work, region, parts, start)?;
+            let items = seed_parts(alloc, work, region, parts, taken)?;
             let occ = Some(occ);
             Ok(Node::Vector { items, occ })
         }
         Shape::List(parts, end) => {
-            let items = seed_parts(alloc, work, region, parts, start)?;
-            let tail = seed_tail(alloc, work, region, end, start)?;
+            let items = seed_parts(alloc, work, region, parts, taken)?;
+            let tail = seed_tail(alloc, work, region, end, taken)?;
             let occ = Some(occ);
             Ok(Node::List { items, tail, occ })
         }
@@ -134,15 +161,15 @@ fn seed_parts(
     work: &mut Work,
     region: &Region,
     parts: &[Datum],
-    start: Start,
+    taken: Taken,
 ) -> Result<Vec<Tree>, PoolFault>
     requires region { IsOpened work.old region.now }
     requires read { All CanBeSeeded parts.now }
-    ensures { SeedsAll work.old work.new region.now (parts_trees start.unit start.form start.first parts.now) result }
+    ensures { SeedsAll work.old work.new region.now (parts_trees taken.into taken.home parts.now) result }
 {
     let mut trees = Vec::with_capacity(alloc, parts.len())?;
     for part in parts {
-        let tree = seed_datum(alloc, work, region, part, start)?;
+        let tree = seed_datum(alloc, work, region, part, taken)?;
         trees.push(tree)?;
     }
     Ok(trees)
@@ -155,14 +182,14 @@ fn seed_tail(
     work: &mut Work,
     region: &Region,
     tail: &Option<Box<Datum>>,
-    start: Start,
+    taken: Taken,
 ) -> Result<Option<Tree>, PoolFault>
     requires region { IsOpened work.old region.now }
     requires read { TailCanBeSeeded tail.now }
-    ensures { SeedsTail work.old work.new region.now (tail_tree start.unit start.form start.first tail.now) result }
+    ensures { SeedsTail work.old work.new region.now (tail_tree taken.into taken.home tail.now) result }
 {
     match tail {
         None => Ok(None),
-        Some(datum) => Ok(Some(seed_datum(alloc, work, region, datum, start)?)),
+        Some(datum) => Ok(Some(seed_datum(alloc, work, region, datum, taken)?)),
     }
 }

@@ -1,5 +1,5 @@
 -- What is found in forms tells the definition's diagnostics.
-use Rattle.std.proofs.Common.{◌≡◌, ℕ, zero, suc, inl, inr, List, [], ◌∷◌, ◌++◌, append-nil, append_assoc, map, filter, Option, Some, None, Result, Ok, Err, true, cond, slice_get, drop, length, ◌≤◌, drop_of_length-le, refl, sym, ap, ◌∙◌, subst}
+use Rattle.std.proofs.Common.{◌≡◌, ℕ, zero, suc, inl, inr, List, [], ◌∷◌, ◌++◌, append-nil, append_assoc, map, filter, Option, Some, None, Result, Ok, Err, Bool, true, cond, slice_get, drop, length, ◌≤◌, drop_of_length-le, refl, sym, ap, ◌∙◌, subst}
 use Rattle.std.proofs.lemmas.Grind.{flat_map-append}
 use Rattle.std.proofs.lemmas.List.Elements.{filter-append}
 use Rattle.scheme_model.proofs.RenamingLaws.{map-append}
@@ -9,7 +9,7 @@ use Rattle.scheme_model.specs.ExpansionFaults.{Named, Fault, fault_code, fault_n
 use Rattle.scheme_model.specs.Cores.{Parts}
 use Rattle.scheme_model.specs.Steps.{Broken}
 use Rattle.scheme_model.specs.UnitExpansion.{Formed}
-use Rattle.scheme_model.specs.Diagnostics.{Bytes, Diagnostic, fault_names, fault_occ, form_diagnostics, or_start}
+use Rattle.scheme_model.specs.Diagnostics.{Bytes, Diagnostic, fault_names, fault_occ, named_occ, form_diagnostics, or_start}
 use Rattle.syntax_tree.specs.Names.{Names, KeepsNames}
 use Rattle.core_tree.specs.Traces.{IsFault, IsNamedBy}
 use Rattle.core_tree.specs.Units.{FormsStand, IsResult, form_errors}
@@ -78,16 +78,16 @@ module _ (names now : Names) (kept : KeepsNames names now) (text : List ℕ) whe
   name_there n None t h is = absurd h
   name_there n (Some i) t h is = is i.name (kept.idents n i.name h)
 
-  pub names_it : (e : FormFault) (b : Broken) (unit form n : ℕ) → IsFault names unit form e b → e.name ≡ Some n → ((i : Ident) → slice_get now.idents n ≡ Some i → text ≡ symbol_of i) → text ≡ fault_names b.fault
-  names_it e b unit form n is at told = name_there n (fault_name b.fault) (error_text b.fault) (subst (λ (o : Option ℕ). IsNamedBy names o (fault_name b.fault)) at is.name) told ∙ names_told b.fault
+  pub names_it : (e : FormFault) (b : Broken) (n : ℕ) → IsFault names e b → e.name ≡ Some n → ((i : Ident) → slice_get now.idents n ≡ Some i → text ≡ symbol_of i) → text ≡ fault_names b.fault
+  names_it e b n is at told = name_there n (fault_name b.fault) (error_text b.fault) (subst (λ (o : Option ℕ). IsNamedBy names o (fault_name b.fault)) at is.name) told ∙ names_told b.fault
 
 no_name : (names : Names) (m : Option (Named Ident)) (t : Option (List ℕ)) → IsNamedBy names None m → named_text m t ≡ named_text None t
 no_name names None t h = refl
 no_name names (Some i) t h = absurd h
 
 -- it names nothing, but may have a text
-pub names_text : (names : Names) (e : FormFault) (b : Broken) (unit form : ℕ) → IsFault names unit form e b → e.name ≡ None → named_text None e.text ≡ fault_names b.fault
-names_text names e b unit form is none = ap (named_text None) is.text ∙ sym (no_name names (fault_name b.fault) (error_text b.fault) (subst (λ (o : Option ℕ). IsNamedBy names o (fault_name b.fault)) none is.name)) ∙ names_told b.fault
+pub names_text : (names : Names) (e : FormFault) (b : Broken) → IsFault names e b → e.name ≡ None → named_text None e.text ≡ fault_names b.fault
+names_text names e b is none = ap (named_text None) is.text ∙ sym (no_name names (fault_name b.fault) (error_text b.fault) (subst (λ (o : Option ℕ). IsNamedBy names o (fault_name b.fault)) none is.name)) ∙ names_told b.fault
 
 -- ---- findings, one behind the other
 
@@ -105,66 +105,68 @@ adds_more old new more ds es is t e = record {
 
 -- ---- forms
 
-module _ (bytes : Occ → Bytes) (unit : ℕ) where
-  pub faults_told : (fs : List Formed) → all_told (faults_found bytes unit fs) ≡ form_diagnostics bytes unit fs
+module _ (bytes : Occ → Bytes) (holds : ℕ → Occ → Bool) (unit : ℕ) where
+  pub faults_told : (fs : List Formed) → all_told (faults_found bytes holds unit fs) ≡ form_diagnostics bytes holds unit fs
   faults_told [] = refl
-  faults_told (f ∷ fs) = told_both (result_found bytes unit f.result f.form) (faults_found bytes unit fs) ∙ go f.result (faults_told fs)
+  faults_told (f ∷ fs) = told_both (result_found bytes holds unit f.result f.form) (faults_found bytes holds unit fs) ∙ go f.result (faults_told fs)
     where
-      go : (r : Result Parts Broken) → all_told (faults_found bytes unit fs) ≡ form_diagnostics bytes unit fs →
-          all_told (result_found bytes unit r f.form) ++ all_told (faults_found bytes unit fs) ≡ form_diagnostics bytes unit (record { form = f.form; result = r; counted = f.counted } ∷ fs)
+      go : (r : Result Parts Broken) → all_told (faults_found bytes holds unit fs) ≡ form_diagnostics bytes holds unit fs →
+          all_told (result_found bytes holds unit r f.form) ++ all_told (faults_found bytes holds unit fs) ≡ form_diagnostics bytes holds unit (record { form = f.form; result = r; counted = f.counted } ∷ fs)
       go (Ok ps) rest = rest
-      go (Err e) rest = ap (λ xs. told (fault_found bytes unit f.form e) ++ xs) rest
+      go (Err e) rest = ap (λ xs. told (fault_found bytes holds unit f.form e) ++ xs) rest
 
-  pub faults_errors : (fs : List Formed) → errors_in (faults_found bytes unit fs) ≡ form_errors fs
+  pub faults_errors : (fs : List Formed) → errors_in (faults_found bytes holds unit fs) ≡ form_errors fs
   faults_errors [] = refl
-  faults_errors (f ∷ fs) = errors_both (result_found bytes unit f.result f.form) (faults_found bytes unit fs) ∙ go f.result (faults_errors fs)
+  faults_errors (f ∷ fs) = errors_both (result_found bytes holds unit f.result f.form) (faults_found bytes holds unit fs) ∙ go f.result (faults_errors fs)
     where
-      go : (r : Result Parts Broken) → errors_in (faults_found bytes unit fs) ≡ form_errors fs →
-          errors_in (result_found bytes unit r f.form) ++ errors_in (faults_found bytes unit fs) ≡ form_errors (record { form = f.form; result = r; counted = f.counted } ∷ fs)
+      go : (r : Result Parts Broken) → errors_in (faults_found bytes holds unit fs) ≡ form_errors fs →
+          errors_in (result_found bytes holds unit r f.form) ++ errors_in (faults_found bytes holds unit fs) ≡ form_errors (record { form = f.form; result = r; counted = f.counted } ∷ fs)
       go (Ok ps) rest = rest
-      go (Err e) rest = ap (λ b. map (λ (g : Finding). (g.code, g.form)) (cond b (fault_found bytes unit f.form e ∷ []) []) ++ errors_in (faults_found bytes unit fs)) (fault_is_error e.fault) ∙ ap (λ xs. (fault_code e.fault, f.form) ∷ xs) rest
+      go (Err e) rest = ap (λ b. map (λ (g : Finding). (g.code, g.form)) (cond b (fault_found bytes holds unit f.form e ∷ []) []) ++ errors_in (faults_found bytes holds unit fs)) (fault_is_error e.fault) ∙ ap (λ xs. (fault_code e.fault, f.form) ∷ xs) rest
 
 -- ---- the forms one by one
 
-pub fault_is_found : (bytes : Occ → Bytes) (unit form : ℕ) (names : Names) (fault : FormFault) (e : Broken) → IsFault names unit form fault e → (spot : At) (name : List ℕ) →
-    bytes_at spot ≡ bytes (or_start unit form fault.occ) → name ≡ fault_names e.fault → (f : Finding) → f ≡ record { at = Some spot; form = form; code = fault.code; message = worded fault.code name } → f ≡ fault_found bytes unit form e
-fault_is_found bytes unit form names fault e is spot name exact named f told_so =
-    let place : spot ≡ at_of (bytes (or_start unit form (fault_occ unit form (fault_name e.fault) e.here))) = ap at_of (exact ∙ ap (λ o. bytes (or_start unit form o)) is.place) in
+pub fault_is_found : (bytes : Occ → Bytes) (holds : ℕ → Occ → Bool) (unit form : ℕ) (names : Names) (fault : FormFault) (e : Broken) → IsFault names fault e → (spot : At) (name : List ℕ) →
+    bytes_at spot ≡ bytes (or_start unit form (fault_occ (holds form) fault.occ fault.here)) → name ≡ fault_names e.fault → (f : Finding) → f ≡ record { at = Some spot; form = form; code = fault.code; message = worded fault.code name } →
+    f ≡ fault_found bytes holds unit form e
+fault_is_found bytes holds unit form names fault e is spot name exact named f told_so =
+    let place : spot ≡ at_of (bytes (or_start unit form (fault_occ (holds form) (named_occ (fault_name e.fault)) e.here))) =
+    ap at_of (exact ∙ (λ i. bytes (or_start unit form (fault_occ (holds form) (is.place i) (is.here i))))) in
     told_so ∙ (λ i. record { at = Some (place i); form = form; code = is.code i; message = worded (is.code i) (named i) })
 
 -- what is still to come of forms that stand for others
-pub record ToCome (bytes : Occ → Bytes) (work : Work) (unit place : ℕ) (cs : List UnitForm) (fs : List Formed) (old now : List Finding) : Type 0 where
+pub record ToCome (bytes : Occ → Bytes) (holds : ℕ → Occ → Bool) (work : Work) (unit place : ℕ) (cs : List UnitForm) (fs : List Formed) (old now : List Finding) : Type 0 where
   pub rest : List Formed
   pub stand : FormsStand work unit place cs rest
-  pub found : now ++ faults_found bytes unit rest ≡ old ++ faults_found bytes unit fs
+  pub found : now ++ faults_found bytes holds unit rest ≡ old ++ faults_found bytes holds unit fs
 
 drop_next : (cs : List UnitForm) (n : ℕ) (c : UnitForm) → slice_get cs n ≡ Some c → drop n cs ≡ c ∷ drop (suc n) cs
 drop_next [] n c at = absurd cc
 drop_next (b ∷ cs) zero c at = let same : b ≡ c = cc in ap (λ (x : UnitForm). x ∷ cs) same
 drop_next (b ∷ cs) (suc n) c at = drop_next cs n c at
 
-module _ (bytes : Occ → Bytes) (work : Work) (unit : ℕ) (fs : List Formed) (old now new : List Finding) where
-  one_form : (n : ℕ) (c : UnitForm) (cs : List UnitForm) (rest : List Formed) → FormsStand work unit n (c ∷ cs) rest → now ++ faults_found bytes unit rest ≡ old ++ faults_found bytes unit fs →
-      (c.fault ≡ None → new ≡ now) → ((fault : FormFault) (e : Broken) → c.fault ≡ Some fault → IsFault work.symbols unit n fault e → new ≡ now ++ fault_found bytes unit n e ∷ []) → ToCome bytes work unit (suc n) cs fs old new
+module _ (bytes : Occ → Bytes) (holds : ℕ → Occ → Bool) (work : Work) (unit : ℕ) (fs : List Formed) (old now new : List Finding) where
+  one_form : (n : ℕ) (c : UnitForm) (cs : List UnitForm) (rest : List Formed) → FormsStand work unit n (c ∷ cs) rest → now ++ faults_found bytes holds unit rest ≡ old ++ faults_found bytes holds unit fs →
+      (c.fault ≡ None → new ≡ now) → ((fault : FormFault) (e : Broken) → c.fault ≡ Some fault → IsFault work.symbols fault e → new ≡ now ++ fault_found bytes holds unit n e ∷ []) → ToCome bytes holds work unit (suc n) cs fs old new
   one_form n c cs [] h so whole broken = record { rest = []; stand = h.1; found = ap (λ xs. xs ++ []) (whole h.0.fault) ∙ so }
-  one_form n c cs (f ∷ rest) (inl h) so whole broken = record { rest = f ∷ rest; stand = h.2; found = ap (λ xs. xs ++ faults_found bytes unit (f ∷ rest)) (whole h.0.fault) ∙ so }
+  one_form n c cs (f ∷ rest) (inl h) so whole broken = record { rest = f ∷ rest; stand = h.2; found = ap (λ xs. xs ++ faults_found bytes holds unit (f ∷ rest)) (whole h.0.fault) ∙ so }
   one_form n c cs (f ∷ rest) (inr h) so whole broken = record { rest = rest; stand = h.2; found = go f.result h.1 ∙ so }
     where
-      go : (r : Result Parts Broken) → IsResult work unit n c r f.counted → new ++ faults_found bytes unit rest ≡ now ++ (result_found bytes unit r f.form ++ faults_found bytes unit rest)
-      go (Ok ps) is = ap (λ xs. xs ++ faults_found bytes unit rest) (whole is.whole)
+      go : (r : Result Parts Broken) → IsResult work unit n c r f.counted → new ++ faults_found bytes holds unit rest ≡ now ++ (result_found bytes holds unit r f.form ++ faults_found bytes holds unit rest)
+      go (Ok ps) is = ap (λ xs. xs ++ faults_found bytes holds unit rest) (whole is.whole)
       go (Err e) is =
-          ap (λ xs. xs ++ faults_found bytes unit rest) (broken is.0 e is.1 is.2 ∙ ap (λ m. now ++ fault_found bytes unit m e ∷ []) (sym h.0))
-          ∙ append_assoc now (fault_found bytes unit f.form e ∷ []) (faults_found bytes unit rest)
+          ap (λ xs. xs ++ faults_found bytes holds unit rest) (broken is.0 e is.1 is.2 ∙ ap (λ m. now ++ fault_found bytes holds unit m e ∷ []) (sym h.0))
+          ∙ append_assoc now (fault_found bytes holds unit f.form e ∷ []) (faults_found bytes holds unit rest)
 
-  pub come_more : (n m : ℕ) (c : UnitForm) (cs : List UnitForm) → slice_get cs n ≡ Some c → m ≡ suc n → ToCome bytes work unit n (drop n cs) fs old now →
-      (c.fault ≡ None → new ≡ now) → ((fault : FormFault) (e : Broken) → c.fault ≡ Some fault → IsFault work.symbols unit n fault e → new ≡ now ++ fault_found bytes unit n e ∷ []) → ToCome bytes work unit m (drop m cs) fs old new
+  pub come_more : (n m : ℕ) (c : UnitForm) (cs : List UnitForm) → slice_get cs n ≡ Some c → m ≡ suc n → ToCome bytes holds work unit n (drop n cs) fs old now →
+      (c.fault ≡ None → new ≡ now) → ((fault : FormFault) (e : Broken) → c.fault ≡ Some fault → IsFault work.symbols fault e → new ≡ now ++ fault_found bytes holds unit n e ∷ []) → ToCome bytes holds work unit m (drop m cs) fs old new
   come_more n m c cs at next come whole broken =
-      subst (λ k. ToCome bytes work unit k (drop k cs) fs old new) (sym next)
+      subst (λ k. ToCome bytes holds work unit k (drop k cs) fs old new) (sym next)
       (one_form n c (drop (suc n) cs) come.rest (subst (λ xs. FormsStand work unit n xs come.rest) (drop_next cs n c at) come.stand) come.found whole broken)
 
-  pub come_all : (n : ℕ) (cs : List UnitForm) → length cs ≤ n → ToCome bytes work unit n (drop n cs) fs old now → Adds old now (form_diagnostics bytes unit fs) (form_errors fs)
-  come_all n cs over come = adds_more old now (faults_found bytes unit fs) (form_diagnostics bytes unit fs) (form_errors fs) (go come.rest (subst (λ xs. FormsStand work unit n xs come.rest) (drop_of_length-le cs over) come.stand) come.found) (faults_told bytes unit fs) (faults_errors bytes unit fs)
+  pub come_all : (n : ℕ) (cs : List UnitForm) → length cs ≤ n → ToCome bytes holds work unit n (drop n cs) fs old now → Adds old now (form_diagnostics bytes holds unit fs) (form_errors fs)
+  come_all n cs over come = adds_more old now (faults_found bytes holds unit fs) (form_diagnostics bytes holds unit fs) (form_errors fs) (go come.rest (subst (λ xs. FormsStand work unit n xs come.rest) (drop_of_length-le cs over) come.stand) come.found) (faults_told bytes holds unit fs) (faults_errors bytes holds unit fs)
     where
-      go : (rest : List Formed) → FormsStand work unit n [] rest → now ++ faults_found bytes unit rest ≡ old ++ faults_found bytes unit fs → now ≡ old ++ faults_found bytes unit fs
+      go : (rest : List Formed) → FormsStand work unit n [] rest → now ++ faults_found bytes holds unit rest ≡ old ++ faults_found bytes holds unit fs → now ≡ old ++ faults_found bytes holds unit fs
       go [] h so = sym (append-nil now) ∙ so
       go (f ∷ rest) h so = absurd h

@@ -11,6 +11,7 @@ head_kept rs k h g r same is = record {
   document = same.document ∙ is.document;
   span = ap span_seen same.span ∙ is.span;
   firsts = ap (λ fs. fs.items) same.firsts ∙ is.firsts;
+  homes = ap (λ hs. hs.items) same.homes ∙ is.homes;
   names = ap (λ ns. ns.items) same.names ∙ is.names;
 }
 

@@ -16,7 +16,7 @@ use Rattle.datum_reader.specs.Views.{data_of, datum_of, end_data, leaf_of}
 use Rattle.datum_reader.proofs.DatumLaws.{place-datum}
 use Rattle.datum_reader.proofs.SeedLaws.{datum-atom, datum-list, datum-vector}
 use Rattle.library_table.specs.declared.units.UnitForm as code_form
-use Rattle.library_table.specs.UnitsRead.{forms_of}
+use Rattle.library_table.specs.UnitsRead.{form_of, forms_of}
 use Rattle.document_units.specs.Identifiers.{all_names, end_names, occ_in, occs_in}
 use Rattle.scheme_model.specs.Sites.{name_tokens, name_tokens_all, names_in_form, names_in_forms}
 
@@ -70,12 +70,12 @@ forms_more unit k (g ∷ fs) f =
     one : (k n : ℕ) → suc k + n ≡ k + suc n
     one k n = omega arith
 
-forms_taken : (fs : List code_form.UnitForm) (n : ℕ) (f : code_form.UnitForm) → slice_get fs n ≡ Some f → (forms_of (take (suc n) fs) ≡ forms_of (take n fs) ++ record { datum = datum_of f.datum; declared = f.declared } ∷ []) × (length (forms_of (take n fs)) ≡ n)
+forms_taken : (fs : List code_form.UnitForm) (n : ℕ) (f : code_form.UnitForm) → slice_get fs n ≡ Some f → (forms_of (take (suc n) fs) ≡ forms_of (take n fs) ++ form_of f ∷ []) × (length (forms_of (take n fs)) ≡ n)
 forms_taken [] n f at = cc
-forms_taken (g ∷ fs) zero f at = let same : g ≡ f = cc in (ap (λ (x : code_form.UnitForm). record { datum = datum_of x.datum; declared = x.declared } ∷ []) same, refl)
+forms_taken (g ∷ fs) zero f at = let same : g ≡ f = cc in (ap (λ (x : code_form.UnitForm). form_of x ∷ []) same, refl)
 forms_taken (g ∷ fs) (suc n) f at =
     let q = forms_taken fs n f at in
-    (ap (λ (xs : List UnitForm). record { datum = datum_of g.datum; declared = g.declared } ∷ xs) q.0, ap suc q.1)
+    (ap (λ (xs : List UnitForm). form_of g ∷ xs) q.0, ap suc q.1)
 
 -- the identifiers of one form more
 pub form_added : (unit n : ℕ) (fs : List code_form.UnitForm) (f : code_form.UnitForm) (mid new : List Occ) → slice_get fs n ≡ Some f → mid ≡ names_in_forms unit 0 (forms_of (take n fs)) →
@@ -85,4 +85,4 @@ form_added unit n fs f mid new at one two =
     let first : f.datum.first ≡ (place_of (datum_of f.datum)).first = sym (ap (λ (p : Place). p.first) (place-datum f.datum)) in
     two ∙ (λ i. one i ++ occs_in unit n (first i) (name_tokens (datum_of f.datum)))
     ∙ ap (λ (m : ℕ). names_in_forms unit 0 (forms_of (take n fs)) ++ names_in_form unit m (datum_of f.datum)) (sym q.1 ∙ sym (zero-add (length (forms_of (take n fs)))))
-    ∙ sym (forms_more unit 0 (forms_of (take n fs)) (record { datum = datum_of f.datum; declared = f.declared })) ∙ ap (names_in_forms unit 0) (sym q.0)
+    ∙ sym (forms_more unit 0 (forms_of (take n fs)) (form_of f)) ∙ ap (names_in_forms unit 0) (sym q.0)

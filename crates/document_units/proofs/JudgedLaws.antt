@@ -131,11 +131,11 @@ stays : (f g : WholeFault) (b : Bool) → one_more b g (Some f) ≡ Some f
 stays f g true = refl
 stays f g false = refl
 
-abbrev alone : Bool → Result (List UnitForm) Datum → Option model.WholeFault
-alone many r = cond many (Some model.TooMany) (declared_fault r None)
+abbrev alone : ℕ → Bool → Result (List UnitForm) Datum → Option model.WholeFault
+alone n many r = cond many (Some model.TooMany) (declared_fault n r None)
 
-abbrev before : Bool → Result (List UnitForm) Datum → (repeated circle : Bool) → Option model.WholeFault
-before many r repeated circle = cond many (Some model.TooMany) (declared_fault r (cond repeated (Some model.DefinedTwice) (cond circle (Some model.ImportCycle) None)))
+abbrev before : ℕ → Bool → Result (List UnitForm) Datum → (repeated circle : Bool) → Option model.WholeFault
+before n many r repeated circle = cond many (Some model.TooMany) (declared_fault n r (cond repeated (Some model.DefinedTwice) (cond circle (Some model.ImportCycle) None)))
 
 abbrev after : (repeated standard circle : Bool) → Option WholeFault → Option WholeFault
 after a b c o = one_more c fault.ImportCycle (one_more b fault.DefinedTwice (one_more a fault.DefinedTwice o))
@@ -145,10 +145,10 @@ after_stays a b c f =
     ap (λ (o : Option WholeFault). one_more c fault.ImportCycle (one_more b fault.DefinedTwice o)) (stays f fault.DefinedTwice a)
     ∙ ap (one_more c fault.ImportCycle) (stays f fault.DefinedTwice b) ∙ stays f fault.ImportCycle c
 
-faults : (many : Bool) (r : Result (List UnitForm) Datum) (twice circle a b c : Bool) → (alone many r ≡ None → (twice ≡ (b || a)) × (circle ≡ c)) → after a b c (option_map told (alone many r)) ≡ option_map told (before many r twice circle)
-faults true r twice circle a b c same = after_stays a b c fault.TooMany
-faults false (Err d) twice circle a b c same = after_stays a b c (told (model.BadDeclaration d))
-faults false (Ok fs) twice circle a b c same = go a b c ∙ sym (λ j. option_map told (cond ((same refl).0 j) (Some model.DefinedTwice) (cond ((same refl).1 j) (Some model.ImportCycle) None)))
+faults : (n : ℕ) (many : Bool) (r : Result (List UnitForm) Datum) (twice circle a b c : Bool) → (alone n many r ≡ None → (twice ≡ (b || a)) × (circle ≡ c)) → after a b c (option_map told (alone n many r)) ≡ option_map told (before n many r twice circle)
+faults n true r twice circle a b c same = after_stays a b c fault.TooMany
+faults n false (Err d) twice circle a b c same = after_stays a b c (told (model.BadDeclaration n d))
+faults n false (Ok fs) twice circle a b c same = go a b c ∙ sym (λ j. option_map told (cond ((same refl).0 j) (Some model.DefinedTwice) (cond ((same refl).1 j) (Some model.ImportCycle) None)))
   where
     go : (a b c : Bool) → after a b c None ≡ option_map told (cond (b || a) (Some model.DefinedTwice) (cond c (Some model.ImportCycle) None))
     go true true true = refl
@@ -172,13 +172,13 @@ broken_imports : (b : Bool) (f : WholeFault) (h : Head) → (broken_if b f h).im
 broken_imports true f h = refl
 broken_imports false f h = refl
 
-not_many : (n : ℕ) (r : Result (List UnitForm) Datum) → alone (nat_le 128 n) r ≡ None → n < 128
+not_many : (n : ℕ) (r : Result (List UnitForm) Datum) → alone n (nat_le 128 n) r ≡ None → n < 128
 not_many n r h = go (nat_le 128 n) refl h
   where
     low : nat_le 128 n ≡ false → n < 128
     low e = grind (arith, nat_tests)
 
-    go : (b : Bool) → nat_le 128 n ≡ b → alone b r ≡ None → n < 128
+    go : (b : Bool) → nat_le 128 n ≡ b → alone n b r ≡ None → n < 128
     go true e i = absurd cc
     go false e i = low e
 
@@ -268,9 +268,9 @@ module _ (spelled : LibraryName → List ℕ) (is : SpellsStandard spelled) (all
       one_more (is_in n circles) fault.ImportCycle
       (one_more (has_standard (broken_name (is_in n repeated) fault.DefinedTwice h j)) fault.DefinedTwice (broken_fault (is_in n repeated) fault.DefinedTwice h j)))
       ∙ ap (after (is_in n repeated) (has_standard h.name) (is_in n circles)) listed.fault
-      ∙ faults (nat_le 128 n) u.source.forms (is_repeated all (prepared all n u)) (on_circle (prepare all 0 all) (prepared all n u)) (is_in n repeated) (has_standard h.name) (is_in n circles) same
+      ∙ faults n (nat_le 128 n) u.source.forms (is_repeated all (prepared all n u)) (on_circle (prepare all 0 all) (prepared all n u)) (is_in n repeated) (has_standard h.name) (is_in n circles) same
     where
-      same : alone (nat_le 128 n) u.source.forms ≡ None → (is_repeated all (prepared all n u) ≡ (has_standard h.name || is_in n repeated)) × (on_circle (prepare all 0 all) (prepared all n u) ≡ is_in n circles)
+      same : alone n (nat_le 128 n) u.source.forms ≡ None → (is_repeated all (prepared all n u) ≡ (has_standard h.name || is_in n repeated)) × (on_circle (prepare all 0 all) (prepared all n u) ≡ is_in n circles)
       same none =
           let low = not_many n u.source.forms none in (
             twice_same n u at low ∙ ap (λ b. b || is_in n repeated) (sym (ap has_standard (listed.name none) ∙ standard_same spelled is (name_if n u.source))),

@@ -8,7 +8,7 @@ use Rattle.std.proofs.lemmas.Option.{slice_get_within}
 use Rattle.ls_base.specs.declared.places.Span.{Span}
 use Rattle.scheme_model.specs.Data.{Place, Datum, Data, none, part, tail, place_of}
 use Rattle.scheme_model.specs.Declarations as source
-use Rattle.scheme_model.specs.Declarations.{UnitForm, UnitKind, IsLibrary, is_library, Flat, library_with, library_of, behind_head, program_in}
+use Rattle.scheme_model.specs.Declarations.{UnitForm, unit_or, UnitKind, IsLibrary, is_library, Flat, library_with, library_of, behind_head, program_in}
 use Rattle.scheme_model.specs.Program as model
 use Rattle.scheme_model.specs.Program.{Placed, prepared, ImportSpec, name_if, imported_as, unless_standard, max_units, declared_fault, forms_or_none, specs_from, exports_from}
 use Rattle.scheme_model.specs.Requirements.{LibraryName, Known}
@@ -62,13 +62,13 @@ kinds_same kinds.Program = refl
 
 declared_read : (fs : List UnitForm) → FormsRead fs → AreDeclaredRead fs
 declared_read [] h = tt
-declared_read (f ∷ fs) h = (λ _. h.0, declared_read fs h.1)
+declared_read (f ∷ fs) h = ((λ _. h.0.0, h.0.1), declared_read fs h.1)
 
 specs_match : (spelled : LibraryName → List ℕ) (cs : List code_import.ImportSpec) (ss : List ImportSpec) → AreSpecs cs ss → AreImports spelled cs ss → AllMatch (IsSpec spelled) cs ss
 specs_match spelled [] [] h k = tt
 specs_match spelled [] (s ∷ ss) h k = absurd h
 specs_match spelled (c ∷ cs) [] h k = absurd h
-specs_match spelled (c ∷ cs) (s ∷ ss) h k = (record { set = k.0; whole = h.0.span; library = h.0.library }, specs_match spelled cs ss h.1 k.1)
+specs_match spelled (c ∷ cs) (s ∷ ss) h k = (record { unit = h.0.unit; set = k.0; whole = h.0.span; library = h.0.library }, specs_match spelled cs ss h.1 k.1)
 
 imports_back : (spelled : LibraryName → List ℕ) (cs : List code_import.ImportSpec) (ss : List ImportSpec) → AllMatch (IsSpec spelled) cs ss → AreImports spelled cs ss
 imports_back spelled [] [] h = tt
@@ -106,6 +106,10 @@ firsts_seen : (fs : List code_form.UnitForm) → map (λ (f : code_form.UnitForm
 firsts_seen [] = refl
 firsts_seen (f ∷ fs) = λ j. (sym (ap (λ (p : Place). p.first) (place-datum f.datum)) j ∷ firsts_seen fs j)
 
+homes_seen : (n : ℕ) (fs : List code_form.UnitForm) → map (λ (f : code_form.UnitForm). unit_or n f.home) fs ≡ map (λ (f : UnitForm). unit_or n f.home) (forms_of fs)
+homes_seen n [] = refl
+homes_seen n (f ∷ fs) = ap (λ (us : List ℕ). unit_or n f.home ∷ us) (homes_seen n fs)
+
 module _ (spelled : LibraryName → List ℕ) (written : WritesProper spelled) (n : ℕ) where
   source_of : (u : source.UnitSource) (c : UnitSource) (d : Datum) → IsSource n c u d → FormsRead (forms_of c.forms) → IsSourceOf spelled (prepared [] n (record { document = 0; source = u })) None c
   source_of u c d h read =
@@ -137,7 +141,7 @@ module _ (spelled : LibraryName → List ℕ) (written : WritesProper spelled) (
       go true e = record {
         name = is;
         spells = λ whole. is ∙ (sym h.name ∙ source_spelled spelled written known n c d h);
-        bad = ap (λ (f : Flat). option_map told (declared_fault f None)) (sym h.forms);
+        bad = ap (λ (f : Flat). option_map told (declared_fault n f None)) (sym h.forms);
         named = by_name true e;
         span = h.span ∙ library_token known d lib;
         source = record { kind = own.kind; forms = own.forms; imports = own.imports; exports = own.exports; single = own.single };
@@ -146,7 +150,7 @@ module _ (spelled : LibraryName → List ℕ) (written : WritesProper spelled) (
       go false e = record {
         name = is;
         spells = λ whole. is ∙ (sym h.name ∙ source_spelled spelled written known n c d h);
-        bad = ap (λ (f : Flat). option_map told (declared_fault f None)) (sym h.forms);
+        bad = ap (λ (f : Flat). option_map told (declared_fault n f None)) (sym h.forms);
         named = by_name false e;
         span = h.span ∙ library_token known d lib;
         source = own;
@@ -155,13 +159,13 @@ module _ (spelled : LibraryName → List ℕ) (written : WritesProper spelled) (
 
   -- a library that has a bad declaration
   blank_at : (known : Known) (d e : Datum) (c : UnitSource) (span : Span) (name : Option (List ℕ)) → true ≡ is_library d → c.span ≡ first_token d → IsBlankLibrary c → (library_of known d).forms ≡ Err e → span ≡ bytes_of e → name ≡ option_map library_text (library_of known d).name →
-      IsReadAt spelled n (library_of known d) name c (Some (fault.BadDeclaration span))
+      IsReadAt spelled n (library_of known d) name c (Some (fault.BadDeclaration n span))
   blank_at known d e c span name lib token blank bad at is =
       let nothing : forms_or_none (library_of known d).forms ≡ [] = ap forms_or_none bad in
       record {
         name = is;
-        spells = λ k. (let z : Some (model.BadDeclaration e) ≡ None = sym (ap (λ (f : Flat). declared_fault f None) bad) ∙ k in absurd cc);
-        bad = ap (λ (s : Span). Some (fault.BadDeclaration s)) at ∙ ap (λ (f : Flat). option_map told (declared_fault f None)) (sym bad);
+        spells = λ k. (let z : Some (model.BadDeclaration n e) ≡ None = sym (ap (λ (f : Flat). declared_fault n f None) bad) ∙ k in absurd cc);
+        bad = ap (λ (s : Span). Some (fault.BadDeclaration n s)) at ∙ ap (λ (f : Flat). option_map told (declared_fault n f None)) (sym bad);
         named = blank.name ∙ ap (λ (o : Option LibraryName). option_map spelled (unless_standard o)) (sym (no_name_if (library_of known d) e bad));
         span = token ∙ library_token known d lib;
         source = record {
@@ -183,7 +187,7 @@ module _ (spelled : LibraryName → List ℕ) (written : WritesProper spelled) (
       record {
         name = sym (ap (option_map library_text) unnamed);
         spells = λ whole. sym (ap (option_map spelled) unnamed);
-        bad = ap (λ (f : Flat). option_map told (declared_fault f None)) (sym h.forms);
+        bad = ap (λ (f : Flat). option_map told (declared_fault n f None)) (sym h.forms);
         named = h.name ∙ ap (option_map library_text) unnamed ∙ sym (ap (λ (o : Option LibraryName). option_map spelled (unless_standard o)) (usable_name u (forms_of c.forms) h.forms ∙ unnamed));
         span = h.span ∙ program_token d rest u (ap program_in (sym begins) ∙ one);
         source = source_of u c d h read;
@@ -194,7 +198,7 @@ pub library_for : (known : Known) (n : ℕ) (d : Datum) (c : UnitSource) (name :
 library_for known n d c name lib read h is spelled written = library_at spelled written n known d c name lib read h is
 
 pub blank_for : (known : Known) (n : ℕ) (d e : Datum) (c : UnitSource) (span : Span) (name : Option (List ℕ)) → true ≡ is_library d → c.span ≡ first_token d → IsBlankLibrary c → (library_of known d).forms ≡ Err e → span ≡ bytes_of e → name ≡ option_map library_text (library_of known d).name →
-    IsReadFor n (library_of known d) name c (Some (fault.BadDeclaration span))
+    IsReadFor n (library_of known d) name c (Some (fault.BadDeclaration n span))
 blank_for known n d e c span name lib token blank bad at is spelled written = blank_at spelled written n known d e c span name lib token blank bad at is
 
 pub program_for : (n : ℕ) (ds rest : List Datum) (u : source.UnitSource) (c : UnitSource) (d : Datum) → ds ≡ d ∷ rest → FormsRead (forms_of c.forms) → program_in ds ≡ u ∷ [] → IsSource n c u d → IsReadFor n u None c None
@@ -207,25 +211,26 @@ abbrev pub fault_with : ℕ → Option WholeFault → Option WholeFault
 fault_with n bad = cond (nat_le max_units n) (Some fault.TooMany) bad
 
 module _ (spelled : LibraryName → List ℕ) (n : ℕ) (document : ℕ) (u : source.UnitSource) (name : Option (List ℕ)) (c : UnitSource) (bad : Option WholeFault) (is : IsReadAt spelled n u name c bad) where
-  faults : (b : Bool) → cond b (Some fault.TooMany) bad ≡ option_map told (cond b (Some model.TooMany) (declared_fault u.forms None))
+  faults : (b : Bool) → cond b (Some fault.TooMany) bad ≡ option_map told (cond b (Some model.TooMany) (declared_fault n u.forms None))
   faults true = refl
   faults false = is.bad
 
-  names : (f : Flat) → u.forms ≡ f → (b : Bool) → nat_le max_units n ≡ b → cond b (Some model.TooMany) (declared_fault f None) ≡ None → name ≡ option_map spelled (name_if n u)
+  names : (f : Flat) → u.forms ≡ f → (b : Bool) → nat_le max_units n ≡ b → cond b (Some model.TooMany) (declared_fault n f None) ≡ None → name ≡ option_map spelled (name_if n u)
   names f e true test whole = absurd cc
   names (Err d) e false test whole = absurd cc
   names (Ok fs) e false test whole =
       let lt : n < max_units = grind (arith, nat_tests) in
-      is.spells (ap (λ (f : Flat). declared_fault f None) e) ∙ ap (option_map spelled) (sym (foremost_name n u lt ∙ usable_name u fs e))
+      is.spells (ap (λ (f : Flat). declared_fault n f None) e) ∙ ap (option_map spelled) (sym (foremost_name n u lt ∙ usable_name u fs e))
 
-  one_of : (h : Head) → h.document ≡ document → h.kind ≡ c.kind → h.name ≡ name → h.span ≡ c.span → h.firsts.items ≡ map (λ f. f.datum.first) c.forms → h.names.items ≡ names_in_forms n 0 (forms_of c.forms) → h.imports ≡ [] → h.fault ≡ fault_with n bad → IsOne spelled n (placed_in document u) h c
-  one_of h doc kind called span firsts named imports broken = record {
+  one_of : (h : Head) → h.document ≡ document → h.kind ≡ c.kind → h.name ≡ name → h.span ≡ c.span → h.firsts.items ≡ map (λ f. f.datum.first) c.forms → h.homes.items ≡ map (λ f. unit_or n f.home) c.forms → h.names.items ≡ names_in_forms n 0 (forms_of c.forms) → h.imports ≡ [] → h.fault ≡ fault_with n bad → IsOne spelled n (placed_in document u) h c
+  one_of h doc kind called span firsts homes named imports broken = record {
     told = record {
       document = doc;
       kind = ap kind_as kind ∙ is.source.kind;
       name = called ∙ is.name;
       span = span ∙ is.span;
       firsts = firsts ∙ (firsts_seen c.forms ∙ ap (λ (fs : List UnitForm). map (λ (f : UnitForm). (place_of f.datum).first) fs) (sym is.source.forms));
+      homes = homes ∙ (homes_seen n c.forms ∙ ap (λ (fs : List UnitForm). map (λ (f : UnitForm). unit_or n f.home) fs) (sym is.source.forms));
       names = named ∙ ap (λ (fs : List UnitForm). names_in_forms n 0 fs) (sym is.source.forms);
     };
     listed = record {
@@ -279,12 +284,13 @@ module _ (spelled : LibraryName → List ℕ) (all : List Placed) (old new : Uni
 
 -- a unit was added with its head
 pub unit_added : (document : ℕ) (u : source.UnitSource) (old new : Units) (h : Head) (c : UnitSource) (name : Option (List ℕ)) (bad : Option WholeFault) → IsReadFor (length old.sources.items) u name c bad →
-    h.document ≡ document → h.kind ≡ c.kind → h.name ≡ name → h.span ≡ c.span → h.firsts.items ≡ map (λ f. f.datum.first) c.forms → h.names.items ≡ names_in_forms (length old.sources.items) 0 (forms_of c.forms) → h.imports ≡ [] → h.fault ≡ fault_with (length old.sources.items) bad →
+    h.document ≡ document → h.kind ≡ c.kind → h.name ≡ name → h.span ≡ c.span → h.firsts.items ≡ map (λ f. f.datum.first) c.forms → h.homes.items ≡ map (λ f. unit_or (length old.sources.items) f.home) c.forms →
+    h.names.items ≡ names_in_forms (length old.sources.items) 0 (forms_of c.forms) → h.imports ≡ [] → h.fault ≡ fault_with (length old.sources.items) bad →
     new.heads.items ≡ old.heads.items ++ h ∷ [] → new.sources.items ≡ old.sources.items ++ c ∷ [] → AddsRead document (u ∷ []) old new
-unit_added document u old new h c name bad read doc kind called span firsts named imports broken heads sources spelled written all far =
+unit_added document u old new h c name bad read doc kind called span firsts homes named imports broken heads sources spelled written all far =
     more_so_far spelled all old new (placed_in document u) h c far heads sources
     (subst (λ (n : ℕ). IsOne spelled n (placed_in document u) h c) far.sources
-    (one_of spelled (length old.sources.items) document u name c bad (read spelled written) h doc kind called span firsts named imports broken))
+    (one_of spelled (length old.sources.items) document u name c bad (read spelled written) h doc kind called span firsts homes named imports broken))
 
 -- ---- units of a document
 

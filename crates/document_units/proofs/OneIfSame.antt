@@ -1,10 +1,11 @@
 -- An export that isn't renamed has one identifier.
 use Rattle.std.proofs.Common.{◌≡◌, ℕ, suc, Bool, true, false, List, [], ◌∷◌, ◌++◌, refl}
 use Rattle.std.specs.Prelude.{codes, ◌&&◌}
-use Rattle.scheme_model.specs.Trees.{Tree, name, atom, list, vector, no_trees, tree, placed_in}
-use Rattle.scheme_model.specs.Data.{Datum, place_of}
+use Rattle.scheme_model.specs.declared.Home.{Home}
+use Rattle.scheme_model.specs.Trees.{Tree, name, atom, list, vector, no_trees, tree, placed_by}
+use Rattle.scheme_model.specs.Data.{Datum}
 use Rattle.scheme_model.specs.DataTrees.{tree_of}
-use Rattle.scheme_model.specs.Declarations.{UnitForm, is_headed, list_parts}
+use Rattle.scheme_model.specs.Declarations.{UnitForm, home_of, is_headed, list_parts}
 use Rattle.scheme_model.specs.Program.{ExportSpec, behind_first, export_of, exports_with, exports_in, exports_from}
 use Rattle.document_units.specs.UnitSources.{HaveOneIfSame}
 
@@ -27,12 +28,12 @@ one_export form (list (tree r (tree (atom a p) ts)) end o) = tt
 one_export form (list (tree r (tree (list us e p) ts)) end o) = tt
 one_export form (list (tree r (tree (vector us p) ts)) end o) = tt
 
-all_with : (unit form first : ℕ) (ds : List Datum) → HaveOneIfSame (exports_with unit form first ds)
-all_with unit form first [] = tt
-all_with unit form first (d ∷ ds) = both (export_of form (tree_of (λ s. s) (placed_in unit form first) d)) (exports_with unit form first ds) (one_export form (tree_of (λ s. s) (placed_in unit form first) d)) (all_with unit form first ds)
+all_with : (form : ℕ) (h : Home) (ds : List Datum) → HaveOneIfSame (exports_with form h ds)
+all_with form h [] = tt
+all_with form h (d ∷ ds) = both (export_of form (tree_of (λ s. s) (placed_by h) d)) (exports_with form h ds) (one_export form (tree_of (λ s. s) (placed_by h) d)) (all_with form h ds)
 
 all_in : (unit form : ℕ) (f : UnitForm) (b : Bool) → (f.declared && is_headed (codes "export") f.datum) ≡ b → HaveOneIfSame (exports_in unit form f)
-all_in unit form f true e = rw e (all_with unit form (place_of f.datum).first (behind_first (list_parts f.datum)))
+all_in unit form f true e = rw e (all_with form (home_of unit form f) (behind_first (list_parts f.datum)))
 all_in unit form f false e = rw e tt
 
 -- the exports of forms

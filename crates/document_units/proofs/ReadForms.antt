@@ -3,7 +3,7 @@ use Rattle.std.proofs.Common.{◌≡◌, ℕ, zero, suc, List, [], ◌∷◌, �
 use Rattle.scheme_model.specs.Trees.{Tree}
 use Rattle.scheme_model.specs.Requirements.{LibraryName, Known, library_name_of, clause_holds}
 use Rattle.scheme_model.specs.Data.{Place, Datum, atom, list, vector, bytes, Data, none, part, tail}
-use Rattle.scheme_model.specs.Declarations.{UnitForm, UnitSource, plain_form, Flat, ◌>>=◌, or_bad, Clause, later_clauses, picked, chosen_clause, flat_of, some_clauses, both, parts_or, proper_parts, with_part, all_export_parts, Declared, Exports, Imports, Begins, Chooses, Includes, Undeclared, declared_by, declared_as, declaration, declarations, clauses, clause_of, symbol_in, symbol_tree, no_name, name_or, library_with, library_of, behind_head, is_headed, is_proper, program_forms, program_in}
+use Rattle.scheme_model.specs.Declarations.{UnitForm, UnitSource, plain_form, declared_form, Flat, ◌>>=◌, or_bad, Clause, later_clauses, picked, chosen_clause, flat_of, some_clauses, both, parts_or, proper_parts, with_part, all_export_parts, Declared, Exports, Imports, Begins, Chooses, Includes, Undeclared, declared_by, declared_as, declaration, declarations, clauses, clause_of, symbol_in, symbol_tree, no_name, name_or, library_with, library_of, behind_head, is_headed, is_proper, program_forms, program_in}
 use Rattle.datum_reader.specs.declared.datum.Datum as code
 use Rattle.datum_reader.specs.Views.{data_of}
 use Rattle.datum_reader.specs.WellFormed.{IsIn, IsAmong, WasRead}
@@ -20,7 +20,7 @@ AllRead (d ∷ ds) = WasRead d × AllRead ds
 
 pub were_read : (fs : List UnitForm) → FormsRead fs → WereRead fs
 were_read [] h = tt
-were_read (f ∷ fs) h = (λ _. h.0, were_read fs h.1)
+were_read (f ∷ fs) h = (λ _. h.0.0, were_read fs h.1)
 
 abbrev pub FlatRead : Flat → Type 0
 FlatRead (Ok fs) = FormsRead fs
@@ -53,7 +53,7 @@ both_read (Err e) b h k = tt
 
 plain_read : (ds : List Datum) → AllRead ds → FormsRead (map plain_form ds)
 plain_read [] h = tt
-plain_read (d ∷ ds) h = (h.0, plain_read ds h.1)
+plain_read (d ∷ ds) h = ((h.0, tt), plain_read ds h.1)
 
 in_self : (d : Datum) → IsIn d d
 in_self (atom p k) = refl
@@ -98,13 +98,13 @@ chooses_read known d (Ok (c ∷ cs)) h = flat (chosen_clause known d (c ∷ cs))
     flat (Ok f) k = k
     flat (Err e) k = tt
 
-exports_read : (d : Datum) (o : Option (List Datum)) → WasRead d → FlatRead (parts_or d o >>= λ ds. cond (all_export_parts ds) (Ok (record { datum = d; declared = true } ∷ [])) (Err d))
+exports_read : (d : Datum) (o : Option (List Datum)) → WasRead d → FlatRead (parts_or d o >>= λ ds. cond (all_export_parts ds) (Ok (declared_form d ∷ [])) (Err d))
 exports_read d None w = tt
-exports_read d (Some ps) w = elim (all_export_parts ps) as (λ b. FlatRead (cond b (Ok (record { datum = d; declared = true } ∷ [])) (Err d))) [ true ↦ (w, tt) | false ↦ tt ]
+exports_read d (Some ps) w = elim (all_export_parts ps) as (λ b. FlatRead (cond b (Ok (declared_form d ∷ [])) (Err d))) [ true ↦ ((w, tt), tt) | false ↦ tt ]
 
-one_read : (d : Datum) (o : Option (List Datum)) → WasRead d → FlatRead (parts_or d o >>= λ ds. Ok (record { datum = d; declared = true } ∷ []))
+one_read : (d : Datum) (o : Option (List Datum)) → WasRead d → FlatRead (parts_or d o >>= λ ds. Ok (declared_form d ∷ []))
 one_read d None w = tt
-one_read d (Some ps) w = (w, tt)
+one_read d (Some ps) w = ((w, tt), tt)
 
 begin_read : (d : Datum) (o : Option (List Datum)) → ((ps : List Datum) → o ≡ Some ps → AllRead ps) → FlatRead (parts_or d o >>= λ ds. Ok (map plain_form ds))
 begin_read d None h = tt
@@ -191,8 +191,8 @@ library_read known d fs w is = were_read fs (library_forms known d fs w is)
 program_read : (ds : List Datum) → AllRead ds → FormsRead (program_forms ds)
 program_read [] h = tt
 program_read (d ∷ ds) h =
-    elim (is_headed (codes "import") d && is_proper d) as (λ b. FormsRead (cond b (record { datum = d; declared = true } ∷ program_forms ds) (map plain_form (d ∷ ds)))) [
-      | true ↦ (h.0, program_read ds h.1)
+    elim (is_headed (codes "import") d && is_proper d) as (λ b. FormsRead (cond b (declared_form d ∷ program_forms ds) (map plain_form (d ∷ ds)))) [
+      | true ↦ ((h.0, tt), program_read ds h.1)
       | false ↦ plain_read (d ∷ ds) h
     ]
 

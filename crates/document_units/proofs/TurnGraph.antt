@@ -139,7 +139,7 @@ waiting_within all n m h = low_waits all m (row_low all n m (waits_for_fewer all
 unbroken : (all : List Placed) (ps : List Prepared) (p : Prepared) → fault_before all ps p ≡ None → on_circle ps p ≡ false
 unbroken all ps p h = go _ p.placed.source.forms _ (on_circle ps p) h
   where
-    go : (a : Bool) (fs : Result (List UnitForm) Datum) (r c : Bool) → cond a (Some TooMany) (declared_fault fs (cond r (Some DefinedTwice) (cond c (Some ImportCycle) None))) ≡ None → c ≡ false
+    go : (a : Bool) (fs : Result (List UnitForm) Datum) (r c : Bool) → cond a (Some TooMany) (declared_fault p.number fs (cond r (Some DefinedTwice) (cond c (Some ImportCycle) None))) ≡ None → c ≡ false
     go true fs r c e = absurd cc
     go false (Err d) r c e = absurd cc
     go false (Ok fs) true c e = absurd cc

@@ -4,7 +4,7 @@ use Rattle.std.specs.Prelude.{codes, not, ◌&&◌}
 use Rattle.scheme_model.specs.Kinds.{Quote, Quasi, Unquote, Splice}
 use Rattle.scheme_model.specs.Data.{Place, spelled, implied, Datum, atom, list, vector, bytes, Data, none, part, tail, place_of}
 use Rattle.scheme_model.specs.Declarations as source
-use Rattle.scheme_model.specs.Declarations.{UnitForm, plain_form, is_headed, is_library, is_proper, library_with, library_of, behind_head, libraries_in, program_forms, program_in, units_in}
+use Rattle.scheme_model.specs.Declarations.{UnitForm, plain_form, declared_form, is_headed, is_library, is_proper, library_with, library_of, behind_head, libraries_in, program_forms, program_in, units_in}
 use Rattle.scheme_model.specs.Program.{Placed, units_from, units_of}
 use Rattle.scheme_model.specs.Program as program
 use Rattle.scheme_model.specs.Requirements.{Known}
@@ -51,7 +51,7 @@ library_token known d h = headed_token d h ∙ sym (opened_at known d (behind_he
 forms_token : (d : Datum) (ds : List Datum) → form_token (program_forms (d ∷ ds)) ≡ first_token d
 forms_token d ds = go (is_headed (codes "import") d && is_proper d)
   where
-    go : (b : Bool) → form_token (cond b (record { datum = d; declared = true } ∷ program_forms ds) (map plain_form (d ∷ ds))) ≡ first_token d
+    go : (b : Bool) → form_token (cond b (declared_form d ∷ program_forms ds) (map plain_form (d ∷ ds))) ≡ first_token d
     go true = refl
     go false = refl
 

@@ -17,10 +17,10 @@ use Rattle.document_units.specs.Changed.{Changes}
 
 -- ---- what breaks a unit
 
--- a bad declaration is told by its bytes
+-- a bad declaration is told by its unit and its bytes
 abbrev pub told : model.WholeFault → WholeFault
 told model.TooMany = fault.TooMany
-told (model.BadDeclaration d) = fault.BadDeclaration (bytes_of d)
+told (model.BadDeclaration n d) = fault.BadDeclaration n (bytes_of d)
 told model.DefinedTwice = fault.DefinedTwice
 told model.ImportCycle = fault.ImportCycle
 told model.TooLarge = fault.TooLarge
@@ -52,7 +52,7 @@ BreaksStandard old new = Changes (λ n h g. g ≡ broken_if (has_standard h.name
 
 -- what breaks a unit whatever the others are
 abbrev pub fault_alone : ℕ → source.UnitSource → Option model.WholeFault
-fault_alone n u = if nat_le max_units n then Some model.TooMany else declared_fault u.forms None
+fault_alone n u = if nat_le max_units n then Some model.TooMany else declared_fault n u.forms None
 
 -- a unit is broken by itself, or has its library's name; nothing is known yet of what it imports
 pub record IsListed (spelled : LibraryName → List ℕ) (n : ℕ) (u : Placed) (h : Head) : Type 0 where

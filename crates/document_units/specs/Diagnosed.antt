@@ -1,5 +1,5 @@
 -- What the code finds in forms, beside the definition's diagnostics and Errors.
-use Rattle.std.specs.Prelude.{◌≡◌, ℕ, List, [], ◌∷◌, ◌++◌, Option, Some, None, Result, Ok, Err}
+use Rattle.std.specs.Prelude.{◌≡◌, ℕ, List, [], ◌∷◌, ◌++◌, Bool, Option, Some, None, Result, Ok, Err}
 use Rattle.std.specs.BTreeMap.{BTreeMap}
 use Rattle.scheme_model.specs.declared.Occ.{Occ}
 use Rattle.scheme_model.specs.Ident.{Ident, symbol_of}
@@ -10,7 +10,7 @@ use Rattle.scheme_model.specs.Steps.{Broken}
 use Rattle.scheme_model.specs.UnitExpansion.{Formed}
 use Rattle.scheme_model.specs.Data.{place_of}
 use Rattle.scheme_model.specs.Program as model
-use Rattle.scheme_model.specs.Diagnostics.{Bytes, fault_names, fault_occ, or_start}
+use Rattle.scheme_model.specs.Diagnostics.{Bytes, fault_names, fault_occ, named_occ, or_start}
 use Rattle.document_units.specs.declared.listing.WholeFault.{WholeFault}
 use Rattle.document_units.specs.declared.listing.WholeFault.TheVariants as code
 use Rattle.document_units.specs.declared.findings.At.{At}
@@ -29,22 +29,22 @@ named_text None (Some text) = text
 named_text (Some n) text = symbol_of n.name
 
 -- the finding of a broken form
-abbrev pub fault_found : (Occ → Bytes) → (unit form : ℕ) → Broken → Finding
-fault_found bytes unit form e = record {
-  at = Some (at_of (bytes (or_start unit form (fault_occ unit form (fault_name e.fault) e.here))));
+abbrev pub fault_found : (Occ → Bytes) → (holds : ℕ → Occ → Bool) → (unit form : ℕ) → Broken → Finding
+fault_found bytes holds unit form e = record {
+  at = Some (at_of (bytes (or_start unit form (fault_occ (holds form) (named_occ (fault_name e.fault)) e.here))));
   form = form;
   code = fault_code e.fault;
   message = worded (fault_code e.fault) (fault_names e.fault);
 }
 
-abbrev pub result_found : (Occ → Bytes) → ℕ → Result Parts Broken → ℕ → List Finding
-result_found bytes unit (Ok ps) form = []
-result_found bytes unit (Err e) form = fault_found bytes unit form e ∷ []
+abbrev pub result_found : (Occ → Bytes) → (ℕ → Occ → Bool) → ℕ → Result Parts Broken → ℕ → List Finding
+result_found bytes holds unit (Ok ps) form = []
+result_found bytes holds unit (Err e) form = fault_found bytes holds unit form e ∷ []
 
 -- those of forms, in order
-abbrev pub faults_found : (Occ → Bytes) → ℕ → List Formed → List Finding
-faults_found bytes unit [] = []
-faults_found bytes unit (f ∷ fs) = result_found bytes unit f.result f.form ++ faults_found bytes unit fs
+abbrev pub faults_found : (Occ → Bytes) → (ℕ → Occ → Bool) → ℕ → List Formed → List Finding
+faults_found bytes holds unit [] = []
+faults_found bytes holds unit (f ∷ fs) = result_found bytes holds unit f.result f.form ++ faults_found bytes holds unit fs
 
 -- ---- what means nothing
 
@@ -64,42 +64,50 @@ unbound_found bytes t = free_found bytes t.meaning t.occ
 -- why a unit is broken as a whole, as the definition says it
 abbrev pub IsWhole : WholeFault → model.WholeFault → Type 0
 IsWhole code.TooMany model.TooMany = Unit {0}
-IsWhole (code.BadDeclaration s) (model.BadDeclaration d) = (s.start ≡ (place_of d).start) × (s.end ≡ (place_of d).end)
+IsWhole (code.BadDeclaration unit s) (model.BadDeclaration n d) = (unit ≡ n) × (s.start ≡ (place_of d).start) × (s.end ≡ (place_of d).end)
 IsWhole code.DefinedTwice model.DefinedTwice = Unit {0}
 IsWhole code.ImportCycle model.ImportCycle = Unit {0}
 IsWhole code.TooLarge model.TooLarge = Unit {0}
-IsWhole code.TooMany (model.BadDeclaration d) = ⊥
+IsWhole code.TooMany (model.BadDeclaration n d) = ⊥
 IsWhole code.TooMany model.DefinedTwice = ⊥
 IsWhole code.TooMany model.ImportCycle = ⊥
 IsWhole code.TooMany model.TooLarge = ⊥
-IsWhole (code.BadDeclaration s) model.TooMany = ⊥
-IsWhole (code.BadDeclaration s) model.DefinedTwice = ⊥
-IsWhole (code.BadDeclaration s) model.ImportCycle = ⊥
-IsWhole (code.BadDeclaration s) model.TooLarge = ⊥
+IsWhole (code.BadDeclaration unit s) model.TooMany = ⊥
+IsWhole (code.BadDeclaration unit s) model.DefinedTwice = ⊥
+IsWhole (code.BadDeclaration unit s) model.ImportCycle = ⊥
+IsWhole (code.BadDeclaration unit s) model.TooLarge = ⊥
 IsWhole code.DefinedTwice model.TooMany = ⊥
-IsWhole code.DefinedTwice (model.BadDeclaration d) = ⊥
+IsWhole code.DefinedTwice (model.BadDeclaration n d) = ⊥
 IsWhole code.DefinedTwice model.ImportCycle = ⊥
 IsWhole code.DefinedTwice model.TooLarge = ⊥
 IsWhole code.ImportCycle model.TooMany = ⊥
-IsWhole code.ImportCycle (model.BadDeclaration d) = ⊥
+IsWhole code.ImportCycle (model.BadDeclaration n d) = ⊥
 IsWhole code.ImportCycle model.DefinedTwice = ⊥
 IsWhole code.ImportCycle model.TooLarge = ⊥
 IsWhole code.TooLarge model.TooMany = ⊥
-IsWhole code.TooLarge (model.BadDeclaration d) = ⊥
+IsWhole code.TooLarge (model.BadDeclaration n d) = ⊥
 IsWhole code.TooLarge model.DefinedTwice = ⊥
 IsWhole code.TooLarge model.ImportCycle = ⊥
 
 abbrev pub whole_number : WholeFault → ℕ
 whole_number code.TooMany = 67
-whole_number (code.BadDeclaration s) = 61
+whole_number (code.BadDeclaration unit s) = 61
 whole_number code.DefinedTwice = 63
 whole_number code.ImportCycle = 62
 whole_number code.TooLarge = 66
 
+-- a unit of the document where it stands
+abbrev pub text_unit : ℕ → WholeFault → ℕ
+text_unit unit code.TooMany = unit
+text_unit unit (code.BadDeclaration n s) = n
+text_unit unit code.DefinedTwice = unit
+text_unit unit code.ImportCycle = unit
+text_unit unit code.TooLarge = unit
+
 -- a declaration that is bad is told, and else the unit's start
 abbrev pub whole_at : At → WholeFault → At
 whole_at start code.TooMany = start
-whole_at start (code.BadDeclaration s) = record { document = start.document; span = s }
+whole_at start (code.BadDeclaration unit s) = record { document = start.document; span = s }
 whole_at start code.DefinedTwice = start
 whole_at start code.ImportCycle = start
 whole_at start code.TooLarge = start

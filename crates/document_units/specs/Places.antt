@@ -1,6 +1,7 @@
 -- The places of units and of their tokens, as the code keeps them.
 use Rattle.std.specs.Prelude.{◌≡◌, ℕ, zero, suc, ◌<◌, nat_lt, if◌then◌else◌, List, [], ◌∷◌, map, length, slice_get, Option, Some, None}
 use Rattle.scheme_model.specs.Data.{place_of}
+use Rattle.scheme_model.specs.Declarations.{unit_or}
 use Rattle.scheme_model.specs.Program.{UnitResult}
 use Rattle.scheme_model.specs.Diagnostics.{Span, Bytes, bytes_of, unit_start}
 use Rattle.document_units.specs.Readings.{Read, spans_in, span_seen}
@@ -33,6 +34,7 @@ pub record SameHead (h g : Head) : Type 0 where
   pub kind : g.kind ≡ h.kind
   pub span : g.span ≡ h.span
   pub firsts : g.firsts ≡ h.firsts
+  pub homes : g.homes ≡ h.homes
   pub names : g.names ≡ h.names
 
 abbrev pub HeadsStay : List Head → List Head → Type 0
@@ -56,6 +58,12 @@ number_at [] n = 0
 number_at (x ∷ xs) zero = x
 number_at (x ∷ xs) (suc n) = number_at xs n
 
+-- a unit at a place, and this one where there is none
+abbrev pub unit_at : List ℕ → ℕ → (unit : ℕ) → ℕ
+unit_at [] n unit = unit
+unit_at (x ∷ xs) zero unit = x
+unit_at (x ∷ xs) (suc n) unit = unit_at xs n unit
+
 -- a form's first token, or the unit's where it has no such form
 abbrev pub form_or_start : List (List Span) → List UnitResult → Option UnitResult → (unit form : ℕ) → Bytes
 form_or_start spans us None unit form = start_of spans None
@@ -66,12 +74,13 @@ form_or_start spans us (Some r) unit form =
 abbrev pub CanPlace : code.Places → Type 0
 CanPlace p = (n : ℕ) (h : Head) → slice_get p.heads.now n ≡ Some h → h.document < length p.documents.now
 
--- the unit at a place: its document, its first token, and the first tokens and the identifiers of its forms
+-- the unit at a place: its document, its first token, and the first tokens, the homes' units and the identifiers of its forms
 pub record IsHead (rs : List Read) (place : ℕ) (h : Head) (r : UnitResult) : Type 0 where
   pub number : r.unit.number ≡ place
   pub document : h.document ≡ r.unit.placed.document
   pub span : span_seen h.span ≡ (unit_start (spans_of rs) r.unit).span
   pub firsts : h.firsts.items ≡ map (λ f. (place_of f.datum).first) r.unit.forms
+  pub homes : h.homes.items ≡ map (λ f. unit_or place f.home) r.unit.forms
   pub names : h.names.items ≡ names_in_forms r.unit.number 0 r.unit.forms
 
 abbrev pub AreHeads : List Read → ℕ → List Head → List UnitResult → Type 0

@@ -11,8 +11,9 @@ use Rattle.library_table.specs.Sources.{AreExports}
 use Rattle.library_table.specs.UnitsRead.{forms_of}
 use Rattle.library_table.specs.declared.units.UnitSource.{UnitSource}
 
--- an import set, with the bytes of the set and of its library's name
+-- an import set, with its unit and the bytes of the set and of its library's name
 pub record IsSpec (spelled : LibraryName → List ℕ) (c : code_import.ImportSpec) (s : ImportSpec) : Type 0 where
+  pub unit : c.unit ≡ s.unit
   pub set : IsSetOf (λ t n. t ≡ spelled n) c.set s.set
   pub whole : c.span ≡ bytes_of s.whole
   pub library : c.library ≡ bytes_of s.library

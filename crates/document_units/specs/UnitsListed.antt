@@ -44,8 +44,8 @@ unit_token u = token_by u.kind u
 -- the unit for a place was read: this is its library's name, its source, and what breaks it whatever the others are
 pub record IsReadAt (spelled : LibraryName → List ℕ) (n : ℕ) (u : source.UnitSource) (called : Option (List ℕ)) (c : UnitSource) (broken : Option WholeFault) : Type 0 where
   pub name : called ≡ option_map library_text u.name
-  pub spells : declared_fault u.forms None ≡ None → called ≡ option_map spelled u.name
-  pub bad : broken ≡ option_map told (declared_fault u.forms None)
+  pub spells : declared_fault n u.forms None ≡ None → called ≡ option_map spelled u.name
+  pub bad : broken ≡ option_map told (declared_fault n u.forms None)
   pub named : c.name ≡ option_map spelled (imported_as 0 u)
   pub span : c.span ≡ unit_token u
   pub source : IsSourceOf spelled (prepared [] n (record { document = 0; source = u })) None c
@@ -74,6 +74,7 @@ pub record IsToldBy (n : ℕ) (u : Placed) (h : Head) : Type 0 where
   pub name : h.name ≡ option_map library_text u.source.name
   pub span : h.span ≡ unit_token u.source
   pub firsts : h.firsts.items ≡ map (λ f. (place_of f.datum).first) (forms_or_none u.source.forms)
+  pub homes : h.homes.items ≡ map (λ f. source.unit_or n f.home) (forms_or_none u.source.forms)
   pub names : h.names.items ≡ names_in_forms n 0 (forms_or_none u.source.forms)
 
 pub record IsOne (spelled : LibraryName → List ℕ) (n : ℕ) (u : Placed) (h : Head) (c : UnitSource) : Type 0 where

@@ -1,6 +1,6 @@
 //! The units of the documents, in their order (R7RS 5.1, 5.6): the libraries of a document, and then its program.
 ghost use Rattle.std.specs.Prelude.{◌≡◌, ℕ, ◌+◌, ◌<◌, ◌^◌, [], ◌∷◌, List, filter, not, length, map, nat_le, if◌then◌else◌, Some, vec_len, IfOk, OnOk};
-ghost use Rattle.scheme_model.specs.Declarations.{UnitSource as Source, is_library, libraries_in, program_in};
+ghost use Rattle.scheme_model.specs.Declarations.{UnitSource as Source, unit_or, is_library, libraries_in, program_in};
 ghost use Rattle.scheme_model.specs.Program.{Document as ModelDocument, known_in, max_units, units_of};
 ghost use Rattle.scheme_model.specs.Requirements.{Known, LibraryName};
 ghost use Rattle.datum_reader.specs.FirstTokens.{first_token};
@@ -22,7 +22,7 @@ use datum_reader::heads::{first_token, is_headed};
 use library_table::{KnownLibraries, LibraryFault, UnitForm, UnitSource, read_program, read_unit};
 use ls_base::limits::MAX_UNITS;
 use ls_base::{Items, Mem, Memory, Span, Text};
-use scheme_model::Occ;
+use scheme_model::{Home, Occ};
 use std::alloc::Global;
 use syntax_tree::units::UnitKind;
 
@@ -30,14 +30,15 @@ use syntax_tree::units::UnitKind;
 #[derive(Clone, Copy, Debug, PartialEq, Eq)]
 pub enum WholeFault {
     TooMany,
-    BadDeclaration(Span),
+    BadDeclaration { unit: u32, span: Span },
     DefinedTwice,
     ImportCycle,
     TooLarge,
 }
 
 /// What a unit is besides its source: its document, its library's name, its first token, the numbers of the first tokens of its
-/// forms, the identifiers of these, the places of the units that it imports, and what breaks it as a whole.
+/// forms, the units where their texts are at home, their identifiers, the places of the units that it imports, and what breaks it as
+/// a whole.
 #[derive(Drop)]
 pub struct Head {
     pub document: usize,
@@ -45,6 +46,7 @@ pub struct Head {
     pub name: Option<Text>,
     pub span: Span,
     pub firsts: Vec<u32>,
+    pub homes: Vec<u32>,
     pub names: Vec<Occ>,
     pub imports: Items<u32>,
     pub fault: Option<WholeFault>,
@@ -119,7 +121,7 @@ fn add_library(
             Ok(add(alloc, units, document, name, source, None)?)
         }
         Err(LibraryFault::BadDeclaration(span)) => {
-            let bad = Some(WholeFault::BadDeclaration(span));
+            let bad = Some(WholeFault::BadDeclaration { unit: number, span });
             let source = unread(alloc, datum);
             Ok(add(alloc, units, document, name, source, bad)?)
         }
@@ -192,6 +194,7 @@ fn add(
         name,
         span: source.span,
         firsts: firsts_of(alloc, source.forms.as_slice())?,
+        homes: homes_of(alloc, place as u32, source.forms.as_slice())?,
         names: names_of(alloc, place as u32, source.forms.as_slice())?,
         imports: Items::new(alloc),
         fault,
@@ -219,4 +222,25 @@ fn firsts_of(alloc: Global, forms: &[UnitForm]) -> Mem<Vec<u32>>
         firsts.push(form.datum.first)?;
     }
     Ok(firsts)
+}
+
+/// The units where the texts of forms of a unit are at home.
+fn homes_of(alloc: Global, unit: u32, forms: &[UnitForm]) -> Mem<Vec<u32>>
+    ensures { IfOk result (λ homes. homes.items ≡ map (λ f. unit_or unit f.home) forms.now) }
+{
+    let mut homes = Vec::new(alloc);
+    for form in forms {
+        homes.push(unit_or(unit, form.home))?;
+    }
+    Ok(homes)
+}
+
+/// The unit of a home, or this one where there is none.
+fn unit_or(unit: u32, home: Option<Home>) -> u32
+    ensures { result ≡ unit_or unit home }
+{
+    match home {
+        None => unit,
+        Some(home) => home.unit,
+    }
 }

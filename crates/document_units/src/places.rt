@@ -1,9 +1,9 @@
 //! Where occurrences and forms stand.
 ghost use Rattle.std.specs.Prelude.{◌≡◌, ◌<◌, List, length, map, nat_lt, None, Some, if◌then◌else◌};
-ghost use Rattle.scheme_model.specs.Diagnostics.{bytes_of, or_start, span_at};
+ghost use Rattle.scheme_model.specs.Diagnostics.{bytes_of, document_of, or_start, span_at};
 ghost use Rattle.scheme_model.specs.Program.{UnitResult, result_at};
 ghost use Rattle.document_units.specs.Readings.{Read, span_seen};
-ghost use Rattle.document_units.specs.Places.{ArePlaces, bytes_at, spans_of, start_of, number_at, form_or_start, CanPlace};
+ghost use Rattle.document_units.specs.Places.{ArePlaces, bytes_at, spans_of, start_of, number_at, unit_at, form_or_start, CanPlace};
 
 use crate::documents::Document;
 use crate::findings::At;
@@ -36,11 +36,23 @@ impl Places<'_> {
             return nowhere();
         };
         let first = first_of(head.firsts.as_slice(), occ.form);
-        let document = head.document;
+        let unit = unit_at(head.homes.as_slice(), occ.form, occ.unit);
+        let document = self.document_of(unit);
         let spans = self.documents[document].spans.as_slice();
         At {
             document,
             span: span_at(spans, first as usize + occ.token as usize),
+        }
+    }
+
+    /// The document of a unit.
+    pub fn document_of(&self, unit: u32) -> usize
+        ensures inside { CanPlace self.now → 0 < length self.now.documents.now → result < length self.now.documents.now }
+        ensures exact { (rs : List Read) (us : List UnitResult) → ArePlaces self.now rs us → result ≡ document_of us unit }
+    {
+        match self.heads.get(unit as usize) {
+            Some(head) => head.document,
+            None => 0,
         }
     }
 
@@ -96,6 +108,16 @@ fn first_of(firsts: &[u32], form: u32) -> u32
     match firsts.get(form as usize) {
         Some(first) => *first,
         None => 0,
+    }
+}
+
+/// The unit at a form's place, and this one where there is none.
+fn unit_at(units: &[u32], form: u32, unit: u32) -> u32
+    ensures { result ≡ unit_at units.now form unit }
+{
+    match units.get(form as usize) {
+        Some(home) => *home,
+        None => unit,
     }
 }
 

@@ -55,12 +55,12 @@ module _ (known : Known) (work : Work) (region : Region) (u w : UnitScope) (ls :
       GoesOn work work region u v ls spot fs p.todo given todo asked result (λ go. run_core (searched known) go here fs c k m ts tail p s)
   core_goes q v result shape h = met_so v result (goes_so region ls spot fs p.todo given todo asked work work w v result (read_by (shape_in c false mark m.tree)) (λ go. pass_step (searched known) go here fs m p q (met k s)) (λ go. ap (λ (r : Result Shape (Fault Identifier)). read_by r go) shape) h)
 
-  pub core_misread : (f : CoreFault) (e : ExpandFault) → e ≡ told u.unit u.form.number here (core_fault f) → Refuses work f (shape_in c false mark m.tree) → SpotFor work u ls s spot fs → NotesFor work ls asked p.notes →
+  pub core_misread : (f : CoreFault) (e : ExpandFault) → e ≡ told here (core_fault f) → Refuses work f (shape_in c false mark m.tree) → SpotFor work u ls s spot fs → NotesFor work ls asked p.notes →
       GoesOn work work region u w ls spot fs p.todo given todo asked (Err e) (λ go. run_core (searched known) go here fs c k m ts tail p s)
   core_misread f e tells refuses placed notes =
       let after = keyword_stays work region u ls s x k target stands in
       met_so w (Err e)
       (subst (λ (y : UnitScope). GoesOn work work region y y ls spot fs p.todo given todo asked (Err e) (read_by (shape_in c false mark m.tree))) (sym meets)
-      (goes_misread region ls spot fs p.todo given todo asked known work (with_keyword u x) (met k s) u.unit u.form.number here e (shape_in c false mark m.tree) p (λ go q. pass_step (searched known) go here fs m p q) stands.form.few_nodes (sym stands.unit) (sym stands.form.number)
+      (goes_misread region ls spot fs p.todo given todo asked known work (with_keyword u x) (met k s) here e (shape_in c false mark m.tree) p (λ go q. pass_step (searched known) go here fs m p q) stands.form.few_nodes
       after.stands (spot_same work u (with_keyword u x) ls s (met k s) spot fs refl refl refl placed) notes
-      (subst (λ (y : ExpandFault). Tells work.symbols u.unit u.form.number here y (shape_in c false mark m.tree)) (sym tells) (misread_is work u.unit u.form.number here f (shape_in c false mark m.tree) refuses))))
+      (subst (λ (y : ExpandFault). Tells work.symbols here y (shape_in c false mark m.tree)) (sym tells) (misread_is work here f (shape_in c false mark m.tree) refuses))))

@@ -149,7 +149,7 @@ fault_same OutOfTurns = refl
 
 -- a fault as the code tells it
 abbrev pub RefusedBy : Work → ScopedState → Here → Fault Identifier → ExpandFault → Type 0
-RefusedBy work s here b (fault.At e) = IsFault work.symbols s.unit s.form e (record { fault = b; here = here })
+RefusedBy work s here b (fault.At e) = IsFault work.symbols e (record { fault = b; here = here })
 RefusedBy work s here b fault.Full = ⊥
 RefusedBy work s here b fault.Memory = ⊥
 
@@ -174,11 +174,11 @@ module _ (known : Known) (depth : ℕ) (here : Here) (fs : Frames) (s : ScopedSt
     abbrev forms : Expanding → Result Core Broken × ScopedState
     forms f = core_form f (searched known) depth here fs c ts tail s
 
-    pub misread_reads : (x : ExpandFault) (r : Result code_ready.Ready ExpandFault) → IsErrAnd r (λ g. g ≡ x) → Tells work.symbols s.unit s.form here x shape_here → Reads known depth here work region u u ls fs r forms
+    pub misread_reads : (x : ExpandFault) (r : Result code_ready.Ready ExpandFault) → IsErrAnd r (λ g. g ≡ x) → Tells work.symbols here x shape_here → Reads known depth here work region u u ls fs r forms
     misread_reads x (Ok y) is h = absurd is
     misread_reads x (Err g) is h = subst (λ (e : ExpandFault). Reads known depth here work region u u ls fs (Err e) forms) (sym is) (go x h)
       where
-        go : (e : ExpandFault) → Tells work.symbols s.unit s.form here e shape_here → Reads known depth here work region u u ls fs (Err e) forms
+        go : (e : ExpandFault) → Tells work.symbols here e shape_here → Reads known depth here work region u u ls fs (Err e) forms
         go (fault.At e) h = (record { fault = h.0; here = here }, s, stays_itself work region u ls s stands, h.2, λ f. shaped_fails f h.0 h.1)
         go fault.Full h = absurd h
         go fault.Memory h = leaves_itself work region u stands.form.few_nodes

@@ -167,7 +167,7 @@ module _ (known : Known) (depth : ℕ) (here : Option Occ) (work : Work) (region
       go : (e : ExpandFault) → IsCall ns tail here (Err e) → Reads known depth here work region u u ls fs (Err e) reading
       go (fault.At e) h =
           subst (λ (y : ExpandFault). Reads known depth here work region u u ls fs (Err y) reading) (sym h.0)
-          (record { fault = BadForm; here = here }, s, stays_itself work region u ls s stands, plain_is work.symbols s.unit s.form here BadForm refl refl, λ f. calls f known depth here fs ts end o s settled plain ∙ no_call f known depth here fs work ns tail ts end s parts behind h.1)
+          (record { fault = BadForm; here = here }, s, stays_itself work region u ls s stands, plain_is work.symbols here BadForm refl refl, λ f. calls f known depth here fs ts end o s settled plain ∙ no_call f known depth here fs work ns tail ts end s parts behind h.1)
       go fault.Full h = absurd h
       go fault.Memory h = leaves_itself work region u stands.form.few_nodes
 

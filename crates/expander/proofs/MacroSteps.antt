@@ -87,7 +87,7 @@ module _ (work : Work) (region : Region) (u : UnitScope) (ls : List Frames) (spo
   by_whole v result new x same h = subst (λ (y : Whole). GoesOn work work region u v ls spot fs p.todo given new asked result (λ go. caught with_note.notes y (set_aside go))) (sym same) h
 
   -- a fault, where only nodes were counted
-  broken : (v : UnitScope) (f : FormFault) (b : Broken) (w : ScopedState) → whole ≡ (Err b, w) → Stays work work region u v ls w → SpotFor work v ls w spot fs → IsFault work.symbols w.unit w.form f b →
+  broken : (v : UnitScope) (f : FormFault) (b : Broken) (w : ScopedState) → whole ≡ (Err b, w) → Stays work work region u v ls w → SpotFor work v ls w spot fs → IsFault work.symbols f b →
       GoesOn work work region u v ls spot fs p.todo given old asked (Err (fault.At f)) (λ go. run_syntax (searched known) go here fs p (n, t) s)
   broken v f b w same stays there is =
       by_whole v (Err (fault.At f)) old (Err b, w) same (with_note.notes, b, w, record { stays = stays; placed = there; notes = notes }, is, λ go. refl)

@@ -197,18 +197,18 @@ room_for work region u spot given n todo asked can le = by u.form.budget.locals 
 
 -- ---- `cond-expand`
 
-abbrev Tells_fault : Names → (unit form : ℕ) → Here → ExpandFault → Type 0
-Tells_fault names unit form at (fault.At x) = IsFault names unit form x (record { fault = BadForm; here = at })
-Tells_fault names unit form at fault.Full = ⊥
-Tells_fault names unit form at fault.Memory = ⊥
+abbrev Tells_fault : Names → Here → ExpandFault → Type 0
+Tells_fault names at (fault.At x) = IsFault names x (record { fault = BadForm; here = at })
+Tells_fault names at fault.Full = ⊥
+Tells_fault names at fault.Memory = ⊥
 
 -- no clause has a shape, or none could be judged
 pub goes_bad : (region : Region) (ls : List Frames) (spot : Spot) (fs : Frames) (before : List (Form Identifier)) (given : ℕ) (todo : code_pending.Pending) (asked : Asked) (known : Known) (work : Work) (u : UnitScope) (s : ScopedState) (here : Here) (e : ExpandFault)
     (r : Result (Option (Trees Identifier)) (Fault Identifier)) (p : Pending Identifier FramedIdent) (next : Going Identifier FramedIdent ScopedState → Option (Trees Identifier) → ScopedState → Pass Identifier FramedIdent × ScopedState) →
     Stands work u ls s → SpotFor work u ls s spot fs → NotesFor work ls asked p.notes → IsBadForm here e r → GoesOn work work region u u ls spot fs before given todo asked (Err e) (λ go. read_then (searched known) here p r (next go) s)
 goes_bad region ls spot fs before given todo asked known work u s here (fault.At e) r p next stands placed notes h =
-    goes_misread region ls spot fs before given todo asked known work u s s.unit s.form here (fault.At e) r p next stands.form.few_nodes refl refl stands placed notes
-    (BadForm, h.0, subst (λ (x : ExpandFault). Tells_fault work.symbols s.unit s.form here x) (sym h.1) (plain_is work.symbols s.unit s.form here BadForm refl refl))
+    goes_misread region ls spot fs before given todo asked known work u s here (fault.At e) r p next stands.form.few_nodes stands placed notes
+    (BadForm, h.0, subst (λ (x : ExpandFault). Tells_fault work.symbols here x) (sym h.1) (plain_is work.symbols here BadForm refl refl))
 goes_bad region ls spot fs before given todo asked known work u s here fault.Full r p next stands placed notes h = absurd h
 goes_bad region ls spot fs before given todo asked known work u s here fault.Memory r p next stands placed notes h = leaves_itself work region u stands.form.few_nodes
 

@@ -22,7 +22,6 @@ use Rattle.syntax_tree.specs.declared.trees.table.Region.{Region}
 use Rattle.scope_env.specs.Environment.{Scope}
 use Rattle.scope_env.specs.Standing.{bound_by}
 use Rattle.core_tree.specs.Names.{AllMatch}
-use Rattle.core_tree.specs.Traces.{IsFault}
 use Rattle.unit_scopes.specs.Asks.{AreWithin, AskedStands}
 use Rattle.unit_scopes.specs.Chains.{body_chain}
 use Rattle.unit_scopes.specs.Counts.{with_nodes, Counts}
@@ -130,21 +129,20 @@ module _ (region : Region) (ls : List Frames) (spot : Spot) (fs : Frames) (befor
   abbrev broken_pass : List (Note FramedIdent) → Here → ScopedState → Fault Identifier → Pass Identifier FramedIdent × ScopedState
   broken_pass ns at t x = (record { notes = ns; left = Err (record { fault = x; here = at }) }, t)
 
-  pub goes_misread : {B : Type 0} (known : Known) (work : Work) (u : UnitScope) (s : ScopedState) (unit form : ℕ) (here : Here) (e : ExpandFault) (r : Result B (Fault Identifier)) (p : Pending Identifier FramedIdent)
-      (next : Going Identifier FramedIdent ScopedState → B → ScopedState → Pass Identifier FramedIdent × ScopedState) → u.form.budget.nodes ≤ 200000 → s.unit ≡ unit → s.form ≡ form → Stands work u ls s → SpotFor work u ls s spot fs → NotesFor work ls asked p.notes →
-      Tells work.symbols unit form here e r → GoesOn work work region u u ls spot fs before given todo asked (Err e) (λ go. read_then (searched known) here p r (next go) s)
-  goes_misread {B} known work u s unit form here (fault.At e) r p next few is_unit is_form stands placed notes h =
-      let b : Broken = record { fault = h.0; here = here } in
-      let told : IsFault work.symbols s.unit s.form e b = subst (λ (n : ℕ). IsFault work.symbols n s.form e b) (sym is_unit) (subst (λ (n : ℕ). IsFault work.symbols unit n e b) (sym is_form) h.2) in (
+  pub goes_misread : {B : Type 0} (known : Known) (work : Work) (u : UnitScope) (s : ScopedState) (here : Here) (e : ExpandFault) (r : Result B (Fault Identifier)) (p : Pending Identifier FramedIdent)
+      (next : Going Identifier FramedIdent ScopedState → B → ScopedState → Pass Identifier FramedIdent × ScopedState) → u.form.budget.nodes ≤ 200000 → Stands work u ls s → SpotFor work u ls s spot fs → NotesFor work ls asked p.notes →
+      Tells work.symbols here e r → GoesOn work work region u u ls spot fs before given todo asked (Err e) (λ go. read_then (searched known) here p r (next go) s)
+  goes_misread {B} known work u s here (fault.At e) r p next few stands placed notes h =
+      let b : Broken = record { fault = h.0; here = here } in (
         p.notes,
         b,
         s,
         record { stays = stays_itself work region u ls s stands; placed = placed; notes = notes },
-        told,
+        h.2,
         λ go. ap (λ (x : Result B (Fault Identifier)). read_then (searched known) here p x (next go) s) h.1 ∙ ap (broken_pass p.notes here s) (fault_same h.0),
       )
-  goes_misread known work u s unit form here fault.Full r p next few is_unit is_form stands placed notes h = absurd h
-  goes_misread known work u s unit form here fault.Memory r p next few is_unit is_form stands placed notes h = record { work = (stays_itself work region u ls s stands).work; few = omega (arith, few) }
+  goes_misread known work u s here fault.Full r p next few stands placed notes h = absurd h
+  goes_misread known work u s here fault.Memory r p next few stands placed notes h = record { work = (stays_itself work region u ls s stands).work; few = omega (arith, few) }
 
 -- ---- forms put first
 
@@ -211,7 +209,7 @@ module _ (known : Known) (work : Work) (region : Region) (u v : UnitScope) (ls :
         b,
         s,
         record { stays = stays_itself work region u ls s e; placed = placed; notes = notes },
-        plain_is work.symbols s.unit s.form here NodeBudget refl refl,
+        plain_is work.symbols here NodeBudget refl refl,
         λ go. ap (λ (x : Result (Unit {0}) Broken × ScopedState). caught p.notes x (λ done. go q)) (counting_fails known work region u ls s here 1 e counts.0),
       ))
 

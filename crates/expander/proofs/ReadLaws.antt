@@ -1,5 +1,5 @@
 -- How an expression is read: heads, keywords, identifiers as values, and what was read.
-use Rattle.std.proofs.Common.{◌≡◌, ℕ, List, Bool, true, false, Option, Some, None, Result, Ok, Err, IsErrAnd, refl, sym, ap, ◌∙◌, subst}
+use Rattle.std.proofs.Common.{◌≡◌, ℕ, List, Bool, true, false, Option, Some, None, Result, Ok, Err, IsErrAnd, refl, sym, subst}
 use Rattle.scheme_model.specs.declared.Occ.{Occ}
 use Rattle.scheme_model.specs.Trees.{Tree, name, atom, list, vector, Trees, no_trees, tree, Tail}
 use Rattle.scheme_model.specs.Ident.{Ident as Identifier}
@@ -7,7 +7,6 @@ use Rattle.scheme_model.specs.ExpansionFaults.{Named, named, KeywordAsValue}
 use Rattle.scheme_model.specs.Keywords.{core_named, CoreKeyword, auxiliary_named, Auxiliary}
 use Rattle.scheme_model.specs.Meaning.{Meaning, Local, Global, Standard, Free, Head, IsCore, IsAuxiliary, IsMacro, IsNone, is_keyword, macro_or_none, other_standard, standard_head, head_as}
 use Rattle.scheme_model.specs.Requirements.{Known}
-use Rattle.scheme_model.specs.Diagnostics.{fault_occ}
 use Rattle.scheme_model.specs.Cores.{Target}
 use Rattle.scheme_model.specs.Steps.{Broken, Step, fails}
 use Rattle.scheme_model.specs.Order.{Here, Transformer, is_some, head_of}
@@ -21,7 +20,6 @@ use Rattle.core_forms.specs.declared.shape.NamePart.{NamePart}
 use Rattle.core_tree.specs.Names.{IsTarget}
 use Rattle.core_tree.specs.Traces.{IsFault}
 use Rattle.core_tree.specs.declared.cores.Target as code_target
-use Rattle.unit_scopes.specs.Counts.{placed_in}
 use Rattle.form_parts.specs.Heads.{IsHead}
 use Rattle.form_parts.specs.declared.heads.Head as code_head
 use Rattle.form_parts.specs.declared.heads.Head.TheVariants as heads
@@ -38,26 +36,9 @@ use Rattle.unit_scopes.specs.declared.scope.UnitScope.{UnitScope}
 
 -- ---- keywords that stand for values
 
-placed : (unit form : ℕ) (here : Option Occ) (i : Identifier) (o : Option Occ) → placed_in unit form here o ≡ fault_occ unit form (Some (named i o)) here
-placed unit form here i None = refl
-placed unit form here i (Some o) = refl
-
-pub keyword_fault : (work : Work) (unit form : ℕ) (here : Option Occ) (x : NamePart) (n : Named Identifier) → IsName work x n →
-    IsFault work.symbols unit form (record { code = 43; name = Some x.ident; occ = placed_in unit form here x.occ; text = None }) (record { fault = KeywordAsValue n; here = here })
-keyword_fault work unit form here x n h = record {
-  code = refl;
-  name = h.0;
-  place = ap (placed_in unit form here) h.1 ∙ placed unit form here n.name n.occ;
-  text = refl;
-}
-
--- where the scopes of the code stand for a state
-pub keyword_at : (work : Work) (u : UnitScope) (ls : List Frames) (s : ScopedState) (here : Option Occ) (x : NamePart) (n : Named Identifier) → Stands work u ls s → IsName work x n →
-    IsFault work.symbols s.unit s.form (record { code = 43; name = Some x.ident; occ = placed_in u.unit u.form.number here x.occ; text = None }) (record { fault = KeywordAsValue n; here = here })
-keyword_at work u ls s here x n e is =
-    subst (λ (k : ℕ). IsFault work.symbols s.unit s.form (record { code = 43; name = Some x.ident; occ = placed_in k u.form.number here x.occ; text = None }) (record { fault = KeywordAsValue n; here = here })) (sym e.unit)
-    (subst (λ (k : ℕ). IsFault work.symbols s.unit s.form (record { code = 43; name = Some x.ident; occ = placed_in s.unit k here x.occ; text = None }) (record { fault = KeywordAsValue n; here = here })) (sym e.form.number)
-    (keyword_fault work s.unit s.form here x n is))
+pub keyword_fault : (work : Work) (here : Option Occ) (x : NamePart) (n : Named Identifier) → IsName work x n →
+    IsFault work.symbols (record { code = 43; name = Some x.ident; occ = x.occ; here = here; text = None }) (record { fault = KeywordAsValue n; here = here })
+keyword_fault work here x n h = record { code = refl; name = h.0; place = h.1; here = refl; text = refl }
 
 module _ (known : Known) {B : Type 0} (here : Here) (n : Named Identifier) (go : Step ScopedState B) (s : ScopedState) where
   pub unless_goes : (h : Head) → is_keyword h ≡ false → unless_keyword (searched known) here h n go s ≡ go s

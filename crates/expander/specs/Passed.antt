@@ -63,7 +63,7 @@ abbrev pub GoesOn : Work → Work → Region → UnitScope → UnitScope → Lis
 GoesOn old new region u v ls spot fs before given todo asked (Ok done) step =
     (q : Pending Identifier FramedIdent) × (t : ScopedState) × Reaches old new region u v ls spot fs before given todo asked q t × ((go : Going Identifier FramedIdent ScopedState) → step go ≡ go q t)
 GoesOn old new region u v ls spot fs before given todo asked (Err (fault.At e)) step =
-    (ns : List (Note FramedIdent)) × (b : Broken) × (t : ScopedState) × Stops old new region u v ls spot fs asked ns t × IsFault new.symbols t.unit t.form e b
+    (ns : List (Note FramedIdent)) × (b : Broken) × (t : ScopedState) × Stops old new region u v ls spot fs asked ns t × IsFault new.symbols e b
     × ((go : Going Identifier FramedIdent ScopedState) → step go ≡ (record { notes = ns; left = Err b }, t))
 GoesOn old new region u v ls spot fs before given todo asked (Err fault.Full) step = Leaves old new region u × MayFill old u
 GoesOn old new region u v ls spot fs before given todo asked (Err fault.Memory) step = Leaves old new region u
@@ -81,7 +81,7 @@ Passes old new region u v ls spot fs most todo asked (Ok done) p =
     (l : Left Identifier) × (p.0.left ≡ Ok l) × Stops old new region u v ls spot fs asked p.0.notes p.1 × IsLeftOf new region v.unit v.form.number todo l
     × (v.form.budget.locals ≤ u.form.budget.locals + most)
 Passes old new region u v ls spot fs most todo asked (Err (fault.At e)) p =
-    (b : Broken) × (p.0.left ≡ Err b) × Stops old new region u v ls spot fs asked p.0.notes p.1 × IsFault new.symbols p.1.unit p.1.form e b
+    (b : Broken) × (p.0.left ≡ Err b) × Stops old new region u v ls spot fs asked p.0.notes p.1 × IsFault new.symbols e b
 Passes old new region u v ls spot fs most todo asked (Err fault.Full) p = Leaves old new region u × MayFill old u
 Passes old new region u v ls spot fs most todo asked (Err fault.Memory) p = Leaves old new region u
 

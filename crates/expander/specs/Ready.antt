@@ -131,7 +131,7 @@ pub record Settled (known : Known) (depth turns : ℕ) (fs : Frames) (u v : Unit
 abbrev pub Settles : Known → (depth turns : ℕ) → Work → Work → Region → UnitScope → UnitScope → List Frames → Frames → Result (number.Tree × Option Occ) ExpandFault → Result Core Broken × ScopedState → Type 0
 Settles known depth turns old new region u v ls fs (Ok x) p =
     (t : Tree Identifier) × (s : ScopedState) × Stays old new region u v ls s × WorksOn new region x.0 t × Settled known depth turns fs u v p x.1 t s
-Settles known depth turns old new region u v ls fs (Err (fault.At e)) p = Stays old new region u v ls p.1 × ((b : Broken) × (p.0 ≡ Err b) × IsFault new.symbols p.1.unit p.1.form e b)
+Settles known depth turns old new region u v ls fs (Err (fault.At e)) p = Stays old new region u v ls p.1 × ((b : Broken) × (p.0 ≡ Err b) × IsFault new.symbols e b)
 Settles known depth turns old new region u v ls fs (Err fault.Full) p = Leaves old new region u × MayFill old u
 Settles known depth turns old new region u v ls fs (Err fault.Memory) p = Leaves old new region u
 
@@ -155,7 +155,7 @@ ReadyFor known depth here work region unit form fs (ready.Shape k shape) step t 
 abbrev pub Reads : Known → (depth : ℕ) → Option Occ → Work → Region → UnitScope → UnitScope → List Frames → Frames → Result code_ready.Ready ExpandFault → (Expanding → Result Core Broken × ScopedState) → Type 0
 Reads known depth here work region u v ls fs (Ok x) step = (t : ScopedState) × Stays work work region u v ls t × ReadyFor known depth here work region v.unit v.form.number fs x step t
 Reads known depth here work region u v ls fs (Err (fault.At e)) step =
-    (b : Broken) × (t : ScopedState) × Stays work work region u v ls t × IsFault work.symbols t.unit t.form e b × ((f : Expanding) → step f ≡ (Err b, t))
+    (b : Broken) × (t : ScopedState) × Stays work work region u v ls t × IsFault work.symbols e b × ((f : Expanding) → step f ≡ (Err b, t))
 Reads known depth here work region u v ls fs (Err fault.Full) step = Leaves work work region u × MayFill work u
 Reads known depth here work region u v ls fs (Err fault.Memory) step = Leaves work work region u
 
@@ -175,7 +175,7 @@ Prepares known depth old new region u v ls fs (Err fault.Memory) p = Leaves old 
 -- a keyword is no variable
 abbrev pub TestsVariable : Work → ScopedState → Option Occ → Named Identifier → Head → Result (Unit {0}) ExpandFault → Type 0
 TestsVariable work s here n h (Ok u) = is_keyword h ≡ false
-TestsVariable work s here n h (Err (fault.At e)) = (is_keyword h ≡ true) × IsFault work.symbols s.unit s.form e (record { fault = KeywordAsValue n; here = here })
+TestsVariable work s here n h (Err (fault.At e)) = (is_keyword h ≡ true) × IsFault work.symbols e (record { fault = KeywordAsValue n; here = here })
 TestsVariable work s here n h (Err fault.Full) = ⊥
 TestsVariable work s here n h (Err fault.Memory) = ⊥
 

@@ -39,7 +39,7 @@ use scope_env::ScopeNo;
 use std::alloc::Global;
 use syntax_tree::look::{Look, look_at};
 use syntax_tree::trees::{Region, Tree, Work};
-use unit_scopes::counting::misread;
+use unit_scopes::counting::{fails_at, misread};
 use unit_scopes::scope::UnitScope;
 use unit_scopes::uses::{Instance, Use, held};
 
@@ -287,7 +287,7 @@ fn read_form(
     let marks = units.marks(alloc, work, at.scope, core, form)?;
     let shape = match parse_core(alloc, work, core, form, true, &marks) {
         Ok(shape) => shape,
-        Err(fault) => return Err(misread(units, at.here, fault)),
+        Err(fault) => return Err(misread(at.here, fault)),
     };
     match shape {
         CoreShape::Quote(datum) => Ok(Ready::Core(quote(units, work, at, datum)?)),
@@ -356,7 +356,7 @@ fn variable(units: &UnitScope, work: &Work, at: At, name: NamePart) -> Result<Ta
 {
     let target = units.target(work, at.scope, name);
     if units.head_by(work, target.meaning).is_keyword() {
-        return Err(units.fails_at(at.here, code::KEYWORD_AS_VALUE, name));
+        return Err(fails_at(at.here, code::KEYWORD_AS_VALUE, name));
     }
     Ok(target)
 }

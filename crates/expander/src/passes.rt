@@ -227,7 +227,7 @@ fn pass_core(
     work.trees_fit();
     let shape = match parse_core(alloc, work, core, form.tree, false, &Items::new(alloc)) {
         Ok(shape) => shape,
-        Err(fault) => return Err(misread(units, here, fault)),
+        Err(fault) => return Err(misread(here, fault)),
     };
     pass_shape(units, alloc, work, spot, here, shape, pending, asked)
 }

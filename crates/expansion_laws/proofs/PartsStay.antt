@@ -30,8 +30,8 @@ named_by_on old new names None (Some i) h = h
 named_by_on old new names (Some n) None h = h
 named_by_on old new names (Some n) (Some i) h = names.idents n i.name h
 
-pub fault_on : (old new : Names) → KeepsNames old new → (unit form : ℕ) (e : FormFault) (b : Broken) → IsFault old unit form e b → IsFault new unit form e b
-fault_on old new names unit form e b h = record { code = h.code; name = named_by_on old new names e.name (fault_name b.fault) h.name; place = h.place; text = h.text }
+pub fault_on : (old new : Names) → KeepsNames old new → (e : FormFault) (b : Broken) → IsFault old e b → IsFault new e b
+fault_on old new names e b h = record { code = h.code; name = named_by_on old new names e.name (fault_name b.fault) h.name; place = h.place; here = h.here; text = h.text }
 
 module _ (old new : Work) (trees : KeepsTrees old new) (names : KeepsNames old.symbols new.symbols) (unit : ℕ) where
   -- ---- items
@@ -52,7 +52,7 @@ module _ (old new : Work) (trees : KeepsTrees old new) (names : KeepsNames old.s
     keywords = every_on (IsTarget old.symbols unit form) (IsTarget new.symbols unit form) (target_on old new trees names unit form) c.trace.keywords (reverse met.keywords) h.keywords;
     uses = every_on (IsUse old.symbols unit form) (IsUse new.symbols unit form) (use_on old.symbols new.symbols names unit form) c.trace.uses (reverse met.met) h.uses;
   }
-  result_on form c (Err e) met h = (h.0, h.1, fault_on old.symbols new.symbols names unit form h.0 e h.2)
+  result_on form c (Err e) met h = (h.0, h.1, fault_on old.symbols new.symbols names h.0 e h.2)
 
   pub forms_on : (cs : List UnitForm) (fs : List Formed) (form : ℕ) → FormsStand old unit form cs fs → FormsStand new unit form cs fs
   forms_on [] [] form h = h

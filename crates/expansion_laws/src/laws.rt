@@ -100,7 +100,7 @@ pub fn items_stay()
 pub fn parts_stay()
     ensures part { (old new : AnyWork) (unit form : ℕ) (x : AnyPart) (p : ModelPart) → KeepsTrees old new → KeepsNames old.symbols new.symbols → PartStands old unit form x p → PartStands new unit form x p }
     ensures parts { (old new : AnyWork) (unit form : ℕ) (xs : List AnyPart) (ps : ModelParts) → KeepsTrees old new → KeepsNames old.symbols new.symbols → PartsStand old unit form xs ps → PartsStand new unit form xs ps }
-    ensures fault { (old new : AnyNames) (unit form : ℕ) (e : AnyFault) (b : Broken) → KeepsNames old new → IsFault old unit form e b → IsFault new unit form e b }
+    ensures fault { (old new : AnyNames) (e : AnyFault) (b : Broken) → KeepsNames old new → IsFault old e b → IsFault new e b }
     ensures forms { (old new : AnyWork) (unit form : ℕ) (cs : List AnyForm) (fs : List Formed) → KeepsTrees old new → KeepsNames old.symbols new.symbols → FormsStand old unit form cs fs → FormsStand new unit form cs fs }
 {}
 

@@ -5,7 +5,7 @@ use Rattle.feature_requirements.specs.declared.fault.ExpandFault.{ExpandFault}
 use Rattle.feature_requirements.specs.declared.fault.ExpandFault.TheVariants as fault
 
 abbrev pub plain_fault : Option Occ → ℕ → ExpandFault
-plain_fault here code = fault.At (record { code = code; name = None; occ = here; text = None })
+plain_fault here code = fault.At (record { code = code; name = None; occ = None; here = here; text = None })
 
 abbrev pub text_fault : Option Occ → List ℕ → ExpandFault
-text_fault here text = fault.At (record { code = 47; name = None; occ = here; text = Some text })
+text_fault here text = fault.At (record { code = 47; name = None; occ = None; here = here; text = Some text })

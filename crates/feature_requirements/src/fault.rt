@@ -101,7 +101,8 @@ pub fn fails(here: Option<Occ>, code: u32) -> ExpandFault
     ExpandFault::At(FormFault {
         code,
         name: None,
-        occ: here,
+        occ: None,
+        here,
         text: None,
     })
 }
@@ -113,7 +114,8 @@ pub fn fails_with(here: Option<Occ>, text: Text) -> ExpandFault
     ExpandFault::At(FormFault {
         code: code::SYNTAX_ERROR,
         name: None,
-        occ: here,
+        occ: None,
+        here,
         text: Some(text),
     })
 }

@@ -7,7 +7,6 @@ use Rattle.syntax_tree.specs.Names.{KeepsNames}
 use Rattle.syntax_tree.specs.Works.{KeepsTrees}
 use Rattle.syntax_tree.specs.declared.trees.table.Region.{Region}
 use Rattle.core_tree.specs.Names.{AllMatch}
-use Rattle.core_tree.specs.Traces.{IsFault}
 use Rattle.core_tree.specs.declared.traces.FormFault.{FormFault}
 use Rattle.core_tree.specs.declared.traces.Trace.{Trace}
 use Rattle.unit_scopes.specs.Others.{OthersStay}
@@ -68,7 +67,7 @@ module _ (b c : Bench) (trees : KeepsTrees b.work c.work) (names : KeepsNames b.
   )
   set_aside_on m d None (Err e) h = h
   set_aside_on m d (Some e) (Ok l) h = h
-  set_aside_on m d (Some e) (Err x) h = fault_on b.work.symbols c.work.symbols names unit m e x h
+  set_aside_on m d (Some e) (Err x) h = fault_on b.work.symbols c.work.symbols names e x h
 
   module _ (form : ℕ) (s t : ScopedState) (stay : OthersStay form s t) where
     pub others_kept : KeepsOthers b c unit form s t
@@ -130,13 +129,12 @@ module _ (b c : Bench) (trees : KeepsTrees b.work c.work) (names : KeepsNames b.
       PassesTo b c s.unit form s p (record { budget = after; trace = trace; uses = us; aside = xs; fault = Some e })
   passes_at us xs e h =
       let goes = h.2 in
-      let is : IsFault c.work.symbols s.unit form e h.0 = subst (λ (u : ℕ). IsFault c.work.symbols u form e h.0) stay.unit h.3 in
       record {
         layout = goes.layout;
         stands = goes.stands;
         form_is = record {
           counts = goes.counts;
-          set_aside = subst (λ (r : Passing). IsSetAside c.work c.region s.unit form (record { budget = after; trace = trace; uses = us; aside = xs; fault = Some e }) (Some e) r) (sym h.1) is;
+          set_aside = subst (λ (r : Passing). IsSetAside c.work c.region s.unit form (record { budget = after; trace = trace; uses = us; aside = xs; fault = Some e }) (Some e) r) (sym h.1) h.3;
           tops = tops;
           space = tt;
         };

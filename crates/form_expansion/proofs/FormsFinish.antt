@@ -22,7 +22,6 @@ use Rattle.syntax_tree.proofs.Places.{none_some}
 use Rattle.core_tree.specs.Names.{AllMatch, IsTarget, IsUse}
 use Rattle.core_tree.specs.Cores.{PartStands, PartsStand}
 use Rattle.core_tree.specs.Levels.{PartBinds, PartsBind}
-use Rattle.core_tree.specs.Traces.{IsFault}
 use Rattle.core_tree.specs.declared.cores.Binder as code_binder
 use Rattle.core_tree.specs.declared.cores.CorePart as code_part
 use Rattle.core_tree.specs.declared.traces.FormFault.{FormFault}
@@ -388,7 +387,7 @@ module _ (known : Known) (old b c : Bench) (unit form : ℕ) (l : Left Identifie
               table = step_table;
               result = Err x.0;
               met = (searched known).counted step.1;
-              result_is = (e, told, subst (λ (u : ℕ). IsFault c.work.symbols u form e x.0) step_unit x.3);
+              result_is = (e, told, x.3);
               definitions =
                   subst (λ (bs : List code_binder.Binder). AllMatch (IsNumbered c.work.symbols form) (reverse bs) (numbered_in unit form step.1.table)) (sym defines)
                   (subst (λ (u : ℕ). AllMatch (IsNumbered c.work.symbols form) (reverse next.definitions) (numbered_in u form step.1.table)) step_unit goes.counts.definitions);

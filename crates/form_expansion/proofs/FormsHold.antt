@@ -7,7 +7,6 @@ use Rattle.scheme_model.specs.Trees.{Tree}
 use Rattle.scheme_model.specs.Declarations.{UnitForm}
 use Rattle.scheme_model.specs.Program.{enough_turns}
 use Rattle.scheme_model.specs.ScopedProgram.{forms_over}
-use Rattle.scheme_model.specs.Data.{Datum}
 use Rattle.std.specs.Prelude.{nat_lt}
 use Rattle.std.proofs.lemmas.Bool.{ltb-false}
 use Rattle.scheme_model.specs.Order.{Pass, Note}
@@ -20,7 +19,6 @@ use Rattle.syntax_tree.proofs.Places.{none_some, push_cases}
 use Rattle.core_tree.specs.Units.{defined_by}
 use Rattle.datum_reader.specs.WellFormed.{WasRead}
 use Rattle.datum_reader.specs.Views.{datum_of}
-use Rattle.datum_reader.specs.Seeded.{seeded}
 use Rattle.library_table.specs.UnitsRead.{form_of, forms_of}
 use Rattle.library_table.specs.declared.units.UnitForm as source
 use Rattle.feature_requirements.specs.Judged.{Knows}
@@ -32,7 +30,7 @@ use Rattle.unit_scopes.proofs.FreshLaws.{none_in_order}
 use Rattle.expansion_laws.proofs.OtherForms.{declared_stays}
 use Rattle.syntax_tree.specs.Works.{IsOpened}
 use Rattle.form_expansion.specs.Ends.{numbers_of, Rise, IsAmong}
-use Rattle.form_expansion.specs.Forms.{IsBench, IsBegun, IsUntouched, IsDeclared, used_by, AreInOrder, PassesTo, PassesForm, CanPass, FormsHeld, AreFresh, AreDeclared, Passes, Stays, passed, known_by}
+use Rattle.form_expansion.specs.Forms.{IsBench, IsBegun, IsUntouched, IsDeclared, used_by, AreInOrder, PassesTo, PassesForm, CanPass, FormsHeld, AreFresh, AreDeclared, Passes, Stays, passed, taken, known_by}
 use Rattle.document_units.specs.WereRead.{WereRead}
 use Rattle.form_expansion.specs.declared.forms.Bench.{Bench}
 use Rattle.form_expansion.specs.declared.forms.Declared as code
@@ -120,19 +118,19 @@ module _ (b : Bench) (unit : ℕ) (ds : List code.Declared) (h : Holds b unit ds
       }
 
   -- either
-  pub one_more : (c : Bench) (known : Known) (e : Datum) (blank : Bool) → (blank ≡ true → IsUntouched d) → (blank ≡ true → c ≡ b) →
+  pub one_more : (c : Bench) (known : Known) (e : UnitForm) (blank : Bool) → (blank ≡ true → IsUntouched d) → (blank ≡ true → c ≡ b) →
       (blank ≡ false → PassesForm b c known unit (length ds) e h.held.notes h.held.state d) → Holds c unit (ds ++ d ∷ [])
   one_more c known e true none same passes = subst (λ (x : Bench). Holds x unit (ds ++ d ∷ [])) (sym (same refl)) (blank_held (none refl))
   one_more c known e false none same passes = next_held c (passed known unit (length ds) e h.held.notes h.held.state) (passes refl)
 
   pub next_form : (c : Bench) (n : ℕ) → n ≡ length ds → (f : source.UnitForm) → (f.declared ≡ true → IsUntouched d) → (f.declared ≡ true → c ≡ b) →
       ((known : Known) (ls : List Frames) (s : ScopedState) (notes : List (Note FramedIdent)) → f.declared ≡ false → Knows b.scope.libraries known → UnitStands b.work b.scope ls s notes → s.unit ≡ unit → IsFresh s n →
-      PassesForm b c known unit n (datum_of f.datum) notes s d) →
+      PassesForm b c known unit n (form_of f) notes s d) →
       Holds c unit (ds ++ d ∷ [])
   next_form c n at f blank same passes =
       let was = h.held in let known = known_by b.scope.libraries in
-      one_more c known (datum_of f.datum) f.declared blank same
-      (λ off. subst (λ (m : ℕ). PassesForm b c known unit m (datum_of f.datum) was.notes was.state d) at
+      one_more c known (form_of f) f.declared blank same
+      (λ off. subst (λ (m : ℕ). PassesForm b c known unit m (form_of f) was.notes was.state d) at
       (passes known was.layout was.state was.notes off (λ l _. refl) was.stands was.number (h.fresh n (omega (arith, at)))))
 
 -- the next form
@@ -219,7 +217,7 @@ module _ (known : Known) (unit : ℕ) (ts : List (ℕ × Tree Identifier)) (s : 
     was = a.base.held.state
 
     abbrev tree : ℕ × Tree Identifier
-    tree = (place, seeded unit place (datum_of f.datum))
+    tree = (place, taken unit place (form_of f))
 
     abbrev others : List (ℕ × Tree Identifier)
     others = forms_over (Written unit) unit (suc place) left
@@ -245,9 +243,9 @@ module _ (known : Known) (unit : ℕ) (ts : List (ℕ × Tree Identifier)) (s : 
         }
 
     -- one that is
-    module _ (rise : Rise 0 (numbers_of ts)) (off : f.declared ≡ false) (few : nat_lt max_total total ≡ false) (c : Bench) (n : PassesForm b c known unit place (datum_of f.datum) a.base.held.notes was d) where
+    module _ (rise : Rise 0 (numbers_of ts)) (off : f.declared ≡ false) (few : nat_lt max_total total ≡ false) (c : Bench) (n : PassesForm b c known unit place (form_of f) a.base.held.notes was d) where
       abbrev now : Pass Identifier FramedIdent × ScopedState
-      now = passed known unit place (datum_of f.datum) a.base.held.notes was
+      now = passed known unit place (form_of f) a.base.held.notes was
 
       parted_so : (a.front ++ tree ∷ []) ++ others ≡ ts
       parted_so = append_assoc a.front (tree ∷ []) others ∙ (ap (λ (q : Bool). a.front ++ cond q others (tree ∷ others)) (sym off) ∙ a.parted)
@@ -255,14 +253,14 @@ module _ (known : Known) (unit : ℕ) (ts : List (ℕ × Tree Identifier)) (s : 
       counted_so : nodes_in (searched known) (numbers_of ts) now.1 ≡ total + d.budget.nodes
       counted_so =
           let here : IsAmong place (numbers_of ts) = subst (λ (xs : List (ℕ × Tree Identifier)). IsAmong place (numbers_of xs)) (sym (append_assoc a.front (tree ∷ []) others) ∙ parted_so) (among a.front others tree) in
-          let stay = declared_stays place known (seeded unit place (datum_of f.datum)) a.base.held.notes was in
+          let stay = declared_stays place known (taken unit place (form_of f)) a.base.held.notes was in
           counted_on (nodes_in (searched known) (numbers_of ts) now.1) (nodes_in (searched known) (numbers_of ts) was) total d.budget.nodes (was.nodes place) (now.1.nodes place)
           (step_counted (searched known) place was now.1 (λ m apart. (stay.counts m apart).nodes) 0 (numbers_of ts) rise here) a.counted (a.base.fresh place (omega (arith, at))).nodes n.form_is.counts.nodes
 
       used_so : total_of now.1.uses (numbers_of ts) ≡ used_by (ds ++ d ∷ [])
       used_so =
           let here : IsAmong place (numbers_of ts) = subst (λ (xs : List (ℕ × Tree Identifier)). IsAmong place (numbers_of xs)) (sym (append_assoc a.front (tree ∷ []) others) ∙ parted_so) (among a.front others tree) in
-          let stay = declared_stays place known (seeded unit place (datum_of f.datum)) a.base.held.notes was in
+          let stay = declared_stays place known (taken unit place (form_of f)) a.base.held.notes was in
           counted_on (total_of now.1.uses (numbers_of ts)) (total_of was.uses (numbers_of ts)) (used_by ds) d.budget.uses (was.uses place) (now.1.uses place)
           (step_total place was.uses now.1.uses (λ m apart. (stay.counts m apart).uses) 0 (numbers_of ts) rise here) a.used (a.base.fresh place (omega (arith, at))).uses n.form_is.counts.uses
           ∙ sym (used_more ds d)
@@ -289,7 +287,7 @@ module _ (known : Known) (unit : ℕ) (ts : List (ℕ × Tree Identifier)) (s : 
 
     -- either
     pub one_so : Rise 0 (numbers_of ts) → nat_lt max_total total ≡ false → (c : Bench) → (f.declared ≡ true → IsUntouched d) → (f.declared ≡ true → c ≡ b) →
-        (f.declared ≡ false → PassesForm b c known unit place (datum_of f.datum) a.base.held.notes was d) → PassedSo c (total + d.budget.nodes) (ds ++ d ∷ []) (suc place) left
+        (f.declared ≡ false → PassesForm b c known unit place (form_of f) a.base.held.notes was d) → PassedSo c (total + d.budget.nodes) (ds ++ d ∷ []) (suc place) left
     one_so rise few c blank same passes = by f.declared refl
       where
         by : (q : Bool) → f.declared ≡ q → PassedSo c (total + d.budget.nodes) (ds ++ d ∷ []) (suc place) left
@@ -323,7 +321,7 @@ none_from b unit fs region known ls s knows stands own fresh = none_passed known
 pub next_from : (old b c : Bench) (unit total place : ℕ) (fs : List source.UnitForm) (ds : List code.Declared) → PassedFrom old b unit total place fs ds → Stays old b → place ≡ length ds → nat_lt max_total total ≡ false →
     (d : code.Declared) (n : ℕ) → n ≡ place → (f : source.UnitForm) → place < length fs → f ≡ get_or fs place f → (f.declared ≡ true → IsUntouched d) → (f.declared ≡ true → c ≡ b) →
     ((known : Known) (ls : List Frames) (s : ScopedState) (notes : List (Note FramedIdent)) → f.declared ≡ false → Knows b.scope.libraries known → UnitStands b.work b.scope ls s notes → s.unit ≡ unit → IsFresh s n →
-    PassesForm b c known unit n (datum_of f.datum) notes s d) →
+    PassesForm b c known unit n (form_of f) notes s d) →
     PassedFrom old c unit (total + d.budget.nodes) (suc place) fs (ds ++ d ∷ [])
 next_from old b c unit total place fs ds so stay at few d n same_n f low is blank same passes known ls s knows stands own fresh =
     let ts = forms_over (Written unit) unit 0 (forms_of fs) in
@@ -331,5 +329,5 @@ next_from old b c unit total place fs ds so stay at few d n same_n f low is blan
     subst (λ (left : List UnitForm). PassedSo known unit ts s b total ds place left) (dropped_form fs place f low is) (so known ls s knows stands own fresh) in
     let was = a.base.held in
     one_so known unit ts s b total place ds f (drop (suc place) (forms_of fs)) a at d (forms_rise (Written unit) unit 0 (forms_of fs)) few c blank same
-    (λ off. subst (λ (m : ℕ). PassesForm b c known unit m (datum_of f.datum) was.notes was.state d) same_n
+    (λ off. subst (λ (m : ℕ). PassesForm b c known unit m (form_of f) was.notes was.state d) same_n
     (passes known was.layout was.state was.notes off (stay.libraries known knows) was.stands was.number (a.base.fresh n (omega (arith, same_n, at)))))

@@ -104,7 +104,7 @@ module _ (work : Work) (unit : ℕ) where
 
   -- a form that is refused stands before others
   behind_refused : (k : ℕ) (c : code.UnitForm) (cs : List code.UnitForm) (gs : List Formed) → FormsStand work unit (suc k) cs gs → FormsStand work unit k (record c { fault = Some (refused_fault unit k) } ∷ cs) (refused_form unit k ∷ gs)
-  behind_refused k c cs gs h = inr (refl, (refused_fault unit k, refl, record { code = refl; name = tt; place = refl; text = refl }), h)
+  behind_refused k c cs gs h = inr (refl, (refused_fault unit k, refl, record { code = refl; name = tt; place = refl; here = refl; text = refl }), h)
 
   -- whatever they stand for
   pub any_refused : (k : ℕ) (ss : List source.UnitForm) (cs : List code.UnitForm) (fs : List Formed) → FormsStand work unit k cs fs → length ss ≡ length cs → (gs : List Formed) × FormsStand work unit k (refused_forms unit k ss cs) gs

@@ -1,11 +1,10 @@
 -- The forms of a unit by their numbers: what they count together, and what the unit comes to.
 use Rattle.std.proofs.Common.{◌≡◌, ℕ, suc, ◌+◌, ◌≤◌, ◌<◌, List, [], ◌∷◌, ◌++◌, Bool, true, false, cond, Option, Some, None, refl, sym, ap, ◌∙◌, inl, inr, arith}
-use Rattle.scheme_model.specs.Data.{place_of}
 use Rattle.scheme_model.specs.DataTrees.{tree_of}
-use Rattle.scheme_model.specs.Trees.{Tree, placed_in}
+use Rattle.scheme_model.specs.Trees.{Tree, placed_by}
 use Rattle.scheme_model.specs.Order.{Ops}
 use Rattle.scheme_model.specs.Expression.{expand}
-use Rattle.scheme_model.specs.Declarations.{UnitForm}
+use Rattle.scheme_model.specs.Declarations.{UnitForm, home_of}
 use Rattle.scheme_model.specs.ScopedProgram.{forms_over}
 use Rattle.scheme_model.specs.UnitExpansion.{Formed, LeftOf, ◌then◌, passes, finished, nodes_in, unit}
 use Rattle.macro_uses.specs.MacroUses.{total_of}
@@ -22,7 +21,7 @@ forms_rise {A} written u n [] = tt
 forms_rise {A} written u n (f ∷ fs) = go f.declared (forms_rise written u (suc n) fs)
   where
     go : (b : Bool) → Rise (suc n) (numbers_of (forms_over written u (suc n) fs)) →
-        Rise n (numbers_of (cond b (forms_over written u (suc n) fs) ((n, tree_of written (placed_in u n (place_of f.datum).first) f.datum) ∷ forms_over written u (suc n) fs)))
+        Rise n (numbers_of (cond b (forms_over written u (suc n) fs) ((n, tree_of written (placed_by (home_of u n f)) f.datum) ∷ forms_over written u (suc n) fs)))
     go true later = rise_from n (suc n) (numbers_of (forms_over written u (suc n) fs)) (omega arith) later
     go false later = (omega arith, later)
 

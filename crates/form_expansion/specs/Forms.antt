@@ -4,7 +4,7 @@ use Rattle.std.specs.Prelude.{◌≡◌, ◌⊎◌, ℕ, suc, ◌+◌, ◌^◌, 
 use Rattle.std.specs.declared.alloc.Global.{Global}
 use Rattle.std.specs.BTreeSet.{BTreeSet, contains_text}
 use Rattle.scheme_model.specs.Ident.{Ident as Identifier}
-use Rattle.scheme_model.specs.Data.{Datum}
+use Rattle.scheme_model.specs.Declarations.{UnitForm, home_of}
 use Rattle.scheme_model.specs.Cores.{Parts}
 use Rattle.scheme_model.specs.Steps.{Broken}
 use Rattle.scheme_model.specs.Order.{Left, Note, Pass, Counted}
@@ -20,7 +20,7 @@ use Rattle.syntax_tree.specs.declared.trees.Work.{Work}
 use Rattle.syntax_tree.specs.declared.trees.table.Region.{Region}
 use Rattle.syntax_tree.specs.Works.{IsOpened, KeepsTrees, SameRegions, AddsIn}
 use Rattle.syntax_tree.specs.Names.{KeepsNames}
-use Rattle.datum_reader.specs.Seeded.{seeded}
+use Rattle.datum_reader.specs.Seeded.{seeded_as}
 use Rattle.core_tree.specs.Names.{AllMatch}
 use Rattle.core_tree.specs.Traces.{IsFault}
 use Rattle.core_tree.specs.Units.{FormsStand, IsResult, AreDefinitions, definitions_from, defined_by}
@@ -106,7 +106,7 @@ abbrev pub IsSetAside : Work → Region → (unit form : ℕ) → code.Declared 
 IsSetAside work region unit form d None (Ok l) = AllMatch (WaitsFor work unit form) d.uses.items l.uses × AllMatch (ItemFor work region unit form) d.aside l.items
 IsSetAside work region unit form d None (Err b) = ⊥
 IsSetAside work region unit form d (Some e) (Ok l) = ⊥
-IsSetAside work region unit form d (Some e) (Err b) = IsFault work.symbols unit form e b
+IsSetAside work region unit form d (Some e) (Err b) = IsFault work.symbols e b
 
 -- a form that isn't broken has space for what it set aside
 abbrev pub HasSpaceLeft : Budget → Option FormFault → Type 0
@@ -140,9 +140,13 @@ pub record CanFinish (b : Bench) (unit form : ℕ) (d : code.Declared) : Type 0 
   pub result : Passing
   pub form_is : IsDeclared b.work b.region unit form state d result
 
+-- the tree of the form with a number, as a unit takes it
+abbrev pub taken : (unit form : ℕ) → UnitForm → Tree Identifier
+taken unit form f = seeded_as unit (home_of unit form f) f.datum
+
 -- a form that is expanded, as it is gone through
-abbrev pub passed : Known → (unit form : ℕ) → Datum → List (Note FramedIdent) → ScopedState → Pass Identifier FramedIdent × ScopedState
-passed known unit form d notes s = declared known form (seeded unit form d) notes s
+abbrev pub passed : Known → (unit form : ℕ) → UnitForm → List (Note FramedIdent) → ScopedState → Pass Identifier FramedIdent × ScopedState
+passed known unit form f notes s = declared known form (taken unit form f) notes s
 
 abbrev pub AreInOrder : (behind : ℕ) → ScopedState → Type 0
 AreInOrder behind s = InOrder (λ (d : Defined). d.form) 0 behind (defined_by s.unit s.table)
@@ -165,8 +169,8 @@ pub record PassesTo (old new : Bench) (unit form : ℕ) (s : ScopedState) (p : P
   pub form_is : IsDeclared new.work new.region unit form p.1 c p.0.left
   pub others : LeavesOthers old new unit form s p.1
 
-abbrev pub PassesForm : (old new : Bench) → Known → (unit form : ℕ) → Datum → List (Note FramedIdent) → ScopedState → code.Declared → Type 0
-PassesForm old new known unit form d notes s c = PassesTo old new unit form s (passed known unit form d notes s) c
+abbrev pub PassesForm : (old new : Bench) → Known → (unit form : ℕ) → UnitForm → List (Note FramedIdent) → ScopedState → code.Declared → Type 0
+PassesForm old new known unit form f notes s c = PassesTo old new unit form s (passed known unit form f notes s) c
 
 -- a form's uses are met, and what it set aside is expanded, while these forms count
 abbrev pub expanding : Known → List ℕ → (form : ℕ) → Passing → ScopedState → Option (Result Parts Broken) × ScopedState

@@ -8,7 +8,7 @@ use Rattle.library_table.specs.declared.units.UnitForm as source
 
 -- it stands at the declaration's first token
 abbrev pub refused_fault : (unit form : ℕ) → FormFault
-refused_fault unit form = record { code = 48; name = None; occ = Some (record { unit = unit; form = form; token = 0 }); text = None }
+refused_fault unit form = record { code = 48; name = None; occ = None; here = Some (record { unit = unit; form = form; token = 0 }); text = None }
 
 abbrev pub refused_if : (unit form : ℕ) → source.UnitForm → UnitForm → UnitForm
 refused_if unit form s c = if is_include (form_of s) then record c { fault = Some (refused_fault unit form) } else c

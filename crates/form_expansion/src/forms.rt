@@ -14,7 +14,7 @@ ghost use Rattle.syntax_tree.specs.Names.{KeepsNames};
 ghost use Rattle.syntax_tree.specs.Works.{IsOpened, StandsFor, KeepsTrees, SameRegions, AddsIn};
 ghost use Rattle.datum_reader.specs.WellFormed.{WasRead};
 ghost use Rattle.datum_reader.specs.Views.{datum_of};
-ghost use Rattle.library_table.specs.UnitsRead.{forms_of};
+ghost use Rattle.library_table.specs.UnitsRead.{form_of, forms_of};
 ghost use Rattle.core_tree.specs.Units.{IsBlank};
 ghost use Rattle.feature_requirements.specs.Judged.{Knows};
 ghost use Rattle.unit_scopes.specs.Stepped.{IsFresh};
@@ -26,7 +26,7 @@ ghost use Rattle.document_units.specs.WereRead.{WereRead};
 
 use core_tree::traces::{FormFault, Trace};
 use core_tree::units::{ExpandedItem, UnitForm};
-use datum_reader::seed;
+use datum_reader::seed_as;
 use document_units::form_numbers::number_of;
 use expander::{
     Budget, ExpandFault, Item, Left, UnitScope, WaitingUse, declare_form, expand_item, meet_uses,
@@ -151,7 +151,7 @@ fn declare<L: Ledger>(
     ensures same { form.now.declared ≡ true → OnOk result (bench.new ≡ bench.old) }
     ensures passes { (known : Known) (ls : List Frames) (s : ScopedState) (notes : List (Note FramedIdent)) → form.now.declared ≡ false → Knows bench.old.scope.libraries known →
         UnitStands bench.old.work bench.old.scope ls s notes → s.unit ≡ unit → IsFresh s number →
-        IfOk result (PassesForm bench.old bench.new known unit number (datum_of form.now.datum) notes s) }
+        IfOk result (PassesForm bench.old bench.new known unit number (form_of form.now) notes s) }
     ensures few { IfOk result (λ form. form.budget.nodes ≤ 200000) }
     ensures steps { IfOk result (λ form. steps.new ≡ steps.old + form.budget.uses) }
     ensures stays { OnOk result (Stays bench.old bench.new) }
@@ -163,7 +163,8 @@ fn declare<L: Ledger>(
         return Ok(blank);
     }
     let Bench { work, region, .. } = bench;
-    match seed(alloc, work, region, &form.datum, unit, number) {
+    let home = form.home_in(unit, number);
+    match seed_as(alloc, work, region, &form.datum, home, unit) {
         Ok(tree) => {
             work.symbols.told_apart();
             Ok(declare_tree(bench, tree, number, blank, steps)?)

@@ -60,7 +60,8 @@ fn refused(unit: u32, form: u32) -> FormFault
     FormFault {
         code: 48,
         name: None,
-        occ: Some(Occ {
+        occ: None,
+        here: Some(Occ {
             unit,
             form,
             token: 0,

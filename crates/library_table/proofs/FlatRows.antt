@@ -6,7 +6,7 @@ use Rattle.std.specs.Option.{is_some}
 use Rattle.std.proofs.lemmas.List.{drop_more, at_drop_all}
 use Rattle.scheme_model.specs.Data.{Place, place_of, Datum, atom, list, vector, bytes, Data, part, row}
 use Rattle.scheme_model.specs.Requirements.{Known}
-use Rattle.scheme_model.specs.Declarations.{UnitForm, Flat, Declared, declared_by, declared_as, symbol_in, proper_parts, clauses, parts_or, all_export_parts, declaration, declarations, ◌>>=◌}
+use Rattle.scheme_model.specs.Declarations.{UnitForm, declared_form, Flat, Declared, declared_by, declared_as, symbol_in, proper_parts, clauses, parts_or, all_export_parts, declaration, declarations, ◌>>=◌}
 use Rattle.datum_reader.specs.declared.datum.Datum as code
 use Rattle.datum_reader.specs.Views.{datum_of, data_of}
 use Rattle.library_table.specs.declared.units.UnitForm as code_form
@@ -110,10 +110,10 @@ declared_list known whole p ds h rest end k q is e =
 
 -- what an import, an inclusion and an export give
 abbrev pub import_of : Datum → Option (List Datum) → Flat
-import_of d parts = parts_or d parts >>= λ ds. Ok (record { datum = d; declared = true } ∷ [])
+import_of d parts = parts_or d parts >>= λ ds. Ok (declared_form d ∷ [])
 
 abbrev pub export_of : Datum → Option (List Datum) → Flat
-export_of d parts = parts_or d parts >>= λ ds. if all_export_parts ds then Ok (record { datum = d; declared = true } ∷ []) else Err d
+export_of d parts = parts_or d parts >>= λ ds. if all_export_parts ds then Ok (declared_form d ∷ []) else Err d
 
 pub kept_plain : (d : Datum) (ds : List Datum) (end : Option Datum) (b : Bool) → is_some end ≡ b → import_of d (proper_parts (row ds (end_with end))) ≡ kept b d
 kept_plain d ds end true e = ap (import_of d) (dotted_parts ds end e)
@@ -123,7 +123,7 @@ pub kept_exports : (d : Datum) (ds : List Datum) (end : Option Datum) (b c : Boo
 kept_exports d ds end true c e h = ap (export_of d) (dotted_parts ds end e) ∙ ap (λ x. kept (not x) d) (sym h)
 kept_exports d ds end false c e h = ap (export_of d) (proper_all ds end e) ∙ go (all_export_parts ds) ∙ ap (λ x. kept (not x) d) (sym h)
   where
-    go : (b : Bool) → cond b (Ok (record { datum = d; declared = true } ∷ [])) (Err d) ≡ kept (not b) d
+    go : (b : Bool) → cond b (Ok (declared_form d ∷ [])) (Err d) ≡ kept (not b) d
     go true = refl
     go false = refl
 

@@ -4,7 +4,8 @@ use Rattle.std.proofs.lemmas.List.{drop_more, at_drop_all}
 use Rattle.std.specs.Option.{option_to_list}
 use Rattle.scheme_model.specs.Program as model
 use Rattle.scheme_model.specs.Program.{specs_in, specs_from, spec_of, exports_in, exports_from, exports_with, export_of}
-use Rattle.scheme_model.specs.Trees.{placed_in}
+use Rattle.scheme_model.specs.declared.Home.{Home}
+use Rattle.scheme_model.specs.Trees.{placed_by}
 use Rattle.datum_reader.specs.declared.datum.Datum as code
 use Rattle.datum_reader.specs.Views.{datum_of, data_of}
 use Rattle.library_table.specs.declared.units.UnitForm as code_form
@@ -86,9 +87,9 @@ specs_numbered unit n [] = refl
 specs_numbered unit n (f ∷ fs) = ap (λ (x : List model.ImportSpec). specs_in unit n (form_of f) ++ x) (specs_numbered unit (suc n) fs)
 
 -- the exports of a form
-pub exports_each : (unit form first n : ℕ) (ds : List code.Datum) → exports_with unit form first (data_of ds) ≡ numbered (λ k d. export_of form (plain (placed_in unit form first) (datum_of d))) n ds
-exports_each unit form first n [] = refl
-exports_each unit form first n (d ∷ ds) = ap (λ (x : List model.ExportSpec). export_of form (plain (placed_in unit form first) (datum_of d)) ++ x) (exports_each unit form first (suc n) ds)
+pub exports_each : (form : ℕ) (h : Home) (n : ℕ) (ds : List code.Datum) → exports_with form h (data_of ds) ≡ numbered (λ k d. export_of form (plain (placed_by h) (datum_of d))) n ds
+exports_each form h n [] = refl
+exports_each form h n (d ∷ ds) = ap (λ (x : List model.ExportSpec). export_of form (plain (placed_by h) (datum_of d)) ++ x) (exports_each form h (suc n) ds)
 
 -- the exports of a unit
 pub exports_numbered : (unit n : ℕ) (fs : List code_form.UnitForm) → exports_from unit n (forms_of fs) ≡ numbered (λ k f. exports_in unit k (form_of f)) n fs

@@ -4,7 +4,7 @@ use Rattle.std.specs.Prelude.{◌&&◌, codes}
 use Rattle.std.proofs.lemmas.Option.{same_Some}
 use Rattle.ls_base.specs.declared.places.Span.{Span}
 use Rattle.scheme_model.specs.Data.{Datum, place_of}
-use Rattle.scheme_model.specs.Declarations.{UnitForm, IsProgram, plain_form, is_headed, is_proper, program_forms}
+use Rattle.scheme_model.specs.Declarations.{UnitForm, IsProgram, plain_form, declared_form, is_headed, is_proper, program_forms}
 use Rattle.scheme_model.specs.Program.{specs_from, exports_from}
 use Rattle.syntax_tree.specs.declared.units.UnitKind.TheVariants as kinds
 use Rattle.datum_reader.specs.Views.{datum_of}
@@ -22,7 +22,7 @@ begins_with : (d : Datum) (ds : List Datum) → first_datum (program_forms (d �
 unfolding first_datum
 begins_with d ds = go (is_headed (codes "import") d && is_proper d)
   where
-    go : (b : Bool) → first_datum (cond b (record { datum = d; declared = true } ∷ program_forms ds) (map plain_form (d ∷ ds))) ≡ Some d
+    go : (b : Bool) → first_datum (cond b (declared_form d ∷ program_forms ds) (map plain_form (d ∷ ds))) ≡ Some d
     go true = refl
     go false = refl
 

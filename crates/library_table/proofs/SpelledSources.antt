@@ -2,9 +2,9 @@
 use Rattle.std.proofs.Common.{◌≡◌, ℕ, suc, Bool, true, false, cond, List, [], ◌∷◌, ◌++◌, map, Option, Some, None, Result, Ok, Err, IfOk, refl, sym, ap, ◌∙◌, subst}
 use Rattle.std.specs.Prelude.{◌&&◌, codes}
 use Rattle.std.specs.Option.{option_map}
-use Rattle.scheme_model.specs.Data.{Datum, place_of}
+use Rattle.scheme_model.specs.Data.{Datum}
 use Rattle.scheme_model.specs.DataTrees.{tree_of}
-use Rattle.scheme_model.specs.Declarations.{UnitForm, UnitSource, is_headed, list_parts, behind_head, library_of}
+use Rattle.scheme_model.specs.Declarations.{UnitForm, home_of, UnitSource, is_headed, list_parts, behind_head, library_of}
 use Rattle.scheme_model.specs.Entries.{ImportSet, Library, Only, Except, Prefix, Rename, Bad, Modifier, IsOnly, IsExcept, IsPrefix, IsRename, modifier_named, pairs_of, or_bad, modified_set, library_set, by_modifier, set_of, library_in}
 use Rattle.scheme_model.specs.ExpansionFaults.{Fault, ◌>>◌}
 use Rattle.scheme_model.specs.Program.{ImportSpec, spec_of, behind_first, specs_in, specs_from, forms_or_none}
@@ -87,8 +87,9 @@ both_proper (s ∷ ss) ts h k = (h.0, both_proper ss ts h.1 k)
 
 form_proper : (unit form : ℕ) (f : UnitForm) → AreProperSpecs (specs_in unit form f)
 form_proper unit form f =
-    if_proper (f.declared && is_headed (codes "import") f.datum) (map (spec_of unit form (place_of f.datum).first) (behind_first (list_parts f.datum)))
-    (specs_proper unit form (place_of f.datum).first (behind_first (list_parts f.datum)))
+    let h = home_of unit form f in
+    if_proper (f.declared && is_headed (codes "import") f.datum) (map (spec_of h.unit h.form h.first) (behind_first (list_parts f.datum)))
+    (specs_proper h.unit h.form h.first (behind_first (list_parts f.datum)))
 
 all_proper : (unit form : ℕ) (fs : List UnitForm) → AreProperSpecs (specs_from unit form fs)
 all_proper unit form [] = tt

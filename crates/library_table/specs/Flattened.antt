@@ -4,7 +4,7 @@ use Rattle.std.specs.Borrow.{Bor}
 use Rattle.scheme_model.specs.Data.{Datum, Data, none, row}
 use Rattle.scheme_model.specs.Requirements.{Known}
 use Rattle.scheme_model.specs.Declarations as model
-use Rattle.scheme_model.specs.Declarations.{UnitForm, Flat, Clause, Exports, Imports, Begins, Includes, Undeclared, all_names, plain_form, declarations, clauses, clause_of, some_clauses, chosen_clause, flat_of, parts_or, symbol_tree, ◌>>=◌}
+use Rattle.scheme_model.specs.Declarations.{UnitForm, Flat, Clause, Exports, Imports, Begins, Includes, Undeclared, all_names, plain_form, declared_form, declarations, clauses, clause_of, some_clauses, chosen_clause, flat_of, parts_or, symbol_tree, ◌>>=◌}
 use Rattle.datum_reader.specs.declared.datum.Datum as code
 use Rattle.datum_reader.specs.Views.{datum_of, data_of}
 use Rattle.library_table.specs.declared.units.UnitForm as code_form
@@ -50,7 +50,7 @@ two_symbols (a ∷ b ∷ c ∷ ds) = false
 -- a declaration that gives itself, if it has its shape
 abbrev pub kept : Bool → Datum → Flat
 kept true d = Err d
-kept false d = Ok (record { datum = d; declared = true } ∷ [])
+kept false d = Ok (declared_form d ∷ [])
 
 abbrev pub begun_of : Datum → Option (List Datum) → Flat
 begun_of d parts = parts_or d parts >>= λ ds. Ok (map plain_form ds)

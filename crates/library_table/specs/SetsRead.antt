@@ -72,8 +72,9 @@ inner_datum (Prefix s p) d = second_or d (list_parts d)
 inner_datum (Rename s ps) d = second_or d (list_parts d)
 inner_datum Bad d = d
 
--- an import set with the bytes of the set, of the set inside its outermost modifier, and of its library's name
+-- an import set with its unit and the bytes of the set, of the set inside its outermost modifier, and of its library's name
 pub record IsImportSpec (c : code_import.ImportSpec) (s : ImportSpec) : Type 0 where
+  pub unit : c.unit ≡ s.unit
   pub set : IsSetText c.set s.set
   pub span : c.span ≡ bytes_of s.whole
   pub inner : c.inner ≡ bytes_of (inner_datum s.set s.whole)

@@ -21,7 +21,7 @@ use Rattle.library_table.specs.SetsRead.{IsImportSpec}
 -- ---- forms
 
 abbrev pub form_of : code_form.UnitForm → UnitForm
-form_of f = record { datum = datum_of f.datum; declared = f.declared }
+form_of f = record { datum = datum_of f.datum; declared = f.declared; home = f.home }
 
 abbrev pub forms_of : List code_form.UnitForm → List UnitForm
 forms_of fs = map form_of fs

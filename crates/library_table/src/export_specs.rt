@@ -17,9 +17,9 @@ use datum_reader::Datum;
 use datum_reader::heads::behind_first;
 use datum_reader::look::{Look, Row, look_at, row_of};
 use datum_reader::shape_fault::ShapeFault;
-use datum_reader::start::Start;
 use import_sets::SetName;
 use ls_base::{Items, Mem, Memory};
+use scheme_model::Home;
 use std::alloc::Global;
 
 /// An identifier that is exported as it is.
@@ -38,10 +38,10 @@ fn itself(form: u32, name: SetName) -> Mem<ExportSpec>
 }
 
 /// An identifier, if a datum is one.
-fn name_if(alloc: Global, datum: &Datum, start: Start) -> Mem<Option<SetName>>
-    ensures { IfOk result (λ name. option_map named name ≡ named_in (tree_at (place start) datum.now)) }
+fn name_if(alloc: Global, datum: &Datum, home: Home) -> Mem<Option<SetName>>
+    ensures { IfOk result (λ name. option_map named name ≡ named_in (tree_at (place home) datum.now)) }
 {
-    match name_of(alloc, datum, start) {
+    match name_of(alloc, datum, home) {
         Ok(name) => Ok(Some(name)),
         Err(ShapeFault::BadForm) => Ok(None),
         Err(ShapeFault::Memory) => Err(Memory),
@@ -49,31 +49,36 @@ fn name_if(alloc: Global, datum: &Datum, start: Start) -> Mem<Option<SetName>>
 }
 
 /// The export that a part of an export declaration is.
-fn export_of(alloc: Global, datum: &Datum, start: Start) -> Mem<Option<ExportSpec>>
-    ensures { IfOk result (λ spec. IsExportOf spec (export_of start.form (tree_at (place start) datum.now))) }
+fn export_of(alloc: Global, datum: &Datum, number: u32, home: Home) -> Mem<Option<ExportSpec>>
+    ensures { IfOk result (λ spec. IsExportOf spec (export_of number (tree_at (place home) datum.now))) }
 {
     match look_at(datum) {
-        Look::List(parts, _) => renamed_export(alloc, parts, start),
-        Look::Name(_) => plain_export(alloc, datum, start),
-        Look::Implied(_) => plain_export(alloc, datum, start),
+        Look::List(parts, _) => renamed_export(alloc, parts, number, home),
+        Look::Name(_) => plain_export(alloc, datum, number, home),
+        Look::Implied(_) => plain_export(alloc, datum, number, home),
         Look::Numeral(_) => Ok(None),
         Look::Other => Ok(None),
     }
 }
 
 /// An identifier as an export.
-fn plain_export(alloc: Global, datum: &Datum, start: Start) -> Mem<Option<ExportSpec>>
-    ensures { IfOk result (λ spec. (s : List ℕ) (o : Option Occ) → tree_at (place start) datum.now ≡ name_tree s o → IsExportOf spec (export_of start.form (name_tree s o))) }
+fn plain_export(alloc: Global, datum: &Datum, number: u32, home: Home) -> Mem<Option<ExportSpec>>
+    ensures { IfOk result (λ spec. (s : List ℕ) (o : Option Occ) → tree_at (place home) datum.now ≡ name_tree s o → IsExportOf spec (export_of number (name_tree s o))) }
 {
-    match name_if(alloc, datum, start)? {
+    match name_if(alloc, datum, home)? {
         None => Ok(None),
-        Some(name) => Ok(Some(itself(start.form, name)?)),
+        Some(name) => Ok(Some(itself(number, name)?)),
     }
 }
 
 /// An export under another name, by the parts of its list.
-fn renamed_export(alloc: Global, parts: &[Datum], start: Start) -> Mem<Option<ExportSpec>>
-    ensures { IfOk result (λ spec. (end : Tail (List ℕ)) (o : Option Occ) → IsExportOf spec (export_of start.form (list_tree (trees_at (place start) parts.now) end o))) }
+fn renamed_export(
+    alloc: Global,
+    parts: &[Datum],
+    number: u32,
+    home: Home,
+) -> Mem<Option<ExportSpec>>
+    ensures { IfOk result (λ spec. (end : Tail (List ℕ)) (o : Option Occ) → IsExportOf spec (export_of number (list_tree (trees_at (place home) parts.now) end o))) }
 {
     match row_of(parts) {
         Row::Empty => Ok(None),
@@ -81,24 +86,30 @@ fn renamed_export(alloc: Global, parts: &[Datum], start: Start) -> Mem<Option<Ex
             Row::Empty => Ok(None),
             Row::Parts(inner, rest) => match row_of(rest) {
                 Row::Empty => Ok(None),
-                Row::Parts(outer, _) => two_names(alloc, inner, outer, start),
+                Row::Parts(outer, _) => two_names(alloc, inner, outer, number, home),
             },
         },
     }
 }
 
 /// An export by its two identifiers.
-fn two_names(alloc: Global, inner: &Datum, outer: &Datum, start: Start) -> Mem<Option<ExportSpec>>
+fn two_names(
+    alloc: Global,
+    inner: &Datum,
+    outer: &Datum,
+    number: u32,
+    home: Home,
+) -> Mem<Option<ExportSpec>>
     ensures { IfOk result (λ spec. (r : Tree (List ℕ)) (ts : Trees (List ℕ)) (end : Tail (List ℕ)) (o : Option Occ) →
-        IsExportOf spec (export_of start.form (list_tree (tree r (tree (tree_at (place start) inner.now) (tree (tree_at (place start) outer.now) ts))) end o))) }
+        IsExportOf spec (export_of number (list_tree (tree r (tree (tree_at (place home) inner.now) (tree (tree_at (place home) outer.now) ts))) end o))) }
 {
-    let Some(inner) = name_if(alloc, inner, start)? else {
+    let Some(inner) = name_if(alloc, inner, home)? else {
         return Ok(None);
     };
-    let Some(outer) = name_if(alloc, outer, start)? else {
+    let Some(outer) = name_if(alloc, outer, home)? else {
         return Ok(None);
     };
-    let form = start.form;
+    let form = number;
     Ok(Some(ExportSpec { form, inner, outer }))
 }
 
@@ -113,11 +124,17 @@ fn add_export(specs: &mut Items<ExportSpec>, spec: Option<ExportSpec>) -> Mem<()
 }
 
 /// Adds the exports of the parts of a declaration.
-fn add_all(alloc: Global, specs: &mut Items<ExportSpec>, parts: &[Datum], start: Start) -> Mem<()>
-    ensures { OnOk result (AddsExports specs.old specs.new (exports_with start.unit start.form start.first (data_of parts.now))) }
+fn add_all(
+    alloc: Global,
+    specs: &mut Items<ExportSpec>,
+    parts: &[Datum],
+    number: u32,
+    home: Home,
+) -> Mem<()>
+    ensures { OnOk result (AddsExports specs.old specs.new (exports_with number home (data_of parts.now))) }
 {
     for datum in parts {
-        let spec = export_of(alloc, datum, start)?;
+        let spec = export_of(alloc, datum, number, home)?;
         add_export(specs, spec)?;
     }
     Ok(())
@@ -136,12 +153,8 @@ fn add_exports(
     if !is_export(form) {
         return Ok(());
     }
-    let start = Start {
-        unit,
-        form: number,
-        first: form.datum.first,
-    };
-    Ok(add_all(alloc, specs, behind_first(&form.datum), start)?)
+    let home = form.home_in(unit, number);
+    Ok(add_all(alloc, specs, behind_first(&form.datum), number, home)?)
 }
 
 /// What the forms of a unit export.

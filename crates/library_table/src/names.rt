@@ -11,19 +11,20 @@ ghost use Rattle.library_table.specs.PartsRead.{Reads, names_in, pairs_in, only_
 use datum_reader::Datum;
 use datum_reader::look::{Look, Row, look_at, row_of};
 use datum_reader::shape_fault::ShapeFault;
-use datum_reader::start::{Start, place};
+use datum_reader::start::place;
 use import_sets::{NamePair, SetName};
 use ls_base::{Items, Text};
+use scheme_model::Home;
 use std::alloc::Global;
 
 /// An identifier with its place.
-pub fn name_of(alloc: Global, datum: &Datum, start: Start) -> Result<SetName, ShapeFault>
-    ensures { Reads named result (name_of (tree_at (place start) datum.now)) }
+pub fn name_of(alloc: Global, datum: &Datum, home: Home) -> Result<SetName, ShapeFault>
+    ensures { Reads named result (name_of (tree_at (place home) datum.now)) }
 {
     match look_at(datum) {
         Look::Name(symbol) => {
             let name = Text::of(alloc, symbol)?;
-            let occ = Some(place(start, datum.first));
+            let occ = Some(place(home, datum.first));
             Ok(SetName { name, occ })
         }
         Look::Implied(symbol) => {
@@ -37,12 +38,12 @@ pub fn name_of(alloc: Global, datum: &Datum, start: Start) -> Result<SetName, Sh
 }
 
 /// Identifiers in a row.
-fn names_of(alloc: Global, parts: &[Datum], start: Start) -> Result<Items<SetName>, ShapeFault>
-    ensures { Reads (λ ns. map named ns) result (names_of (trees_at (place start) parts.now)) }
+fn names_of(alloc: Global, parts: &[Datum], home: Home) -> Result<Items<SetName>, ShapeFault>
+    ensures { Reads (λ ns. map named ns) result (names_of (trees_at (place home) parts.now)) }
 {
     let mut names = Items::new(alloc);
     for datum in parts {
-        let name = name_of(alloc, datum, start)?;
+        let name = name_of(alloc, datum, home)?;
         names.push(name)?;
     }
     Ok(names)
@@ -53,15 +54,15 @@ pub fn names_in(
     alloc: Global,
     parts: &[Datum],
     dotted: bool,
-    start: Start,
+    home: Home,
 ) -> Result<Items<SetName>, ShapeFault>
     ensures { (end : Tail (List ℕ)) → is_dotted end ≡ dotted →
-        Reads (λ ns. map named ns) result (names_in (trees_at (place start) parts.now) end) }
+        Reads (λ ns. map named ns) result (names_in (trees_at (place home) parts.now) end) }
 {
     if dotted {
         return Err(ShapeFault::BadForm);
     }
-    Ok(names_of(alloc, parts, start)?)
+    Ok(names_of(alloc, parts, home)?)
 }
 
 /// The identifier that stands alone in a list that may not be dotted.
@@ -69,10 +70,10 @@ pub fn only_name(
     alloc: Global,
     parts: &[Datum],
     dotted: bool,
-    start: Start,
+    home: Home,
 ) -> Result<SetName, ShapeFault>
     ensures { (end : Tail (List ℕ)) → is_dotted end ≡ dotted →
-        Reads named result (only_name (trees_at (place start) parts.now) end) }
+        Reads named result (only_name (trees_at (place home) parts.now) end) }
 {
     if dotted {
         return Err(ShapeFault::BadForm);
@@ -83,17 +84,17 @@ pub fn only_name(
             if !rest.is_empty() {
                 return Err(ShapeFault::BadForm);
             }
-            Ok(name_of(alloc, first, start)?)
+            Ok(name_of(alloc, first, home)?)
         }
     }
 }
 
 /// A list of two identifiers.
-fn pair_of(alloc: Global, datum: &Datum, start: Start) -> Result<NamePair, ShapeFault>
-    ensures { Reads paired result (pair_of (tree_at (place start) datum.now)) }
+fn pair_of(alloc: Global, datum: &Datum, home: Home) -> Result<NamePair, ShapeFault>
+    ensures { Reads paired result (pair_of (tree_at (place home) datum.now)) }
 {
     match look_at(datum) {
-        Look::List(parts, dotted) => pair_in(alloc, parts, dotted, start),
+        Look::List(parts, dotted) => pair_in(alloc, parts, dotted, home),
         Look::Name(_) => Err(ShapeFault::BadForm),
         Look::Implied(_) => Err(ShapeFault::BadForm),
         Look::Numeral(_) => Err(ShapeFault::BadForm),
@@ -102,32 +103,27 @@ fn pair_of(alloc: Global, datum: &Datum, start: Start) -> Result<NamePair, Shape
 }
 
 /// The two identifiers of a list.
-fn pair_in(
-    alloc: Global,
-    parts: &[Datum],
-    dotted: bool,
-    start: Start,
-) -> Result<NamePair, ShapeFault>
+fn pair_in(alloc: Global, parts: &[Datum], dotted: bool, home: Home) -> Result<NamePair, ShapeFault>
     ensures { (end : Tail (List ℕ)) → is_dotted end ≡ dotted →
-        Reads paired result (pair_in (trees_at (place start) parts.now) end) }
+        Reads paired result (pair_in (trees_at (place home) parts.now) end) }
 {
     match row_of(parts) {
         Row::Empty => Err(ShapeFault::BadForm),
         Row::Parts(first, rest) => {
-            let from = name_of(alloc, first, start)?;
-            let to = only_name(alloc, rest, dotted, start)?;
+            let from = name_of(alloc, first, home)?;
+            let to = only_name(alloc, rest, dotted, home)?;
             Ok(NamePair { from, to })
         }
     }
 }
 
 /// Pairs of identifiers in a row.
-fn pairs_of(alloc: Global, parts: &[Datum], start: Start) -> Result<Items<NamePair>, ShapeFault>
-    ensures { Reads (λ ps. map paired ps) result (pairs_of (trees_at (place start) parts.now)) }
+fn pairs_of(alloc: Global, parts: &[Datum], home: Home) -> Result<Items<NamePair>, ShapeFault>
+    ensures { Reads (λ ps. map paired ps) result (pairs_of (trees_at (place home) parts.now)) }
 {
     let mut pairs = Items::new(alloc);
     for datum in parts {
-        let pair = pair_of(alloc, datum, start)?;
+        let pair = pair_of(alloc, datum, home)?;
         pairs.push(pair)?;
     }
     Ok(pairs)
@@ -138,13 +134,13 @@ pub fn pairs_in(
     alloc: Global,
     parts: &[Datum],
     dotted: bool,
-    start: Start,
+    home: Home,
 ) -> Result<Items<NamePair>, ShapeFault>
     ensures { (end : Tail (List ℕ)) → is_dotted end ≡ dotted →
-        Reads (λ ps. map paired ps) result (pairs_in (trees_at (place start) parts.now) end) }
+        Reads (λ ps. map paired ps) result (pairs_in (trees_at (place home) parts.now) end) }
 {
     if dotted {
         return Err(ShapeFault::BadForm);
     }
-    Ok(pairs_of(alloc, parts, start)?)
+    Ok(pairs_of(alloc, parts, home)?)
 }

@@ -14,16 +14,16 @@ use crate::sets::spec_of;
 use crate::units::{ImportSpec, UnitForm};
 use datum_reader::Datum;
 use datum_reader::heads::behind_first;
-use datum_reader::start::Start;
 use ls_base::{Items, Mem, Memory};
+use scheme_model::Home;
 use std::alloc::Global;
 
 /// Adds the import sets of a form.
-fn add_specs(alloc: Global, specs: &mut Items<ImportSpec>, parts: &[Datum], start: Start) -> Mem<()>
-    ensures { OnOk result (AddsSpecs specs.old specs.new (map (spec_of start.unit start.form start.first) (data_of parts.now))) }
+fn add_specs(alloc: Global, specs: &mut Items<ImportSpec>, parts: &[Datum], home: Home) -> Mem<()>
+    ensures { OnOk result (AddsSpecs specs.old specs.new (map (spec_of home.unit home.form home.first) (data_of parts.now))) }
 {
     for datum in parts {
-        let spec = spec_of(alloc, datum, start)?;
+        let spec = spec_of(alloc, datum, home)?;
         specs.push(spec)?;
     }
     Ok(())
@@ -42,12 +42,8 @@ fn add_imports(
     if !is_import(form) {
         return Ok(());
     }
-    let start = Start {
-        unit,
-        form: number,
-        first: form.datum.first,
-    };
-    Ok(add_specs(alloc, specs, behind_first(&form.datum), start)?)
+    let home = form.home_in(unit, number);
+    Ok(add_specs(alloc, specs, behind_first(&form.datum), home)?)
 }
 
 /// A form's number. Memory for more than 2^32 forms isn't there.

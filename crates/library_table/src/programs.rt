@@ -1,5 +1,5 @@
 //! The program of a document (R7RS 5.1): all that is no library.
-ghost use Rattle.std.specs.Prelude.{◌≡◌, ◌++◌, ◌∷◌, [], filter, List, IfOk, OnOk, Ok};
+ghost use Rattle.std.specs.Prelude.{◌≡◌, ◌++◌, ◌∷◌, [], filter, List, IfOk, None, OnOk, Ok};
 ghost use Rattle.scheme_model.specs.Data.{Datum as ModelDatum};
 ghost use Rattle.scheme_model.specs.Declarations.{is_proper, program_forms};
 ghost use Rattle.datum_reader.specs.Views.{datum_of, data_of};
@@ -23,12 +23,16 @@ fn is_import(datum: &Datum) -> bool
     is_headed("import", datum) && is_proper(datum)
 }
 
-/// Adds a form.
+/// Adds a form of the unit's own text.
 pub fn push_form(alloc: Global, forms: &mut Vec<UnitForm>, datum: &Datum, declared: bool) -> Mem<()>
-    ensures { OnOk result (forms_of forms.new.items ≡ forms_of forms.old.items ++ record { datum = datum_of datum.now; declared = declared } ∷ []) }
+    ensures { OnOk result (forms_of forms.new.items ≡ forms_of forms.old.items ++ record { datum = datum_of datum.now; declared = declared; home = None } ∷ []) }
 {
     let datum = datum.copy(alloc)?;
-    forms.push(UnitForm { datum, declared })?;
+    forms.push(UnitForm {
+        datum,
+        declared,
+        home: None,
+    })?;
     Ok(())
 }
 

@@ -20,9 +20,9 @@ use datum_reader::Datum;
 use datum_reader::heads::{is_list, second_or_itself};
 use datum_reader::look::{Look, Row, look_at, row_of, symbol_in};
 use datum_reader::shape_fault::ShapeFault;
-use datum_reader::start::Start;
 use import_sets::ImportSet;
 use ls_base::{Mem, Memory, Span};
+use scheme_model::Home;
 use std::alloc::Global;
 
 /// The words that make a list with a list as its second part a modifier.
@@ -113,29 +113,29 @@ fn modified_set(
     set: ImportSet,
     rest: &[Datum],
     dotted: bool,
-    start: Start,
+    home: Home,
 ) -> Result<ImportSet, ShapeFault>
     ensures { (inner : ModelSet) (end : Tail (List ℕ)) → IsSetText set inner → is_dotted end ≡ dotted →
-        IsSetMade result (modified_set (modifier_as modifier) inner (trees_at (place start) rest.now) end) }
+        IsSetMade result (modified_set (modifier_as modifier) inner (trees_at (place home) rest.now) end) }
 {
     match modifier {
         Modifier::Only => {
-            let names = names_in(alloc, rest, dotted, start)?;
+            let names = names_in(alloc, rest, dotted, home)?;
             let set = Box::new(alloc, set)?;
             Ok(ImportSet::Only { set, names })
         }
         Modifier::Except => {
-            let names = names_in(alloc, rest, dotted, start)?;
+            let names = names_in(alloc, rest, dotted, home)?;
             let set = Box::new(alloc, set)?;
             Ok(ImportSet::Except { set, names })
         }
         Modifier::Prefix => {
-            let prefix = only_name(alloc, rest, dotted, start)?.name;
+            let prefix = only_name(alloc, rest, dotted, home)?.name;
             let set = Box::new(alloc, set)?;
             Ok(ImportSet::Prefix { set, prefix })
         }
         Modifier::Rename => {
-            let pairs = pairs_in(alloc, rest, dotted, start)?;
+            let pairs = pairs_in(alloc, rest, dotted, home)?;
             let set = Box::new(alloc, set)?;
             Ok(ImportSet::Rename { set, pairs })
         }
@@ -166,11 +166,11 @@ fn library_set(alloc: Global, datum: &Datum) -> Mem<ImportSet>
 
 /// An import set.
 #[cycle(sets)]
-fn set_of(alloc: Global, datum: &Datum, start: Start) -> Mem<ImportSet>
-    ensures { IfOk result (λ set. IsSetText set (set_of (tree_at (place start) datum.now))) }
+fn set_of(alloc: Global, datum: &Datum, home: Home) -> Mem<ImportSet>
+    ensures { IfOk result (λ set. IsSetText set (set_of (tree_at (place home) datum.now))) }
 {
     match look_at(datum) {
-        Look::List(parts, dotted) => set_of_list(alloc, datum, parts, dotted, start),
+        Look::List(parts, dotted) => set_of_list(alloc, datum, parts, dotted, home),
         Look::Name(_) => Ok(ImportSet::Bad),
         Look::Implied(_) => Ok(ImportSet::Bad),
         Look::Numeral(_) => Ok(ImportSet::Bad),
@@ -185,16 +185,16 @@ fn set_of_list(
     datum: &Datum,
     parts: &[Datum],
     dotted: bool,
-    start: Start,
+    home: Home,
 ) -> Mem<ImportSet>
     requires { IsListOf parts.now dotted (datum_of datum.now) }
-    ensures { IfOk result (λ set. IsSetText set (set_of (tree_at (place start) datum.now))) }
+    ensures { IfOk result (λ set. IsSetText set (set_of (tree_at (place home) datum.now))) }
 {
     match modified_in(parts) {
         None => library_set(alloc, datum),
         Some(found) => {
-            let inner = set_of(alloc, found.inner, start)?;
-            or_bad(modified_set(alloc, found.modifier, inner, found.rest, dotted, start))
+            let inner = set_of(alloc, found.inner, home)?;
+            or_bad(modified_set(alloc, found.modifier, inner, found.rest, dotted, home))
         }
     }
 }
@@ -228,13 +228,14 @@ fn inner_span(set: &ImportSet, datum: &Datum) -> Span
 }
 
 /// An import set of a form, with its places in the text.
-pub fn spec_of(alloc: Global, datum: &Datum, start: Start) -> Mem<ImportSpec>
-    ensures { IfOk result (λ spec. IsImportSpec spec (spec_of start.unit start.form start.first (datum_of datum.now))) }
+pub fn spec_of(alloc: Global, datum: &Datum, home: Home) -> Mem<ImportSpec>
+    ensures { IfOk result (λ spec. IsImportSpec spec (spec_of home.unit home.form home.first (datum_of datum.now))) }
 {
-    let set = set_of(alloc, datum, start)?;
+    let set = set_of(alloc, datum, home)?;
     let inner = inner_span(&set, datum);
     let library = library_span(&set, datum);
     Ok(ImportSpec {
+        unit: home.unit,
         set,
         span: datum.span,
         inner,

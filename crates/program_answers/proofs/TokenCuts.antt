@@ -134,7 +134,7 @@ document_cut (d ∷ ds) (r ∷ rs) are (suc m) n utf8 = document_cut ds rs are.1
 pub occ_cut : (ds : List (List ℕ × Document)) (rs : List Read) → AreReadAs ds rs → (us : List UnitResult) (o : Occ) (b : Bytes) → b ≡ bytes_of (spans_of rs) us o → IsUtf8 (text_of ds b.document) → CanCut (text_of ds b.document) b.span
 occ_cut ds rs are us o b is utf8 = go (result_at us o.unit) is
   where
-    go : (r : Option UnitResult) → b ≡ in_unit (spans_of rs) r o → CanCut (text_of ds b.document) b.span
+    go : (r : Option UnitResult) → b ≡ in_unit (spans_of rs) us r o → CanCut (text_of ds b.document) b.span
     go None e = subst (λ (s : Span). CanCut (text_of ds b.document) s) (sym (ap (λ (x : Bytes). x.span) e)) (nothing_cut (text_of ds b.document) utf8)
     go (Some r) e =
         subst (λ (s : Span). CanCut (text_of ds b.document) s)

@@ -1,7 +1,7 @@
 -- The heads of units that were listed are those of the program's units.
 use Rattle.std.proofs.Common.{◌≡◌, ℕ, suc, ◌+◌, List, [], ◌∷◌, map, length, slice_get, Some, refl, sym, ap, ◌∙◌, subst, arith}
 use Rattle.scheme_model.specs.Data.{place_of}
-use Rattle.scheme_model.specs.Declarations.{UnitForm}
+use Rattle.scheme_model.specs.Declarations.{UnitForm, unit_or}
 use Rattle.scheme_model.specs.Diagnostics.{unit_start}
 use Rattle.scheme_model.specs.Program.{Placed, Prepared, UnitResult, known_in, units_of}
 use Rattle.scheme_model.specs.ScopedProgram.{scoped_program_of}
@@ -41,6 +41,7 @@ module _ (ds : List (List ℕ × Document)) (rs : List Read) (read : AreReadAs d
         document = t.document ∙ ap (λ (q : Prepared). q.placed.document) (sym p.1.1);
         span = ap span_seen t.span ∙ (unit_starts ds rs read n p.0 p.1.0 ∙ ap (λ (q : Prepared). (unit_start (spans_of rs) q).span) (sym p.1.1));
         firsts = t.firsts ∙ ap (λ (q : Prepared). map (λ (f : UnitForm). (place_of f.datum).first) q.forms) (sym p.1.1);
+        homes = t.homes ∙ ap (λ (q : Prepared). map (λ (f : UnitForm). unit_or n f.home) q.forms) (sym p.1.1);
         names = t.names ∙ ap (λ (q : Prepared). names_in_forms q.number 0 q.forms) (sym p.1.1);
       }
 

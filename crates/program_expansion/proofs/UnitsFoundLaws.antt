@@ -8,7 +8,8 @@ use Rattle.scheme_model.specs.Order.{is_some}
 use Rattle.scheme_model.specs.UnitExpansion.{Formed}
 use Rattle.scheme_model.specs.Program.{Prepared, Program, SetResult, ExportFault, UnitResult, WholeFault, result_at, names_of_unit, export_all, unit_result, with_refused}
 use Rattle.scheme_model.specs.ScopedProgram.{ScopedProgress}
-use Rattle.scheme_model.specs.Diagnostics.{Diagnostic, bytes_of, export_diagnostics, form_diagnostics, hiding_diagnostics, is_empty, set_diagnostics, unbound_diagnostics, unit_diagnostics}
+use Rattle.scheme_model.specs.Declarations.{forms_hold}
+use Rattle.scheme_model.specs.Diagnostics.{Diagnostic, document_of, bytes_of, export_diagnostics, form_diagnostics, hiding_diagnostics, is_empty, set_diagnostics, unbound_diagnostics, unit_diagnostics}
 use Rattle.core_tree.specs.Units.{defined_by, export_errors, form_errors, set_errors, set_forms}
 use Rattle.unit_scopes.specs.Others.{InFront}
 use Rattle.unit_imports.specs.declared.expanded.Expanded.{Expanded}
@@ -39,7 +40,7 @@ adds_nothing a = record { told = sym (append-nil (all_told a)); errors = sym (ap
 
 module _ (rs : List Read) (us : List UnitResult) (q : Program) (p : Prepared) (imports : List Entry × List SetResult) (fs : List Formed) where
   abbrev sets : List Diagnostic
-  sets = set_diagnostics (bytes_of (spans_of rs) us) p.placed.document p.specs imports.1
+  sets = set_diagnostics (bytes_of (spans_of rs) us) (document_of us) p.specs imports.1
 
   abbrev faults : List ExportFault
   faults = (export_all (names_of_unit q.table p.number imports.0) [] p.exports).faults
@@ -50,12 +51,12 @@ module _ (rs : List Read) (us : List UnitResult) (q : Program) (p : Prepared) (i
 
   -- sets, exports, forms, definitions that hide, unbound names, no import
   pub all_found : (f0 f1 f2 f3 f4 f5 : List Finding) (good : Bool) → AreSetsFound rs us p imports.1 f0 → Adds f0 f1 (export_diagnostics (bytes_of (spans_of rs) us) p.number faults) (export_errors faults) →
-      Adds f1 f2 (form_diagnostics (bytes_of (spans_of rs) us) p.number forms) (form_errors forms) → Adds f2 f3 (hiding_diagnostics (bytes_of (spans_of rs) us) p.number forms imports.0 q.table) [] → good ≡ is_empty (all_told f0) →
+      Adds f1 f2 (form_diagnostics (bytes_of (spans_of rs) us) (forms_hold p.number p.forms) p.number forms) (form_errors forms) → Adds f2 f3 (hiding_diagnostics (bytes_of (spans_of rs) us) p.number forms imports.0 q.table) [] → good ≡ is_empty (all_told f0) →
       Adds f3 f4 (cond good (unbound_diagnostics (bytes_of (spans_of rs) us) (unit_leaves forms)) []) [] → Adds f4 f5 (no_import_diagnostics (spans_of rs) p) [] → IsFoundOf rs (in_the_end us q) (unit_result p imports q.table (Some fs)) f5
   all_found f0 f1 f2 f3 f4 f5 good a b c d same e f =
       let bytes = bytes_of (spans_of rs) us in
       let ex = export_diagnostics bytes p.number faults in
-      let fo = form_diagnostics bytes p.number forms in
+      let fo = form_diagnostics bytes (forms_hold p.number p.forms) p.number forms in
       let hi = hiding_diagnostics bytes p.number forms imports.0 q.table in
       let un = cond good (unbound_diagnostics bytes (unit_leaves forms)) [] in
       let no = no_import_diagnostics (spans_of rs) p in
@@ -79,8 +80,8 @@ module _ (rs : List Read) (us : List UnitResult) (a b : Program) (r : UnitResult
   same_by : (f : Option WholeFault) → unit_diagnostics (spans_of rs) (in_the_end us a) r f ≡ unit_diagnostics (spans_of rs) (in_the_end us b) r f
   same_by None =
       let bytes = bytes_of (spans_of rs) us in
-      let sets = set_diagnostics bytes r.unit.placed.document r.unit.specs r.sets in
-      ap (λ hi. sets ++ export_diagnostics bytes r.unit.number r.export_faults ++ form_diagnostics bytes r.unit.number r.forms ++ hi ++ cond (is_empty sets) (unbound_diagnostics bytes (unit_leaves r.forms)) [] ++ no_import_diagnostics (spans_of rs) r.unit)
+      let sets = set_diagnostics bytes (document_of us) r.unit.specs r.sets in
+      ap (λ hi. sets ++ export_diagnostics bytes r.unit.number r.export_faults ++ form_diagnostics bytes (forms_hold r.unit.number r.unit.forms) r.unit.number r.forms ++ hi ++ cond (is_empty sets) (unbound_diagnostics bytes (unit_leaves r.forms)) [] ++ no_import_diagnostics (spans_of rs) r.unit)
       (sym (hiding_same bytes r.unit.number r.forms r.entries a.table b.table h))
   same_by (Some f) = refl
 

@@ -3,7 +3,7 @@ use Rattle.std.specs.Prelude.{◌≡◌, ℕ, List, [], ◌∷◌, length, slice
 use Rattle.std.specs.List.{zip}
 use Rattle.scheme_model.specs.Program.{Placed, Prepared, prepared, imports_nothing, SetResult, UnitResult, Program, WholeFault, result_at}
 use Rattle.scheme_model.specs.ScopedProgram.{ScopedProgress}
-use Rattle.scheme_model.specs.Diagnostics.{Span, Diagnostic, at_bytes, bytes_of, set_diagnostics, unit_start}
+use Rattle.scheme_model.specs.Diagnostics.{Span, Diagnostic, document_of, at_bytes, bytes_of, set_diagnostics, unit_start}
 use Rattle.core_tree.specs.Units.{set_errors, set_forms}
 use Rattle.unit_imports.specs.declared.expanded.Expanded.{Expanded}
 use Rattle.document_units.specs.declared.findings.Finding.{Finding}
@@ -23,7 +23,7 @@ in_the_end us p = record { units = us; table = p.table; entry = p.entry }
 
 -- what is found of a unit's import sets, which came to this
 abbrev pub AreSetsFound : List Read → List UnitResult → Prepared → List SetResult → List Finding → Type 0
-AreSetsFound rs us p sets fs = Adds [] fs (set_diagnostics (bytes_of (spans_of rs) us) p.placed.document p.specs sets) (set_errors (zip (set_forms p.number 0 p.forms) sets))
+AreSetsFound rs us p sets fs = Adds [] fs (set_diagnostics (bytes_of (spans_of rs) us) (document_of us) p.specs sets) (set_errors (zip (set_forms p.number 0 p.forms) sets))
 
 -- a program without an import is told
 abbrev pub no_import_diagnostics : List (List Span) → Prepared → List Diagnostic

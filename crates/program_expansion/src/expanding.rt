@@ -162,7 +162,7 @@ fn expand_at<L: Ledger>(
     let expanded = all.as_slice();
     let libraries = Libraries { firsts, expanded };
     let source = &units.sources[unit];
-    let given = given_to(alloc, &mut bench.work, places, libraries, place, source)?;
+    let given = given_to(alloc, &mut bench.work, places, libraries, source)?;
     bench.work.symbols.told_apart();
     let came = expand_unit(alloc, bench, places, libraries, place, source, given, steps)?;
     break_if(&mut units.heads[unit], came.is_none(), WholeFault::TooLarge);
@@ -310,7 +310,15 @@ fn finished(
     let seconds = seconds_in(alloc, source.imports.as_slice())?;
     let symbols = &work.symbols;
     let exports = exports_given(alloc, places, unit, source, names.as_slice(), &mut findings)?;
-    add_faults(alloc, symbols, places, unit, slice, &mut findings)?;
+    add_faults(
+        alloc,
+        symbols,
+        places,
+        unit,
+        source.forms.as_slice(),
+        slice,
+        &mut findings,
+    )?;
     add_hiding(
         alloc,
         symbols,

@@ -1,104 +1,122 @@
 -- What is found of a unit that is broken as a whole tells the definition's diagnostic.
 use Rattle.std.proofs.Common.{◌≡◌, ℕ, List, [], ◌∷◌, map, Bool, true, cond, Option, Some, refl, sym, ap, ◌∙◌, subst}
 use Rattle.scheme_model.specs.Program as model
-use Rattle.scheme_model.specs.Program.{Prepared, whole_code}
-use Rattle.scheme_model.specs.Diagnostics.{Span, Bytes, Diagnostic, at_bytes, unit_diagnostics, unit_start, whole_fault}
+use Rattle.scheme_model.specs.Program.{Prepared, whole_code, result_at}
+use Rattle.scheme_model.specs.Diagnostics.{Span, Bytes, Diagnostic, document_of, at_bytes, unit_diagnostics, unit_start, whole_fault}
 use Rattle.core_tree.specs.Units.{unit_errors}
 use Rattle.document_units.specs.declared.listing.WholeFault.{WholeFault}
 use Rattle.document_units.specs.declared.listing.WholeFault.TheVariants as code
 use Rattle.document_units.specs.declared.findings.At.{At}
 use Rattle.document_units.specs.declared.findings.Finding.{Finding}
 use Rattle.document_units.specs.Broken.{told as told_of}
-use Rattle.document_units.specs.Places.{bytes_at, spans_of}
+use Rattle.document_units.specs.Places.{bytes_at, spans_of, start_of}
+use Rattle.document_units.proofs.PlaceLaws.{start_document}
 use Rattle.document_units.specs.Readings.{Read}
 use Rattle.document_units.specs.UnitFindings.{IsFoundOf}
 use Rattle.scheme_model.specs.DiagnosticTexts.{worded}
 use Rattle.document_units.specs.Findings.{diagnostic, told, all_told, is_error, errors_in, Adds}
-use Rattle.document_units.specs.Diagnosed.{IsWhole, whole_at, whole_number}
+use Rattle.document_units.specs.Diagnosed.{IsWhole, text_unit, whole_at, whole_number}
 
-module _ (spans : List (List Span)) (p : Prepared) (start : At) (e : bytes_at start ≡ unit_start spans p) where
-  whole_told : (fault : WholeFault) (f : model.WholeFault) → IsWhole fault f → diagnostic (whole_at start fault) (whole_number fault) (worded (whole_number fault) []) ≡ whole_fault spans p f
-  whole_told code.TooMany model.TooMany h = ap (λ b. at_bytes b 67 []) e
-  whole_told (code.BadDeclaration s) (model.BadDeclaration d) h = λ i. record { document = (e i).document; start = h.0 i; end = h.1 i; code = 61; text = worded 61 [] }
-  whole_told code.DefinedTwice model.DefinedTwice h = ap (λ b. at_bytes b 63 []) e
-  whole_told code.ImportCycle model.ImportCycle h = ap (λ b. at_bytes b 62 []) e
-  whole_told code.TooLarge model.TooLarge h = ap (λ b. at_bytes b 66 []) e
-  whole_told code.TooMany (model.BadDeclaration d) h = absurd h
-  whole_told code.TooMany model.DefinedTwice h = absurd h
-  whole_told code.TooMany model.ImportCycle h = absurd h
-  whole_told code.TooMany model.TooLarge h = absurd h
-  whole_told (code.BadDeclaration s) model.TooMany h = absurd h
-  whole_told (code.BadDeclaration s) model.DefinedTwice h = absurd h
-  whole_told (code.BadDeclaration s) model.ImportCycle h = absurd h
-  whole_told (code.BadDeclaration s) model.TooLarge h = absurd h
-  whole_told code.DefinedTwice model.TooMany h = absurd h
-  whole_told code.DefinedTwice (model.BadDeclaration d) h = absurd h
-  whole_told code.DefinedTwice model.ImportCycle h = absurd h
-  whole_told code.DefinedTwice model.TooLarge h = absurd h
-  whole_told code.ImportCycle model.TooMany h = absurd h
-  whole_told code.ImportCycle (model.BadDeclaration d) h = absurd h
-  whole_told code.ImportCycle model.DefinedTwice h = absurd h
-  whole_told code.ImportCycle model.TooLarge h = absurd h
-  whole_told code.TooLarge model.TooMany h = absurd h
-  whole_told code.TooLarge (model.BadDeclaration d) h = absurd h
-  whole_told code.TooLarge model.DefinedTwice h = absurd h
-  whole_told code.TooLarge model.ImportCycle h = absurd h
+-- a place tells of a fault's unit: it is the start of that unit, or in its document
+abbrev pub TellsUnit : List (List Span) → (document : ℕ → ℕ) → Prepared → At → WholeFault → Type 0
+TellsUnit spans document p start code.TooMany = bytes_at start ≡ unit_start spans p
+TellsUnit spans document p start (code.BadDeclaration unit s) = start.document ≡ document unit
+TellsUnit spans document p start code.DefinedTwice = bytes_at start ≡ unit_start spans p
+TellsUnit spans document p start code.ImportCycle = bytes_at start ≡ unit_start spans p
+TellsUnit spans document p start code.TooLarge = bytes_at start ≡ unit_start spans p
+
+module _ (spans : List (List Span)) (document : ℕ → ℕ) (p : Prepared) (start : At) where
+  whole_told : (fault : WholeFault) (f : model.WholeFault) → IsWhole fault f → TellsUnit spans document p start fault → diagnostic (whole_at start fault) (whole_number fault) (worded (whole_number fault) []) ≡ whole_fault spans document p f
+  whole_told code.TooMany model.TooMany h e = ap (λ b. at_bytes b 67 []) e
+  whole_told (code.BadDeclaration unit s) (model.BadDeclaration n d) h e = λ i. record { document = (e ∙ ap document h.0) i; start = h.1 i; end = h.2 i; code = 61; text = worded 61 [] }
+  whole_told code.DefinedTwice model.DefinedTwice h e = ap (λ b. at_bytes b 63 []) e
+  whole_told code.ImportCycle model.ImportCycle h e = ap (λ b. at_bytes b 62 []) e
+  whole_told code.TooLarge model.TooLarge h e = ap (λ b. at_bytes b 66 []) e
+  whole_told code.TooMany (model.BadDeclaration n d) h e = absurd h
+  whole_told code.TooMany model.DefinedTwice h e = absurd h
+  whole_told code.TooMany model.ImportCycle h e = absurd h
+  whole_told code.TooMany model.TooLarge h e = absurd h
+  whole_told (code.BadDeclaration unit s) model.TooMany h e = absurd h
+  whole_told (code.BadDeclaration unit s) model.DefinedTwice h e = absurd h
+  whole_told (code.BadDeclaration unit s) model.ImportCycle h e = absurd h
+  whole_told (code.BadDeclaration unit s) model.TooLarge h e = absurd h
+  whole_told code.DefinedTwice model.TooMany h e = absurd h
+  whole_told code.DefinedTwice (model.BadDeclaration n d) h e = absurd h
+  whole_told code.DefinedTwice model.ImportCycle h e = absurd h
+  whole_told code.DefinedTwice model.TooLarge h e = absurd h
+  whole_told code.ImportCycle model.TooMany h e = absurd h
+  whole_told code.ImportCycle (model.BadDeclaration n d) h e = absurd h
+  whole_told code.ImportCycle model.DefinedTwice h e = absurd h
+  whole_told code.ImportCycle model.TooLarge h e = absurd h
+  whole_told code.TooLarge model.TooMany h e = absurd h
+  whole_told code.TooLarge (model.BadDeclaration n d) h e = absurd h
+  whole_told code.TooLarge model.DefinedTwice h e = absurd h
+  whole_told code.TooLarge model.ImportCycle h e = absurd h
 
 same_number : (fault : WholeFault) (f : model.WholeFault) → IsWhole fault f → whole_number fault ≡ whole_code f
 same_number code.TooMany model.TooMany h = refl
-same_number code.TooMany (model.BadDeclaration d) h = absurd h
+same_number code.TooMany (model.BadDeclaration n d) h = absurd h
 same_number code.TooMany model.DefinedTwice h = absurd h
 same_number code.TooMany model.ImportCycle h = absurd h
 same_number code.TooMany model.TooLarge h = absurd h
-same_number (code.BadDeclaration s) model.TooMany h = absurd h
-same_number (code.BadDeclaration s) (model.BadDeclaration d) h = refl
-same_number (code.BadDeclaration s) model.DefinedTwice h = absurd h
-same_number (code.BadDeclaration s) model.ImportCycle h = absurd h
-same_number (code.BadDeclaration s) model.TooLarge h = absurd h
+same_number (code.BadDeclaration unit s) model.TooMany h = absurd h
+same_number (code.BadDeclaration unit s) (model.BadDeclaration n d) h = refl
+same_number (code.BadDeclaration unit s) model.DefinedTwice h = absurd h
+same_number (code.BadDeclaration unit s) model.ImportCycle h = absurd h
+same_number (code.BadDeclaration unit s) model.TooLarge h = absurd h
 same_number code.DefinedTwice model.TooMany h = absurd h
-same_number code.DefinedTwice (model.BadDeclaration d) h = absurd h
+same_number code.DefinedTwice (model.BadDeclaration n d) h = absurd h
 same_number code.DefinedTwice model.DefinedTwice h = refl
 same_number code.DefinedTwice model.ImportCycle h = absurd h
 same_number code.DefinedTwice model.TooLarge h = absurd h
 same_number code.ImportCycle model.TooMany h = absurd h
-same_number code.ImportCycle (model.BadDeclaration d) h = absurd h
+same_number code.ImportCycle (model.BadDeclaration n d) h = absurd h
 same_number code.ImportCycle model.DefinedTwice h = absurd h
 same_number code.ImportCycle model.ImportCycle h = refl
 same_number code.ImportCycle model.TooLarge h = absurd h
 same_number code.TooLarge model.TooMany h = absurd h
-same_number code.TooLarge (model.BadDeclaration d) h = absurd h
+same_number code.TooLarge (model.BadDeclaration n d) h = absurd h
 same_number code.TooLarge model.DefinedTwice h = absurd h
 same_number code.TooLarge model.ImportCycle h = absurd h
 same_number code.TooLarge model.TooLarge h = refl
 
 whole_is_error : (fault : WholeFault) → is_error (whole_number fault) ≡ true
 whole_is_error code.TooMany = refl
-whole_is_error (code.BadDeclaration s) = refl
+whole_is_error (code.BadDeclaration unit s) = refl
 whole_is_error code.DefinedTwice = refl
 whole_is_error code.ImportCycle = refl
 whole_is_error code.TooLarge = refl
 
-pub whole_adds : (spans : List (List Span)) (p : Prepared) (start : At) (fault : WholeFault) (f : model.WholeFault) → bytes_at start ≡ unit_start spans p → IsWhole fault f → (found : Finding) →
-    found ≡ record { at = Some (whole_at start fault); form = 0; code = whole_number fault; message = worded (whole_number fault) [] } → Adds [] (found ∷ []) (whole_fault spans p f ∷ []) ((whole_code f, 0) ∷ [])
-whole_adds spans p start fault f e is found same = record {
-  told = ap (λ (g : Finding). all_told (g ∷ [])) same ∙ ap (λ (d : Diagnostic). d ∷ []) (whole_told spans p start e fault f is);
+pub whole_adds : (spans : List (List Span)) (document : ℕ → ℕ) (p : Prepared) (start : At) (fault : WholeFault) (f : model.WholeFault) → TellsUnit spans document p start fault → IsWhole fault f → (found : Finding) →
+    found ≡ record { at = Some (whole_at start fault); form = 0; code = whole_number fault; message = worded (whole_number fault) [] } → Adds [] (found ∷ []) (whole_fault spans document p f ∷ []) ((whole_code f, 0) ∷ [])
+whole_adds spans document p start fault f e is found same = record {
+  told = ap (λ (g : Finding). all_told (g ∷ [])) same ∙ ap (λ (d : Diagnostic). d ∷ []) (whole_told spans document p start fault f is e);
   errors = ap (λ (g : Finding). errors_in (g ∷ [])) same ∙ ap (λ b. map (λ (g : Finding). (g.code, g.form)) (cond b (found_as ∷ []) [])) (whole_is_error fault) ∙ ap (λ n. (n, 0) ∷ []) (same_number fault f is);
 }
   where
     found_as : Finding
     found_as = record { at = Some (whole_at start fault); form = 0; code = whole_number fault; message = worded (whole_number fault) [] }
 
+-- the start of the unit of a fault's text tells of it
+pub start_tells : (spans : List (List Span)) (us : List model.UnitResult) (r : model.UnitResult) (unit : ℕ) (start : At) (fault : WholeFault) → result_at us unit ≡ Some r →
+    bytes_at start ≡ start_of spans (result_at us (text_unit unit fault)) → TellsUnit spans (document_of us) r.unit start fault
+start_tells spans us r unit start code.TooMany at e = e ∙ ap (start_of spans) at
+start_tells spans us r unit start (code.BadDeclaration n s) at e = ap (λ (b : Bytes). b.document) e ∙ start_document spans (result_at us n)
+start_tells spans us r unit start code.DefinedTwice at e = e ∙ ap (start_of spans) at
+start_tells spans us r unit start code.ImportCycle at e = e ∙ ap (start_of spans) at
+start_tells spans us r unit start code.TooLarge at e = e ∙ ap (start_of spans) at
+
 -- ---- broken units of a program
 
 -- a fault is told as it is
 pub whole_of : (f : model.WholeFault) → IsWhole (told_of f) f
 whole_of model.TooMany = tt
-whole_of (model.BadDeclaration d) = (refl, refl)
+whole_of (model.BadDeclaration n d) = (refl, refl, refl)
 whole_of model.DefinedTwice = tt
 whole_of model.ImportCycle = tt
 whole_of model.TooLarge = tt
 
-pub whole_found : (rs : List Read) (p : model.Program) (r : model.UnitResult) (f : model.WholeFault) (fs : List Finding) → r.fault ≡ Some f → Adds [] fs (whole_fault (spans_of rs) r.unit f ∷ []) ((whole_code f, 0) ∷ []) → IsFoundOf rs p r fs
+pub whole_found : (rs : List Read) (p : model.Program) (r : model.UnitResult) (f : model.WholeFault) (fs : List Finding) → r.fault ≡ Some f → Adds [] fs (whole_fault (spans_of rs) (document_of p.units) r.unit f ∷ []) ((whole_code f, 0) ∷ []) → IsFoundOf rs p r fs
 whole_found rs p r f fs e h = record {
   told = h.told ∙ ap (λ o. unit_diagnostics (spans_of rs) p r o) (sym e);
   errors = h.errors ∙ ap (λ (o : Option model.WholeFault). unit_errors (record { unit = r.unit; fault = o; sets = r.sets; entries = r.entries; forms = r.forms; exports = r.exports; export_faults = r.export_faults })) (sym e);

@@ -1,22 +1,24 @@
 //! What is found wrong in the forms of a unit, and in a unit that is broken as a whole.
 ghost use Rattle.std.specs.Prelude.{◌≡◌, ◌<◌, ◌++◌, ◌∷◌, ℕ, List, [], length, slice_get, vec_len, Some, None, IfOk, OnOk};
+ghost use Rattle.scheme_model.specs.Declarations.{forms_hold};
 ghost use Rattle.scheme_model.specs.Ident.{Ident as Identifier, symbol_of};
 ghost use Rattle.scheme_model.specs.Steps.{Broken};
 ghost use Rattle.scheme_model.specs.UnitExpansion.{Formed};
 ghost use Rattle.scheme_model.specs.Program.{UnitResult, WholeFault as Whole, result_at, whole_code};
 ghost use Rattle.scheme_model.specs.Cores.{Target as CoreTarget};
 ghost use Rattle.scheme_model.specs.Live.{unit_leaves};
-ghost use Rattle.scheme_model.specs.Diagnostics.{bytes_of, fault_names, form_diagnostics, unbound_diagnostics, whole_fault};
+ghost use Rattle.scheme_model.specs.Diagnostics.{bytes_of, document_of, fault_names, fault_occ, form_diagnostics, unbound_diagnostics, whole_fault};
 ghost use Rattle.syntax_tree.specs.Names.{Names, KeepsNames};
 ghost use Rattle.syntax_tree.specs.declared.trees.Work.{Work};
 ghost use Rattle.syntax_tree.specs.declared.meaning.Meaning.TheVariants as meant;
 ghost use Rattle.core_tree.specs.declared.traces.FormFault.{FormFault as Fault};
 ghost use Rattle.core_tree.specs.Traces.{IsFault};
 ghost use Rattle.core_tree.specs.Units.{FormsStand, form_errors};
+ghost use Rattle.library_table.specs.UnitsRead.{forms_of};
 ghost use Rattle.document_units.specs.declared.findings.At.{At as Found};
 ghost use Rattle.document_units.specs.Readings.{Read};
 ghost use Rattle.document_units.specs.Changed.{Changes};
-ghost use Rattle.document_units.specs.Diagnosed.{IsWhole, fault_found, unbound_found, TellsStop, TellsStopOf, whole_at, whole_number};
+ghost use Rattle.document_units.specs.Diagnosed.{IsWhole, fault_found, unbound_found, TellsStop, TellsStopOf, text_unit, whole_at, whole_number};
 ghost use Rattle.document_units.specs.Findings.{Adds};
 ghost use Rattle.document_units.specs.Places.{AreFoundIn, ArePlaces, CanPlace, spans_of};
 ghost use Rattle.program_findings.specs.StandIn.{StandIn};
@@ -32,18 +34,22 @@ use document_units::form_numbers::number_of;
 use document_units::listing::WholeFault;
 use document_units::places::Places;
 use document_units::wording::message;
+use library_table::UnitForm as SourceForm;
+use library_table::units::form_holds;
 use ls_base::Mem;
+use scheme_model::Occ;
 use std::alloc::Global;
 use std::collections::BTreeMap;
 use syntax_tree::meaning::Meaning;
 use syntax_tree::symbols::{IdNo, Symbols};
 
-/// Adds the faults of forms.
+/// Adds the faults of the forms of a unit, which were read from these.
 pub fn add_faults(
     alloc: Global,
     symbols: &Symbols,
     places: Places<'_>,
     unit: u32,
+    sources: &[SourceForm],
     forms: &[UnitForm],
     findings: &mut Vec<Finding>,
 ) -> Mem<()>
@@ -52,11 +58,13 @@ pub fn add_faults(
     requires places { CanPlace places }
     ensures inside { AreFoundIn (length places.entry.documents.now) findings.old.items → OnOk result (AreFoundIn (length places.entry.documents.now) findings.new.items) }
     ensures exact { (rs : List Read) (us : List UnitResult) (work : Work) (fs : List Formed) → ArePlaces places.entry rs us → KeepsNames work.symbols symbols.now → FormsStand work unit 0 forms.now fs →
-        OnOk result (Adds findings.old.items findings.new.items (form_diagnostics (bytes_of (spans_of rs) us) unit fs) (form_errors fs)) }
+        OnOk result (Adds findings.old.items findings.new.items (form_diagnostics (bytes_of (spans_of rs) us) (forms_hold unit (forms_of sources.now)) unit fs) (form_errors fs)) }
 {
     for (place, form) in forms.iter().enumerate() {
         let number = number_of(place)?;
-        add_fault(alloc, symbols, places, unit, number, form, findings)?;
+        add_fault(
+            alloc, symbols, places, unit, number, sources, form, findings,
+        )?;
     }
     Ok(())
 }
@@ -68,6 +76,7 @@ fn add_fault(
     places: Places<'_>,
     unit: u32,
     number: u32,
+    sources: &[SourceForm],
     form: &UnitForm,
     findings: &mut Vec<Finding>,
 ) -> Mem<()>
@@ -77,23 +86,40 @@ fn add_fault(
     ensures inside { AreFoundIn (length places.entry.documents.now) findings.old.items → OnOk result (AreFoundIn (length places.entry.documents.now) findings.new.items) }
     ensures whole { form.now.fault ≡ None → OnOk result (findings.new.items ≡ findings.old.items) }
     ensures fault { (rs : List Read) (us : List UnitResult) (names : Names) (fault : Fault) (e : Broken) → ArePlaces places.entry rs us → KeepsNames names symbols.now →
-        form.now.fault ≡ Some fault → IsFault names unit number fault e →
-        OnOk result (findings.new.items ≡ findings.old.items ++ fault_found (bytes_of (spans_of rs) us) unit number e ∷ []) }
+        form.now.fault ≡ Some fault → IsFault names fault e →
+        OnOk result (findings.new.items ≡ findings.old.items ++ fault_found (bytes_of (spans_of rs) us) (forms_hold unit (forms_of sources.now)) unit number e ∷ []) }
 {
     let Some(fault) = &form.fault else {
         return Ok(());
     };
-    let spot = places.at_or_form(fault.occ, unit, number);
+    let occ = fault_occ(unit, number, sources, fault);
+    let spot = places.at_or_form(occ, unit, number);
     let name = name_of(symbols, fault);
     let finding = Finding::new(alloc, Some(spot), number, fault.code, name)?;
     findings.push(finding)?;
     Ok(())
 }
 
+/// Where a fault stands: at what it names, if that is a token of its form, or else where the form was read.
+fn fault_occ(unit: u32, number: u32, sources: &[SourceForm], fault: &FormFault) -> Option<Occ>
+    ensures { result ≡ fault_occ (forms_hold unit (forms_of sources.now) number) fault.now.occ fault.now.here }
+{
+    match fault.occ {
+        None => fault.here,
+        Some(occ) => {
+            if form_holds(unit, sources, number, occ) {
+                Some(occ)
+            } else {
+                fault.here
+            }
+        }
+    }
+}
+
 /// What a fault names: the symbol of an identifier, or the text of a `syntax-error`.
 fn name_of<'a>(symbols: &'a Symbols, fault: &'a FormFault) -> &'a str
     requires { (name : ℕ) → fault.now.name ≡ Some name → name < length symbols.now.idents }
-    ensures { (names : Names) (unit form : ℕ) (e : Broken) → KeepsNames names symbols.now → IsFault names unit form fault.now e → result.now ≡ fault_names e.fault }
+    ensures { (names : Names) (e : Broken) → KeepsNames names symbols.now → IsFault names fault.now e → result.now ≡ fault_names e.fault }
 {
     if let Some(name) = fault.name {
         return symbol_of(symbols, name);
@@ -172,11 +198,24 @@ pub fn whole_finding(
     requires places { CanPlace places }
     ensures inside { IfOk result (λ found. (at : Found) → found.at ≡ Some at → at.document < length places.entry.documents.now) }
     ensures exact { (rs : List Read) (us : List UnitResult) (r : UnitResult) (f : Whole) → ArePlaces places.entry rs us → result_at us unit ≡ Some r → IsWhole fault f →
-        IfOk result (λ found. Adds [] (found ∷ []) (whole_fault (spans_of rs) r.unit f ∷ []) ((whole_code f, 0) ∷ [])) }
+        IfOk result (λ found. Adds [] (found ∷ []) (whole_fault (spans_of rs) (document_of us) r.unit f ∷ []) ((whole_code f, 0) ∷ [])) }
 {
-    let at = whole_at(places.start(unit), fault);
+    let at = whole_at(places.start(text_unit(unit, fault)), fault);
     let code = whole_number(fault);
     Ok(Finding::new(alloc, Some(at), 0, code, "")?)
+}
+
+/// A unit of the document in which a fault stands that breaks a unit as a whole.
+fn text_unit(unit: u32, fault: WholeFault) -> u32
+    ensures { result ≡ text_unit unit fault }
+{
+    match fault {
+        WholeFault::BadDeclaration { unit, .. } => unit,
+        WholeFault::ImportCycle => unit,
+        WholeFault::DefinedTwice => unit,
+        WholeFault::TooLarge => unit,
+        WholeFault::TooMany => unit,
+    }
 }
 
 /// Where a unit is broken as a whole: at its bad declaration, or at its start.
@@ -184,7 +223,7 @@ fn whole_at(start: At, fault: WholeFault) -> At
     ensures { result ≡ whole_at start fault }
 {
     match fault {
-        WholeFault::BadDeclaration(span) => At::new(start.document, span),
+        WholeFault::BadDeclaration { span, .. } => At::new(start.document, span),
         WholeFault::ImportCycle => start,
         WholeFault::DefinedTwice => start,
         WholeFault::TooLarge => start,
@@ -197,7 +236,7 @@ fn whole_number(fault: WholeFault) -> u32
     ensures { result ≡ whole_number fault }
 {
     match fault {
-        WholeFault::BadDeclaration(_) => 61,
+        WholeFault::BadDeclaration { .. } => 61,
         WholeFault::ImportCycle => 62,
         WholeFault::DefinedTwice => 63,
         WholeFault::TooLarge => 66,

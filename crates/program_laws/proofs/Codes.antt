@@ -13,7 +13,8 @@ use Rattle.scheme_model.specs.Substitution.{Table, Defined}
 use Rattle.scheme_model.specs.Entries.{Entry, ImportFault, NotThere, Clash, BadSet}
 use Rattle.scheme_model.specs.Program.{Document, Prepared, UnitResult, Program, ImportSpec, WholeFault, TooMany, BadDeclaration, DefinedTwice, ImportCycle, TooLarge, SetResult, Unknown, Faulty, Gives, ExportFault, NotDefined, SameExport, program_of, imports_nothing}
 use Rattle.scheme_model.specs.Live.{CoreLeaf, Binds, Uses, Assigns, Quotes, Defines, unit_leaves}
-use Rattle.scheme_model.specs.Diagnostics.{Diagnostic, Span, Bytes, bytes_of, at_bytes, form_diagnostics, datum_bytes, clash_diagnostics, import_fault, set_diagnostics, export_diagnostics, or_start, hides, is_broken, hiding_diagnostics, unbound_at, unbound_diagnostics, is_empty, unit_start, whole_fault, inner_diagnostics, unit_diagnostics, all_diagnostics, is_before, same_diagnostic, put_in, sorted, diagnostics_of}
+use Rattle.scheme_model.specs.Declarations.{forms_hold}
+use Rattle.scheme_model.specs.Diagnostics.{Diagnostic, Span, Bytes, document_of, bytes_of, at_bytes, form_diagnostics, datum_bytes, clash_diagnostics, import_fault, set_diagnostics, export_diagnostics, or_start, hides, is_broken, hiding_diagnostics, unbound_at, unbound_diagnostics, is_empty, unit_start, whole_fault, inner_diagnostics, unit_diagnostics, all_diagnostics, is_before, same_diagnostic, put_in, sorted, diagnostics_of}
 use Rattle.program_laws.specs.Turns.{Each, AreBounded}
 use Rattle.program_laws.proofs.Faults.{Any, coded}
 use Rattle.program_laws.proofs.Steps.{Ended}
@@ -28,13 +29,13 @@ AllHave ds = Each HasCode ds
 
 -- ---- a unit
 
-form_has : (bytes : Occ → Bytes) (unit form : ℕ) (r : Result Parts Broken) (c : Counted) (fs : List Formed) → Ended Any r → AllHave (form_diagnostics bytes unit fs) → AllHave (form_diagnostics bytes unit (record { form = form; result = r; counted = c } ∷ fs))
-form_has bytes unit form (Ok ps) c fs h k = k
-form_has bytes unit form (Err b) c fs h k = (λ e. coded b.fault h e, k)
+form_has : (bytes : Occ → Bytes) (holds : ℕ → Occ → Bool) (unit form : ℕ) (r : Result Parts Broken) (c : Counted) (fs : List Formed) → Ended Any r → AllHave (form_diagnostics bytes holds unit fs) → AllHave (form_diagnostics bytes holds unit (record { form = form; result = r; counted = c } ∷ fs))
+form_has bytes holds unit form (Ok ps) c fs h k = k
+form_has bytes holds unit form (Err b) c fs h k = (λ e. coded b.fault h e, k)
 
-forms_have : (bytes : Occ → Bytes) (unit : ℕ) (fs : List Formed) → Each FormFine fs → AllHave (form_diagnostics bytes unit fs)
-forms_have bytes unit [] h = tt
-forms_have bytes unit (f ∷ fs) h = form_has bytes unit f.form f.result f.counted fs h.0 (forms_have bytes unit fs h.1)
+forms_have : (bytes : Occ → Bytes) (holds : ℕ → Occ → Bool) (unit : ℕ) (fs : List Formed) → Each FormFine fs → AllHave (form_diagnostics bytes holds unit fs)
+forms_have bytes holds unit [] h = tt
+forms_have bytes holds unit (f ∷ fs) h = form_has bytes holds unit f.form f.result f.counted fs h.0 (forms_have bytes holds unit fs h.1)
 
 clashes_have : (b : Bytes) (ss : List (List ℕ)) → AllHave (clash_diagnostics b ss)
 clashes_have b [] = tt
@@ -45,12 +46,12 @@ import_has bytes b (NotThere n) = omega arith
 import_has bytes b (Clash s) = omega arith
 import_has bytes b BadSet = omega arith
 
-sets_have : (bytes : Occ → Bytes) (d : ℕ) (ss : List ImportSpec) (rs : List SetResult) → AllHave (set_diagnostics bytes d ss rs)
+sets_have : (bytes : Occ → Bytes) (d : ℕ → ℕ) (ss : List ImportSpec) (rs : List SetResult) → AllHave (set_diagnostics bytes d ss rs)
 sets_have bytes d [] rs = tt
 sets_have bytes d (s ∷ ss) [] = tt
 sets_have bytes d (s ∷ ss) (Unknown ∷ rs) = (omega arith, sets_have bytes d ss rs)
-sets_have bytes d (s ∷ ss) (Faulty f ∷ rs) = (import_has bytes (datum_bytes d s.whole) f, sets_have bytes d ss rs)
-sets_have bytes d (s ∷ ss) (Gives es clashes ∷ rs) = each_both HasCode (clash_diagnostics (datum_bytes d s.whole) clashes) (set_diagnostics bytes d ss rs) (clashes_have (datum_bytes d s.whole) clashes) (sets_have bytes d ss rs)
+sets_have bytes d (s ∷ ss) (Faulty f ∷ rs) = (import_has bytes (datum_bytes (d s.unit) s.whole) f, sets_have bytes d ss rs)
+sets_have bytes d (s ∷ ss) (Gives es clashes ∷ rs) = each_both HasCode (clash_diagnostics (datum_bytes (d s.unit) s.whole) clashes) (set_diagnostics bytes d ss rs) (clashes_have (datum_bytes (d s.unit) s.whole) clashes) (sets_have bytes d ss rs)
 
 exports_have : (bytes : Occ → Bytes) (unit : ℕ) (xs : List ExportFault) → AllHave (export_diagnostics bytes unit xs)
 exports_have bytes unit [] = tt
@@ -82,12 +83,12 @@ unbound_have bytes (Assigns t ∷ ls) = each_both HasCode (unbound_at bytes t) (
 unbound_have bytes (Quotes o ∷ ls) = unbound_have bytes ls
 unbound_have bytes (Defines m ∷ ls) = unbound_have bytes ls
 
-whole_has : (spans : List (List Span)) (p : Prepared) (f : WholeFault) → HasCode (whole_fault spans p f)
-whole_has spans p TooMany = omega arith
-whole_has spans p (BadDeclaration d) = omega arith
-whole_has spans p DefinedTwice = omega arith
-whole_has spans p ImportCycle = omega arith
-whole_has spans p TooLarge = omega arith
+whole_has : (spans : List (List Span)) (document : ℕ → ℕ) (p : Prepared) (f : WholeFault) → HasCode (whole_fault spans document p f)
+whole_has spans document p TooMany = omega arith
+whole_has spans document p (BadDeclaration unit d) = omega arith
+whole_has spans document p DefinedTwice = omega arith
+whole_has spans document p ImportCycle = omega arith
+whole_has spans document p TooLarge = omega arith
 
 -- ---- the program
 
@@ -100,19 +101,19 @@ module _ (spans : List (List Span)) (p : Program) where
   inner_have r sets h k =
       let bytes : Occ → Bytes = bytes_of spans p.units in
       let exports : List Diagnostic = export_diagnostics bytes r.unit.number r.export_faults in
-      let forms : List Diagnostic = form_diagnostics bytes r.unit.number r.forms in
+      let forms : List Diagnostic = form_diagnostics bytes (forms_hold r.unit.number r.unit.forms) r.unit.number r.forms in
       let hiding : List Diagnostic = hiding_diagnostics bytes r.unit.number r.forms r.entries p.table in
       let unbound : List Diagnostic = if is_empty sets then unbound_diagnostics bytes (unit_leaves r.forms) else [] in
       let empty : List Diagnostic = if imports_nothing r.unit then at_bytes (unit_start spans r.unit) 104 [] ∷ [] else [] in
       let a = each_both HasCode sets exports k (exports_have bytes r.unit.number r.export_faults) in
-      let b = each_both HasCode (sets ++ exports) forms a (forms_have bytes r.unit.number r.forms h) in
+      let b = each_both HasCode (sets ++ exports) forms a (forms_have bytes (forms_hold r.unit.number r.unit.forms) r.unit.number r.forms h) in
       let c = each_both HasCode (sets ++ exports ++ forms) hiding b (hiding_have bytes r.unit.number r.forms r.entries p.table) in
       let d = each_both HasCode (sets ++ exports ++ forms ++ hiding) unbound c (one_of_two AllHave (is_empty sets) (unbound_diagnostics bytes (unit_leaves r.forms)) [] (unbound_have bytes (unit_leaves r.forms)) tt) in
       each_both HasCode (sets ++ exports ++ forms ++ hiding ++ unbound) empty d (nothing_has (imports_nothing r.unit) r)
 
   unit_has : (r : UnitResult) (o : Option WholeFault) → UnitFine r → AllHave (unit_diagnostics spans p r o)
-  unit_has r (Some f) h = (whole_has spans r.unit f, tt)
-  unit_has r None h = inner_have r (set_diagnostics (bytes_of spans p.units) r.unit.placed.document r.unit.specs r.sets) h (sets_have (bytes_of spans p.units) r.unit.placed.document r.unit.specs r.sets)
+  unit_has r (Some f) h = (whole_has spans (document_of p.units) r.unit f, tt)
+  unit_has r None h = inner_have r (set_diagnostics (bytes_of spans p.units) (document_of p.units) r.unit.specs r.sets) h (sets_have (bytes_of spans p.units) (document_of p.units) r.unit.specs r.sets)
 
   units_have : (rs : List UnitResult) → Each UnitFine rs → AllHave (all_diagnostics spans p rs)
   units_have [] h = tt

@@ -8,7 +8,7 @@ use Rattle.scheme_model.specs.DataTrees.{atom_tree, tree_of, parts_of, end_of}
 use Rattle.scheme_model.specs.Measures.{tree_size, trees_size, tail_size}
 use Rattle.scheme_model.specs.ExpansionFaults.{Fault}
 use Rattle.scheme_model.specs.Requirements.{Known, LibraryName, library_name_of, clause_holds}
-use Rattle.scheme_model.specs.Declarations.{with_part, proper_parts, symbol_in, symbol_tree, is_headed, UnitForm, plain_form, Flat, ◌>>=◌, or_bad, all_export_parts, Clause, later_clauses, picked, chosen_clause, flat_of, some_clauses, both, parts_or, Declared, Exports, Imports, Begins, Chooses, Includes, Undeclared, declared_by, declared_as, declaration, declarations, clauses, clause_of, UnitSource, name_or, no_name, library_with, behind_head, library_of, is_library, libraries_in, is_proper, program_forms, program_in, units_in}
+use Rattle.scheme_model.specs.Declarations.{with_part, proper_parts, symbol_in, symbol_tree, is_headed, UnitForm, plain_form, declared_form, Flat, ◌>>=◌, or_bad, all_export_parts, Clause, later_clauses, picked, chosen_clause, flat_of, some_clauses, both, parts_or, Declared, Exports, Imports, Begins, Chooses, Includes, Undeclared, declared_by, declared_as, declaration, declarations, clauses, clause_of, UnitSource, name_or, no_name, library_with, behind_head, library_of, is_library, libraries_in, is_proper, program_forms, program_in, units_in}
 use Rattle.program_laws.specs.Turns.{Each, datum_size}
 use Rattle.program_laws.proofs.Lists.{each_map, each_both, one_of_two, each_filtered}
 
@@ -122,14 +122,14 @@ module _ (n : ℕ) where
 
     declared_within : (k : Declared) (d : Datum) (o : Option (List Datum)) (cs : Result (List Clause) Datum) → DatumWithin d → PartsWithin o → Good (Each ClauseWithin) cs → FlatWithin (declared_as known k d o cs)
     declared_within Exports d o cs h k l =
-        then_good (Each DatumWithin) (Each FormWithin) (parts_or d o) (λ ds. if all_export_parts ds then Ok (record { datum = d; declared = true } ∷ []) else Err d) (parts_good d o k)
-        (λ ds x. one_of_two FlatWithin (all_export_parts ds) (Ok (record { datum = d; declared = true } ∷ [])) (Err d) (h, tt) tt)
-    declared_within Imports d o cs h k l = then_good (Each DatumWithin) (Each FormWithin) (parts_or d o) (λ ds. Ok (record { datum = d; declared = true } ∷ [])) (parts_good d o k) (λ ds x. (h, tt))
+        then_good (Each DatumWithin) (Each FormWithin) (parts_or d o) (λ ds. if all_export_parts ds then Ok (declared_form d ∷ []) else Err d) (parts_good d o k)
+        (λ ds x. one_of_two FlatWithin (all_export_parts ds) (Ok (declared_form d ∷ [])) (Err d) (h, tt) tt)
+    declared_within Imports d o cs h k l = then_good (Each DatumWithin) (Each FormWithin) (parts_or d o) (λ ds. Ok (declared_form d ∷ [])) (parts_good d o k) (λ ds x. (h, tt))
     declared_within Begins d o cs h k l = then_good (Each DatumWithin) (Each FormWithin) (parts_or d o) (λ ds. Ok (map plain_form ds)) (parts_good d o k) (λ ds x. plain_within ds x)
     declared_within Chooses d o cs h k l =
         flat_within (cs >>= some_clauses d >>= chosen_clause known d)
         (then_good (Each ClauseWithin) FlatWithin (cs >>= some_clauses d) (chosen_clause known d) (then_good (Each ClauseWithin) (Each ClauseWithin) cs (some_clauses d) l (λ xs x. some_within d xs x)) (λ xs x. chosen_within d xs x))
-    declared_within Includes d o cs h k l = then_good (Each DatumWithin) (Each FormWithin) (parts_or d o) (λ ds. Ok (record { datum = d; declared = true } ∷ [])) (parts_good d o k) (λ ds x. (h, tt))
+    declared_within Includes d o cs h k l = then_good (Each DatumWithin) (Each FormWithin) (parts_or d o) (λ ds. Ok (declared_form d ∷ [])) (parts_good d o k) (λ ds x. (h, tt))
     declared_within Undeclared d o cs h k l = tt
 
     mutual
@@ -194,7 +194,7 @@ module _ (n : ℕ) where
     forms_within : (ds : List Datum) → Each DatumWithin ds → Each FormWithin (program_forms ds)
     forms_within [] h = tt
     forms_within (d ∷ ds) h =
-        one_of_two (Each FormWithin) (is_headed (codes "import") d && is_proper d) (record { datum = d; declared = true } ∷ program_forms ds) (map plain_form (d ∷ ds)) (h.0, forms_within ds h.1) (plain_within (d ∷ ds) h)
+        one_of_two (Each FormWithin) (is_headed (codes "import") d && is_proper d) (declared_form d ∷ program_forms ds) (map plain_form (d ∷ ds)) (h.0, forms_within ds h.1) (plain_within (d ∷ ds) h)
 
     program_within : (ds : List Datum) → Each DatumWithin ds → Each SourceWithin (program_in ds)
     program_within [] h = tt

@@ -2,16 +2,16 @@
 use Rattle.std.proofs.Common.{◌≡◌, ℕ, zero, suc, ◌^◌, ◌<◌, List, [], ◌∷◌, map, length, Bool, Option, Some, None, Result, Ok, Err, refl, arith}
 use Rattle.std.specs.Prelude.{◌==◌}
 use Rattle.scheme_model.specs.Identifiers.{Name, Written}
-use Rattle.scheme_model.specs.Trees.{Tree, placed_in}
-use Rattle.scheme_model.specs.Data.{Datum, place_of}
-use Rattle.scheme_model.specs.DataTrees.{form_of}
+use Rattle.scheme_model.specs.Trees.{Tree, placed_by}
+use Rattle.scheme_model.specs.Data.{Datum}
+use Rattle.scheme_model.specs.DataTrees.{form_as}
 use Rattle.scheme_model.specs.Cores.{Parts}
 use Rattle.scheme_model.specs.Steps.{Broken}
 use Rattle.scheme_model.specs.Requirements.{Known}
 use Rattle.scheme_model.specs.UnitExpansion.{Formed}
 use Rattle.scheme_model.specs.Substitution.{State, model}
 use Rattle.scheme_model.specs.Entries.{Entry}
-use Rattle.scheme_model.specs.Declarations.{UnitForm, Flat, units_in}
+use Rattle.scheme_model.specs.Declarations.{UnitForm, home_of, Flat, units_in}
 use Rattle.scheme_model.specs.Program.{Document, data_of, known_in, Placed, units_from, units_of, is_include, forms_or_none, Prepared, prepare, WholeFault, fault_before, SetResult, UnitResult, Progress, result_at, unit_entries, form_trees, start_of, enough_turns, by_fault, refused_form, with_refused, unit_result, unit_over, with_entries, is_ready, first_ready, worked, work, progress_before, in_order, program_of}
 use Rattle.program_laws.specs.Turns.{Each, datum_size, AreBounded, IsDone}
 use Rattle.program_laws.proofs.Faults.{Any, not_out}
@@ -59,9 +59,9 @@ prepared_within all k (u ∷ us) h = (forms_within u.source.forms h.0, prepared_
 trees_within : (unit form : ℕ) (fs : List UnitForm) → Each (FormWithin most) fs → Each (NumberedWithin most) (form_trees unit form fs)
 trees_within unit form [] h = tt
 trees_within unit form (f ∷ fs) h =
-    let e = as_large (Written unit) (placed_in unit form (place_of f.datum).first) f.datum in
+    let e = as_large (Written unit) (placed_by (home_of unit form f)) f.datum in
     let small = h.0 in
-    one_of_two (Each (NumberedWithin most)) f.declared (form_trees unit (suc form) fs) ((form, form_of unit form f.datum) ∷ form_trees unit (suc form) fs) (trees_within unit (suc form) fs h.1) (omega (arith, e, small), trees_within unit (suc form) fs h.1)
+    one_of_two (Each (NumberedWithin most)) f.declared (form_trees unit (suc form) fs) ((form, form_as unit (home_of unit form f) f.datum) ∷ form_trees unit (suc form) fs) (trees_within unit (suc form) fs h.1) (omega (arith, e, small), trees_within unit (suc form) fs h.1)
 
 -- ---- a unit
 

@@ -235,12 +235,12 @@ none_ready ready (q ∷ ps) n p none e = at (ready q) refl (q.number == n) (λ (
     at false f true rest none e = subst (λ (x : Prepared). ready x ≡ false) (some_same q p e) f
     at false f false rest none e = rest none e
 
-circle_by : (a : Bool) (forms : Result (List UnitForm) Datum) (b c : Bool) → is_some (if a then Some TooMany else declared_fault forms (if b then Some DefinedTwice else if c then Some ImportCycle else None)) ≡ false → c ≡ false
-circle_by true forms b c e = never (sym e)
-circle_by false (Ok fs) true c e = never (sym e)
-circle_by false (Ok fs) false true e = never (sym e)
-circle_by false (Ok fs) false false e = refl
-circle_by false (Err d) b c e = never (sym e)
+circle_by : (n : ℕ) (a : Bool) (forms : Result (List UnitForm) Datum) (b c : Bool) → is_some (if a then Some TooMany else declared_fault n forms (if b then Some DefinedTwice else if c then Some ImportCycle else None)) ≡ false → c ≡ false
+circle_by n true forms b c e = never (sym e)
+circle_by n false (Ok fs) true c e = never (sym e)
+circle_by n false (Ok fs) false true e = never (sym e)
+circle_by n false (Ok fs) false false e = refl
+circle_by n false (Err d) b c e = never (sym e)
 
 record NotReady (a b : Bool) : Type 0 where
   pub left : a ≡ false
@@ -305,7 +305,7 @@ module _ (all : List Placed) (ps : List Prepared) (ordered : Ordered 0 ps) (impo
         let w = waits rs p.imports x.right in
         let q = there 0 ps w.number ordered (omega arith) (let lt = below_is (length ps) w.number p.imports (found_each (λ (p : Prepared). Below (length ps) p.imports) ps n p imports e) w.among in omega (arith, lt)) in
         record {
-          apart = circle_by (nat_le max_units p.number) p.placed.source.forms (is_repeated all p) (on_circle ps p) x.left;
+          apart = circle_by p.number (nat_le max_units p.number) p.placed.source.forms (is_repeated all p) (on_circle ps p) x.left;
           next = record { number = w.number; unit = q.unit; is = q.is; among = w.among; is_undone = w.is_undone };
         }
 

@@ -15,10 +15,10 @@ use Rattle.scheme_model.specs.Order.{Counted}
 use Rattle.scheme_model.specs.UnitExpansion.{Formed}
 use Rattle.scheme_model.specs.Substitution.{Table, Defined}
 use Rattle.scheme_model.specs.Entries.{Entry, ImportFault, NotThere, Clash, BadSet}
-use Rattle.scheme_model.specs.Declarations.{UnitForm}
+use Rattle.scheme_model.specs.Declarations.{UnitForm, forms_hold}
 use Rattle.scheme_model.specs.Program.{UnitResult, Program, ImportSpec, specs_in, specs_from, WholeFault, TooMany, BadDeclaration, DefinedTwice, ImportCycle, TooLarge, SetResult, Unknown, Faulty, Gives, ExportFault, NotDefined, SameExport, imports_nothing, whole_code}
 use Rattle.scheme_model.specs.Live.{CoreLeaf, Binds, Uses, Assigns, Quotes, Defines, unit_leaves}
-use Rattle.scheme_model.specs.Diagnostics.{Diagnostic, Span, Bytes, bytes_of, at_bytes, form_diagnostics, datum_bytes, import_fault, set_diagnostics, export_diagnostics, or_start, hides, is_broken, hiding_diagnostics, unbound_at, unbound_diagnostics, is_empty, unit_start, inner_diagnostics, unit_diagnostics, is_before, same_diagnostic, put_in, sorted}
+use Rattle.scheme_model.specs.Diagnostics.{Diagnostic, Span, Bytes, document_of, bytes_of, at_bytes, form_diagnostics, datum_bytes, import_fault, set_diagnostics, export_diagnostics, or_start, hides, is_broken, hiding_diagnostics, unbound_at, unbound_diagnostics, is_empty, unit_start, inner_diagnostics, unit_diagnostics, is_before, same_diagnostic, put_in, sorted}
 use Rattle.scheme_model.specs.Entries.{is_below}
 use Rattle.rename_model.specs.SameProgram.{set_forms, set_errors, export_errors, form_errors, errors_of}
 
@@ -135,17 +135,17 @@ import_error bytes b BadSet = refl
 some_none : {P : Type 0} (n : ℕ) (ns : List ℕ) → n ∷ ns ≡ [] → P
 some_none n ns e = absurd cc
 
-sets_from : (bytes : Occ → Bytes) (document : ℕ) (ss : List ImportSpec) (fs : List ℕ) (rs : List SetResult) → length ss ≡ length fs → NoErrors (set_diagnostics bytes document ss rs) → set_errors (zip fs rs) ≡ []
+sets_from : (bytes : Occ → Bytes) (document : ℕ → ℕ) (ss : List ImportSpec) (fs : List ℕ) (rs : List SetResult) → length ss ≡ length fs → NoErrors (set_diagnostics bytes document ss rs) → set_errors (zip fs rs) ≡ []
 sets_from bytes document [] [] rs long h = refl
 sets_from bytes document [] (f ∷ fs) rs long h = absurd (omega arith)
 sets_from bytes document (s ∷ ss) [] rs long h = absurd (omega arith)
 sets_from bytes document (s ∷ ss) (f ∷ fs) [] long h = refl
 sets_from bytes document (s ∷ ss) (f ∷ fs) (Unknown ∷ rs) long h = sets_from bytes document ss fs rs (omega arith) h.1
-sets_from bytes document (s ∷ ss) (f ∷ fs) (Faulty e ∷ rs) long h = no_error (sym (import_error bytes (datum_bytes document s.whole) e) ∙ h.0)
+sets_from bytes document (s ∷ ss) (f ∷ fs) (Faulty e ∷ rs) long h = no_error (sym (import_error bytes (datum_bytes (document s.unit) s.whole) e) ∙ h.0)
 sets_from bytes document (s ∷ ss) (f ∷ fs) (Gives es [] ∷ rs) long h = sets_from bytes document ss fs rs (omega arith) h
 sets_from bytes document (s ∷ ss) (f ∷ fs) (Gives es (c ∷ cs) ∷ rs) long h = no_error h.0
 
-sets_to : (bytes : Occ → Bytes) (document : ℕ) (ss : List ImportSpec) (fs : List ℕ) (rs : List SetResult) → length ss ≡ length fs → set_errors (zip fs rs) ≡ [] → NoErrors (set_diagnostics bytes document ss rs)
+sets_to : (bytes : Occ → Bytes) (document : ℕ → ℕ) (ss : List ImportSpec) (fs : List ℕ) (rs : List SetResult) → length ss ≡ length fs → set_errors (zip fs rs) ≡ [] → NoErrors (set_diagnostics bytes document ss rs)
 sets_to bytes document [] [] rs long e = tt
 sets_to bytes document [] (f ∷ fs) rs long e = absurd (omega arith)
 sets_to bytes document (s ∷ ss) [] rs long e = absurd (omega arith)
@@ -196,23 +196,23 @@ fault_error (SyntaxError text) = refl
 fault_error IncludeRefused = refl
 fault_error OutOfTurns = refl
 
-form_from : (bytes : Occ → Bytes) (unit form : ℕ) (r : Result Parts Broken) (c : Counted) (fs : List Formed) → (NoErrors (form_diagnostics bytes unit fs) → form_errors fs ≡ []) →
-    NoErrors (form_diagnostics bytes unit (record { form = form; result = r; counted = c } ∷ fs)) → form_errors (record { form = form; result = r; counted = c } ∷ fs) ≡ []
-form_from bytes unit form (Ok ps) c fs more h = more h
-form_from bytes unit form (Err b) c fs more h = no_error (sym (fault_error b.fault) ∙ h.0)
+form_from : (bytes : Occ → Bytes) (holds : ℕ → Occ → Bool) (unit form : ℕ) (r : Result Parts Broken) (c : Counted) (fs : List Formed) → (NoErrors (form_diagnostics bytes holds unit fs) → form_errors fs ≡ []) →
+    NoErrors (form_diagnostics bytes holds unit (record { form = form; result = r; counted = c } ∷ fs)) → form_errors (record { form = form; result = r; counted = c } ∷ fs) ≡ []
+form_from bytes holds unit form (Ok ps) c fs more h = more h
+form_from bytes holds unit form (Err b) c fs more h = no_error (sym (fault_error b.fault) ∙ h.0)
 
-forms_from : (bytes : Occ → Bytes) (unit : ℕ) (fs : List Formed) → NoErrors (form_diagnostics bytes unit fs) → form_errors fs ≡ []
-forms_from bytes unit [] h = refl
-forms_from bytes unit (f ∷ fs) h = form_from bytes unit f.form f.result f.counted fs (forms_from bytes unit fs) h
+forms_from : (bytes : Occ → Bytes) (holds : ℕ → Occ → Bool) (unit : ℕ) (fs : List Formed) → NoErrors (form_diagnostics bytes holds unit fs) → form_errors fs ≡ []
+forms_from bytes holds unit [] h = refl
+forms_from bytes holds unit (f ∷ fs) h = form_from bytes holds unit f.form f.result f.counted fs (forms_from bytes holds unit fs) h
 
-form_to : (bytes : Occ → Bytes) (unit form : ℕ) (r : Result Parts Broken) (c : Counted) (fs : List Formed) → (form_errors fs ≡ [] → NoErrors (form_diagnostics bytes unit fs)) →
-    form_errors (record { form = form; result = r; counted = c } ∷ fs) ≡ [] → NoErrors (form_diagnostics bytes unit (record { form = form; result = r; counted = c } ∷ fs))
-form_to bytes unit form (Ok ps) c fs more e = more e
-form_to bytes unit form (Err b) c fs more e = some_none form (form_errors fs) e
+form_to : (bytes : Occ → Bytes) (holds : ℕ → Occ → Bool) (unit form : ℕ) (r : Result Parts Broken) (c : Counted) (fs : List Formed) → (form_errors fs ≡ [] → NoErrors (form_diagnostics bytes holds unit fs)) →
+    form_errors (record { form = form; result = r; counted = c } ∷ fs) ≡ [] → NoErrors (form_diagnostics bytes holds unit (record { form = form; result = r; counted = c } ∷ fs))
+form_to bytes holds unit form (Ok ps) c fs more e = more e
+form_to bytes holds unit form (Err b) c fs more e = some_none form (form_errors fs) e
 
-forms_to : (bytes : Occ → Bytes) (unit : ℕ) (fs : List Formed) → form_errors fs ≡ [] → NoErrors (form_diagnostics bytes unit fs)
-forms_to bytes unit [] e = tt
-forms_to bytes unit (f ∷ fs) e = form_to bytes unit f.form f.result f.counted fs (forms_to bytes unit fs) e
+forms_to : (bytes : Occ → Bytes) (holds : ℕ → Occ → Bool) (unit : ℕ) (fs : List Formed) → form_errors fs ≡ [] → NoErrors (form_diagnostics bytes holds unit fs)
+forms_to bytes holds unit [] e = tt
+forms_to bytes holds unit (f ∷ fs) e = form_to bytes holds unit f.form f.result f.counted fs (forms_to bytes holds unit fs) e
 
 -- ---- what is told and is no Error
 
@@ -259,7 +259,7 @@ with_fault r f = record r { fault = f }
 
 whole_error : (f : WholeFault) → nat_lt (whole_code f) 100 ≡ true
 whole_error TooMany = refl
-whole_error (BadDeclaration d) = refl
+whole_error (BadDeclaration unit d) = refl
 whole_error DefinedTwice = refl
 whole_error ImportCycle = refl
 whole_error TooLarge = refl
@@ -269,13 +269,13 @@ module _ (spans : List (List Span)) (p : Program) (r : UnitResult) (long : lengt
   bytes = bytes_of spans p.units
 
   abbrev sets : List Diagnostic
-  sets = set_diagnostics bytes r.unit.placed.document r.unit.specs r.sets
+  sets = set_diagnostics bytes (document_of p.units) r.unit.specs r.sets
 
   abbrev exports : List Diagnostic
   exports = export_diagnostics bytes r.unit.number r.export_faults
 
   abbrev forms : List Diagnostic
-  forms = form_diagnostics bytes r.unit.number r.forms
+  forms = form_diagnostics bytes (forms_hold r.unit.number r.unit.forms) r.unit.number r.forms
 
   abbrev hiding : List Diagnostic
   hiding = hiding_diagnostics bytes r.unit.number r.forms r.entries p.table
@@ -296,8 +296,8 @@ module _ (spans : List (List Span)) (p : Program) (r : UnitResult) (long : lengt
       let c = none_in_each ((sets ++ exports) ++ forms) hiding b.0 in
       let d = none_in_each (sets ++ exports) forms c.0 in
       let e = none_in_each sets exports d.0 in
-      nothing_joined of_sets (export_errors r.export_faults) (form_errors r.forms) (sets_from bytes r.unit.placed.document r.unit.specs (set_forms r.unit.number 0 r.unit.forms) r.sets long e.0)
-      (exports_from bytes r.unit.number r.export_faults e.1) (forms_from bytes r.unit.number r.forms d.1)
+      nothing_joined of_sets (export_errors r.export_faults) (form_errors r.forms) (sets_from bytes (document_of p.units) r.unit.specs (set_forms r.unit.number 0 r.unit.forms) r.sets long e.0)
+      (exports_from bytes r.unit.number r.export_faults e.1) (forms_from bytes (forms_hold r.unit.number r.unit.forms) r.unit.number r.forms d.1)
 
   inner_to : (of_sets ++ export_errors r.export_faults) ++ form_errors r.forms ≡ [] → NoErrors (inner_diagnostics spans p r sets)
   inner_to e =
@@ -307,8 +307,8 @@ module _ (spans : List (List Span)) (p : Program) (r : UnitResult) (long : lengt
       (none_in_both (((sets ++ exports) ++ forms) ++ hiding) unbound
       (none_in_both ((sets ++ exports) ++ forms) hiding
       (none_in_both (sets ++ exports) forms
-      (none_in_both sets exports (sets_to bytes r.unit.placed.document r.unit.specs (set_forms r.unit.number 0 r.unit.forms) r.sets long b.0) (exports_to bytes r.unit.number r.export_faults b.1))
-      (forms_to bytes r.unit.number r.forms a.1))
+      (none_in_both sets exports (sets_to bytes (document_of p.units) r.unit.specs (set_forms r.unit.number 0 r.unit.forms) r.sets long b.0) (exports_to bytes r.unit.number r.export_faults b.1))
+      (forms_to bytes (forms_hold r.unit.number r.unit.forms) r.unit.number r.forms a.1))
       (hiding_none bytes r.unit.number r.forms r.entries p.table))
       (if_none (is_empty sets) (unbound_diagnostics bytes (unit_leaves r.forms)) (unbound_none bytes (unit_leaves r.forms))))
       (if_none (imports_nothing r.unit) (at_bytes (unit_start spans r.unit) 104 [] ∷ []) (refl, tt))

@@ -7,7 +7,7 @@ use Rattle.std.proofs.lemmas.List.{map-append}
 use Rattle.std.proofs.lemmas.List.Concat.{flat_map-cons}
 use Rattle.scheme_model.specs.declared.Occ.{Occ}
 use Rattle.scheme_model.specs.Data.{Place, Atom, Datum, atom, list, vector, bytes, Data, none, part, tail, place_of}
-use Rattle.scheme_model.specs.Declarations.{with_part, proper_parts, symbol_in, symbol_tree, is_headed, UnitForm, plain_form, Flat, ◌>>=◌, or_bad, all_export_parts, Clause, later_clauses, picked, chosen_clause, flat_of, some_clauses, both, parts_or, Declared, Exports, Imports, Begins, Chooses, Includes, Undeclared, declared_by, declared_as, declaration, declarations, clauses, clause_of, UnitSource, name_or, no_name, library_with, behind_head, library_of, is_library, libraries_in, is_proper, program_forms, program_in, units_in}
+use Rattle.scheme_model.specs.Declarations.{with_part, proper_parts, symbol_in, symbol_tree, is_headed, UnitForm, plain_form, declared_form, Flat, ◌>>=◌, or_bad, all_export_parts, Clause, later_clauses, picked, chosen_clause, flat_of, some_clauses, both, parts_or, Declared, Exports, Imports, Begins, Chooses, Includes, Undeclared, declared_by, declared_as, declaration, declarations, clauses, clause_of, UnitSource, name_or, no_name, library_with, behind_head, library_of, is_library, libraries_in, is_proper, program_forms, program_in, units_in}
 use Rattle.scheme_model.specs.Diagnostics.{first_token}
 use Rattle.scheme_model.specs.ExpansionFaults.{Fault}
 use Rattle.scheme_model.specs.Program.{Document, Placed, Prepared, UnitResult, data_of, forms_or_none, is_in, known_in, prepare, prepared, program_of, units_from, units_of}
@@ -172,14 +172,14 @@ module _ (P : ℕ → Type 0) where
 
     declared_held : (k : Declared) (d : Datum) (o : Option (List Datum)) (cs : Result (List Clause) Datum) → Held d → PartsHeld o → Good (Each ClauseHeld) cs → FlatHeld (declared_as known k d o cs)
     declared_held Exports d o cs h k l =
-        then_good (Each Held) (Each FormHeld) (parts_or d o) (λ ds. cond (all_export_parts ds) (Ok (record { datum = d; declared = true } ∷ [])) (Err d)) (parts_good d o k)
-        (λ ds x. one_of_two FlatHeld (all_export_parts ds) (Ok (record { datum = d; declared = true } ∷ [])) (Err d) (h, tt) tt)
-    declared_held Imports d o cs h k l = then_good (Each Held) (Each FormHeld) (parts_or d o) (λ ds. Ok (record { datum = d; declared = true } ∷ [])) (parts_good d o k) (λ ds x. (h, tt))
+        then_good (Each Held) (Each FormHeld) (parts_or d o) (λ ds. cond (all_export_parts ds) (Ok (declared_form d ∷ [])) (Err d)) (parts_good d o k)
+        (λ ds x. one_of_two FlatHeld (all_export_parts ds) (Ok (declared_form d ∷ [])) (Err d) (h, tt) tt)
+    declared_held Imports d o cs h k l = then_good (Each Held) (Each FormHeld) (parts_or d o) (λ ds. Ok (declared_form d ∷ [])) (parts_good d o k) (λ ds x. (h, tt))
     declared_held Begins d o cs h k l = then_good (Each Held) (Each FormHeld) (parts_or d o) (λ ds. Ok (map plain_form ds)) (parts_good d o k) (λ ds x. plain_held ds x)
     declared_held Chooses d o cs h k l =
         flat_held (cs >>= some_clauses d >>= chosen_clause known d)
         (then_good (Each ClauseHeld) FlatHeld (cs >>= some_clauses d) (chosen_clause known d) (then_good (Each ClauseHeld) (Each ClauseHeld) cs (some_clauses d) l (λ xs x. some_held d xs x)) (λ xs x. chosen_held d xs x))
-    declared_held Includes d o cs h k l = then_good (Each Held) (Each FormHeld) (parts_or d o) (λ ds. Ok (record { datum = d; declared = true } ∷ [])) (parts_good d o k) (λ ds x. (h, tt))
+    declared_held Includes d o cs h k l = then_good (Each Held) (Each FormHeld) (parts_or d o) (λ ds. Ok (declared_form d ∷ [])) (parts_good d o k) (λ ds x. (h, tt))
     declared_held Undeclared d o cs h k l = tt
 
     mutual
@@ -245,7 +245,7 @@ module _ (P : ℕ → Type 0) where
     forms_held : (ds : List Datum) → Each Held ds → Each FormHeld (program_forms ds)
     forms_held [] h = tt
     forms_held (d ∷ ds) h =
-        one_of_two (Each FormHeld) (is_headed (codes "import") d && is_proper d) (record { datum = d; declared = true } ∷ program_forms ds) (map plain_form (d ∷ ds)) (h.0, forms_held ds h.1) (plain_held (d ∷ ds) h)
+        one_of_two (Each FormHeld) (is_headed (codes "import") d && is_proper d) (declared_form d ∷ program_forms ds) (map plain_form (d ∷ ds)) (h.0, forms_held ds h.1) (plain_held (d ∷ ds) h)
 
     program_held : (ds : List Datum) → Each Held ds → Each SourceHeld (program_in ds)
     program_held [] h = tt

@@ -7,9 +7,9 @@ use Rattle.std.proofs.lemmas.Bool.Decides.{nat_tests}
 use Rattle.scheme_model.specs.declared.Occ.{Occ}
 use Rattle.scheme_model.specs.Identifiers.{Number, Name, Written as WrittenName}
 use Rattle.scheme_model.specs.Ident.{Ident, Written, Inserted}
-use Rattle.scheme_model.specs.Trees.{Tree, list as list_of, vector as vector_of, Trees, tree, dotted, map_tree, map_trees, map_tail, placed_in, proper}
+use Rattle.scheme_model.specs.Trees.{Tree, list as list_of, vector as vector_of, Trees, tree, dotted, map_tree, map_trees, map_tail, placed_by, proper}
 use Rattle.scheme_model.specs.Kinds.{Name as NameLeaf, Numeral, Quoted, Character, Truth}
-use Rattle.scheme_model.specs.Data.{Atom, spelled, implied, Datum, atom, list, vector, bytes, Data, none, part, tail, place_of}
+use Rattle.scheme_model.specs.Data.{Atom, spelled, implied, Datum, atom, list, vector, bytes, Data, none, part, tail}
 use Rattle.scheme_model.specs.DataTrees.{atom_tree, tree_of, parts_of, end_of}
 use Rattle.scheme_model.specs.ExpansionFaults.{Fault}
 use Rattle.scheme_model.specs.Meaning.{Meaning, Local, Global, Standard, Free}
@@ -22,7 +22,7 @@ use Rattle.scheme_model.specs.Order.{is_some}
 use Rattle.scheme_model.specs.FrameImages.{frame_image, image_outside, DefinesOutside}
 use Rattle.scheme_model.specs.Prelude.{PreludeMacro, prelude}
 use Rattle.scheme_model.specs.Entries.{Entry}
-use Rattle.scheme_model.specs.Declarations.{UnitForm}
+use Rattle.scheme_model.specs.Declarations.{UnitForm, home_of}
 use Rattle.scheme_model.specs.Program.{Document, known_in, units_of, prepare, Placed, Prepared, WholeFault, fault_before, SetResult, UnitResult, Progress, result_at, unit_entries, with_entries, form_trees, start_of, enough_turns, broken_result, unit_result, expanded_unit, by_fault, is_ready, first_ready, worked, work, written_rules, is_standard, prelude_unit, prelude_entry, prelude_meaning, prelude_macro, prelude_definitions, progress_before, in_order, program_of}
 use Rattle.scheme_model.specs.ScopedProgram.{ScopedProgress, forms_over, scoped_start_of, scoped_unit_over, numbered_unit_over, scoped_start_after, scoped_expanded, scoped_by_fault, scoped_worked, scoped_work, prelude_rules, scoped_prelude_macro, scoped_before, scoped_program_of, imaged_macro, imaged}
 use Rattle.scheme_model.proofs.RenamingLaws.{map_after}
@@ -77,25 +77,25 @@ forms_mapped f written w form [] = refl
 forms_mapped {A} {B} f written w form (x ∷ fs) = go x.declared (forms_mapped f written w (suc form) fs)
   where
     go : (t : Bool) → map (form_mapped f) (forms_over written w (suc form) fs) ≡ forms_over (λ s. f (written s)) w (suc form) fs
-        → map (form_mapped f) (cond t (forms_over written w (suc form) fs) ((form, tree_of written (placed_in w form (place_of x.datum).first) x.datum) ∷ forms_over written w (suc form) fs))
-        ≡ cond t (forms_over (λ s. f (written s)) w (suc form) fs) ((form, tree_of (λ s. f (written s)) (placed_in w form (place_of x.datum).first) x.datum) ∷ forms_over (λ s. f (written s)) w (suc form) fs)
+        → map (form_mapped f) (cond t (forms_over written w (suc form) fs) ((form, tree_of written (placed_by (home_of w form x)) x.datum) ∷ forms_over written w (suc form) fs))
+        ≡ cond t (forms_over (λ s. f (written s)) w (suc form) fs) ((form, tree_of (λ s. f (written s)) (placed_by (home_of w form x)) x.datum) ∷ forms_over (λ s. f (written s)) w (suc form) fs)
     go true h = h
-    go false h = let e = tree_over f written (placed_in w form (place_of x.datum).first) x.datum in λ j. (form, e j) ∷ h j
+    go false h = let e = tree_over f written (placed_by (home_of w form x)) x.datum in λ j. (form, e j) ∷ h j
 
 forms_same : (w form : ℕ) (fs : List UnitForm) → forms_over (WrittenName w) w form fs ≡ form_trees w form fs
 forms_same w form [] = refl
-forms_same w form (x ∷ fs) = ap (λ (r : List (ℕ × Tree Name)). cond x.declared r ((form, tree_of (WrittenName w) (placed_in w form (place_of x.datum).first) x.datum) ∷ r)) (forms_same w (suc form) fs)
+forms_same w form (x ∷ fs) = ap (λ (r : List (ℕ × Tree Name)). cond x.declared r ((form, tree_of (WrittenName w) (placed_by (home_of w form x)) x.datum) ∷ r)) (forms_same w (suc form) fs)
 
 module _ (P : Ident → Type 0) (w : ℕ) (written : (s : List ℕ) → P (Written w s)) where
   forms_all : (fs : List UnitForm) (form : ℕ) → AllOf (λ (t : ℕ × Tree Ident). TreeAll P t.1) (forms_over (Written w) w form fs)
   forms_all [] form = tt
   forms_all (x ∷ fs) form = go x.declared (forms_all fs (suc form))
     where
-      one : TreeAll P (tree_of (Written w) (placed_in w form (place_of x.datum).first) x.datum)
-      one = subst (TreeAll P) (tree_over (λ (p : (i : Ident) × P i). p.0) (λ s. (Written w s, written s)) (placed_in w form (place_of x.datum).first) x.datum) (all_held P (tree_of (λ s. (Written w s, written s)) (placed_in w form (place_of x.datum).first) x.datum))
+      one : TreeAll P (tree_of (Written w) (placed_by (home_of w form x)) x.datum)
+      one = subst (TreeAll P) (tree_over (λ (p : (i : Ident) × P i). p.0) (λ s. (Written w s, written s)) (placed_by (home_of w form x)) x.datum) (all_held P (tree_of (λ s. (Written w s, written s)) (placed_by (home_of w form x)) x.datum))
 
       go : (t : Bool) → AllOf (λ (t : ℕ × Tree Ident). TreeAll P t.1) (forms_over (Written w) w (suc form) fs)
-          → AllOf (λ (t : ℕ × Tree Ident). TreeAll P t.1) (cond t (forms_over (Written w) w (suc form) fs) ((form, tree_of (Written w) (placed_in w form (place_of x.datum).first) x.datum) ∷ forms_over (Written w) w (suc form) fs))
+          → AllOf (λ (t : ℕ × Tree Ident). TreeAll P t.1) (cond t (forms_over (Written w) w (suc form) fs) ((form, tree_of (Written w) (placed_by (home_of w form x)) x.datum) ∷ forms_over (Written w) w (suc form) fs))
       go true h = h
       go false h = (one, h)
 

@@ -3,7 +3,8 @@ use Rattle.std.specs.Prelude.{ℕ, List, map, Some, None, codes}
 use Rattle.std.specs.List.{join_with_byte}
 use Rattle.std.specs.Str.{encode_utf8_all}
 use Rattle.scheme_model.specs.declared.Occ.{Occ}
-use Rattle.scheme_model.specs.Trees.{Tree, name, atom as atom_of, Numeral as NumeralAtom, Quoted as QuotedAtom, Character as CharacterAtom, Boolean, Bytes, list as list_of, vector as vector_of, Trees, no_trees, tree, Tail, proper, dotted, placed_in}
+use Rattle.scheme_model.specs.declared.Home.{Home}
+use Rattle.scheme_model.specs.Trees.{Tree, name, atom as atom_of, Numeral as NumeralAtom, Quoted as QuotedAtom, Character as CharacterAtom, Boolean, Bytes, list as list_of, vector as vector_of, Trees, no_trees, tree, Tail, proper, dotted, placed_in, placed_by}
 use Rattle.scheme_model.specs.Kinds.{Mark, Quote, Quasi, Unquote, Splice, Name, Numeral, Quoted, Character, Truth}
 use Rattle.scheme_model.specs.Identifiers.{Name as Identifier, Written}
 use Rattle.scheme_model.specs.Data.{Atom, spelled, implied, Datum, atom, list, vector, bytes, Data, none, part, tail, place_of}
@@ -47,3 +48,7 @@ abbrev mutual
 -- a datum as a form of a unit: a token's number counts from the form's first
 abbrev pub form_of : ℕ → ℕ → Datum → Tree Identifier
 form_of unit form d = tree_of (Written unit) (placed_in unit form (place_of d).first) d
+
+-- the same of a text with another home: its symbols are written in the unit that takes it
+abbrev pub form_as : (into : ℕ) → Home → Datum → Tree Identifier
+form_as into h d = tree_of (Written into) (placed_by h) d

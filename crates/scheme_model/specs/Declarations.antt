@@ -1,7 +1,9 @@
 -- What a document holds (R7RS 5.1, 5.6.1): libraries, whose declarations are flattened, and a program.
-use Rattle.std.specs.Prelude.{ℕ, List, [], ◌∷◌, ◌++◌, map, filter, Bool, true, false, not, ◌&&◌, ◌||◌, Option, Some, None, Result, Ok, Err, codes, if◌then◌else◌}
+use Rattle.std.specs.Prelude.{ℕ, zero, suc, ◌+◌, ◌==◌, nat_le, List, [], ◌∷◌, ◌++◌, map, filter, Bool, true, false, not, ◌&&◌, ◌||◌, Option, Some, None, Result, Ok, Err, codes, if◌then◌else◌}
 use Rattle.std.specs.Option.{is_some}
 use Rattle.std.specs.Str.{bytes_eq, encode_utf8_all}
+use Rattle.scheme_model.specs.declared.Home.{Home}
+use Rattle.scheme_model.specs.declared.Occ.{Occ}
 use Rattle.scheme_model.specs.Kinds.{Leaf, Name, Numeral, Quoted, Character, Truth}
 use Rattle.scheme_model.specs.Data.{Atom, spelled, implied, Datum, atom, list, vector, bytes, Data, none, part, tail, Place, place_of}
 use Rattle.scheme_model.specs.DataTrees.{mark_symbol, tree_of}
@@ -59,13 +61,47 @@ is_headed s (list p (part d ds)) = is_symbol s (symbol_in d)
 
 -- ---- declarations
 
--- a form of a unit, and whether it is an import or an export, or stands in the place of one
+-- a form of a unit, whether it is an import or an export, or stands in the place of one, and the home of its text where that is
+-- included
 pub record UnitForm : Type 0 where
   pub datum : Datum
   pub declared : Bool
+  pub home : Option Home
 
+-- forms of the unit's own text
 abbrev pub plain_form : Datum → UnitForm
-plain_form d = record { datum = d; declared = false }
+plain_form d = record { datum = d; declared = false; home = None }
+
+abbrev pub declared_form : Datum → UnitForm
+declared_form d = record { datum = d; declared = true; home = None }
+
+-- a text that isn't included is at home in its own unit
+abbrev pub home_or : (unit form : ℕ) → Datum → Option Home → Home
+home_or unit form d None = record { unit = unit; form = form; first = (place_of d).first }
+home_or unit form d (Some h) = h
+
+-- the unit where it is at home
+abbrev pub unit_or : (unit : ℕ) → Option Home → ℕ
+unit_or unit None = unit
+unit_or unit (Some h) = h.unit
+
+-- the home of the form with a number
+abbrev pub home_of : (unit form : ℕ) → UnitForm → Home
+home_of unit form f = home_or unit form f.datum f.home
+
+-- an occurrence is that of a token of a datum whose text has this home
+abbrev pub is_token_of : Home → Datum → Occ → Bool
+is_token_of h d o = h.unit == o.unit && (h.form == o.form && (nat_le (place_of d).first (h.first + o.token) && nat_le (h.first + o.token) (place_of d).last))
+
+-- an occurrence is that of a token of the n-th of forms that are numbered from one on
+abbrev pub holds_at : (unit form : ℕ) → List UnitForm → (n : ℕ) → Occ → Bool
+holds_at unit form [] n o = false
+holds_at unit form (f ∷ fs) zero o = is_token_of (home_of unit form f) f.datum o
+holds_at unit form (f ∷ fs) (suc n) o = holds_at unit (suc form) fs n o
+
+-- the form of a unit with a number holds an occurrence
+abbrev pub forms_hold : (unit : ℕ) → List UnitForm → (form : ℕ) → Occ → Bool
+forms_hold unit fs form o = holds_at unit 0 fs form o
 
 -- the forms, or the first bad declaration
 abbrev pub Flat : Type 0
@@ -173,11 +209,11 @@ declared_by (Some s) =
 
 -- a declaration whose parts behind the head are these, and whose clauses, were it a choice, are those
 abbrev pub declared_as : Known → Declared → Datum → Option (List Datum) → Result (List Clause) Datum → Flat
-declared_as known Exports d parts clauses = parts_or d parts >>= λ ds. if all_export_parts ds then Ok (record { datum = d; declared = true } ∷ []) else Err d
-declared_as known Imports d parts clauses = parts_or d parts >>= λ ds. Ok (record { datum = d; declared = true } ∷ [])
+declared_as known Exports d parts clauses = parts_or d parts >>= λ ds. if all_export_parts ds then Ok (declared_form d ∷ []) else Err d
+declared_as known Imports d parts clauses = parts_or d parts >>= λ ds. Ok (declared_form d ∷ [])
 declared_as known Begins d parts clauses = parts_or d parts >>= λ ds. Ok (map plain_form ds)
 declared_as known Chooses d parts clauses = flat_of (clauses >>= some_clauses d >>= chosen_clause known d)
-declared_as known Includes d parts clauses = parts_or d parts >>= λ ds. Ok (record { datum = d; declared = true } ∷ [])
+declared_as known Includes d parts clauses = parts_or d parts >>= λ ds. Ok (declared_form d ∷ [])
 declared_as known Undeclared d parts clauses = Err d
 
 -- ends of rows: a proper list alone is a list of clauses or declarations
@@ -264,7 +300,7 @@ is_proper d = is_some (list_parts d)
 -- the leading proper lists headed by `import` are a program's imports
 abbrev pub program_forms : List Datum → List UnitForm
 program_forms [] = []
-program_forms (d ∷ ds) = if is_headed (codes "import") d && is_proper d then record { datum = d; declared = true } ∷ program_forms ds else map plain_form (d ∷ ds)
+program_forms (d ∷ ds) = if is_headed (codes "import") d && is_proper d then declared_form d ∷ program_forms ds else map plain_form (d ∷ ds)
 
 abbrev pub program_in : List Datum → List UnitSource
 program_in [] = []

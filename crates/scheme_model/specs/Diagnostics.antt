@@ -11,7 +11,7 @@ use Rattle.scheme_model.specs.Steps.{Broken}
 use Rattle.scheme_model.specs.UnitExpansion.{Formed}
 use Rattle.scheme_model.specs.Substitution.{Table}
 use Rattle.scheme_model.specs.Entries.{Entry, entry_at, ImportFault, NotThere, Clash, BadSet, is_below}
-use Rattle.scheme_model.specs.Declarations.{UnitForm}
+use Rattle.scheme_model.specs.Declarations.{UnitForm, unit_or, forms_hold}
 use Rattle.scheme_model.specs.Program.{Prepared, UnitResult, Program, ImportSpec, ExportSpec, WholeFault, TooMany, BadDeclaration, DefinedTwice, ImportCycle, TooLarge, SetResult, Unknown, Faulty, Gives, ExportFault, NotDefined, SameExport, whole_code, result_at, imports_nothing}
 use Rattle.scheme_model.specs.DiagnosticTexts.{worded}
 use Rattle.scheme_model.specs.Live.{CoreLeaf, Binds, Uses, Assigns, Quotes, Defines, unit_leaves}
@@ -50,16 +50,31 @@ pub record Bytes : Type 0 where
   pub document : ℕ
   pub span : Span
 
-abbrev pub in_unit : List (List Span) → Option UnitResult → Occ → Bytes
-in_unit spans None o = record { document = 0; span = record { start = 0; end = 0 } }
-in_unit spans (Some r) o = record {
-  document = r.unit.placed.document;
-  span = span_at (spans_at spans r.unit.placed.document) (first_token r.unit.forms o.form + o.token);
-}
+abbrev pub document_if : Option UnitResult → ℕ
+document_if None = 0
+document_if (Some r) = r.unit.placed.document
+
+-- the document of the unit with a number
+abbrev pub document_of : List UnitResult → (unit : ℕ) → ℕ
+document_of rs unit = document_if (result_at rs unit)
+
+-- the unit where the text of the form with a number is at home: this one, unless that text is included
+abbrev pub home_unit : (unit : ℕ) → List UnitForm → (form : ℕ) → ℕ
+home_unit unit [] n = unit
+home_unit unit (f ∷ fs) zero = unit_or unit f.home
+home_unit unit (f ∷ fs) (suc n) = home_unit unit fs n
+
+abbrev pub in_document : List (List Span) → (document token : ℕ) → Bytes
+in_document spans document token = record { document = document; span = span_at (spans_at spans document) token }
+
+-- a token of a form by its number there: in the document of the unit where the form's text is at home
+abbrev pub in_unit : List (List Span) → List UnitResult → Option UnitResult → Occ → Bytes
+in_unit spans rs None o = record { document = 0; span = record { start = 0; end = 0 } }
+in_unit spans rs (Some r) o = in_document spans (document_of rs (home_unit o.unit r.unit.forms o.form)) (first_token r.unit.forms o.form + o.token)
 
 -- where an occurrence stands
 abbrev pub bytes_of : List (List Span) → List UnitResult → Occ → Bytes
-bytes_of spans rs o = in_unit spans (result_at rs o.unit) o
+bytes_of spans rs o = in_unit spans rs (result_at rs o.unit) o
 
 -- a code that names something
 abbrev pub at_bytes : Bytes → (code : ℕ) → (names : List ℕ) → Diagnostic
@@ -78,26 +93,30 @@ fault_names f = named_or (fault_name f) (error_text f)
 
 -- ---- the diagnostics of a unit
 
--- what a fault names stands in its own form, or the fault stands where the form was read
-abbrev pub fault_occ : ℕ → ℕ → Option (Named Ident) → Option Occ → Option Occ
-fault_occ unit form None here = here
-fault_occ unit form (Some n) here = in_form unit form n.occ here
-  where
-    in_form : ℕ → ℕ → Option Occ → Option Occ → Option Occ
-    in_form unit form None here = here
-    in_form unit form (Some o) here = if (o.unit == unit) && (o.form == form) then Some o else here
+-- the place of what a fault names
+abbrev pub named_occ : {A : Type 0} → Option (Named A) → Option Occ
+named_occ None = None
+named_occ (Some n) = n.occ
 
+-- what a fault names stands there, if that is a token of its form, or else the fault stands where the form was read
+abbrev pub fault_occ : (holds : Occ → Bool) → (named here : Option Occ) → Option Occ
+fault_occ holds None here = here
+fault_occ holds (Some o) here = if holds o then Some o else here
+
+-- a form's first token is told by the form's unit and number, also where its text is included
 abbrev pub or_start : ℕ → ℕ → Option Occ → Occ
 or_start unit form (Some o) = o
 or_start unit form None = record { unit = unit; form = form; token = 0 }
 
-abbrev pub form_diagnostics : (Occ → Bytes) → ℕ → List Formed → List Diagnostic
-form_diagnostics bytes unit [] = []
-form_diagnostics bytes unit (f ∷ fs) = of_result bytes unit f.result f.form ++ form_diagnostics bytes unit fs
+-- by the tokens that the form with a number holds
+abbrev pub form_diagnostics : (Occ → Bytes) → (holds : ℕ → Occ → Bool) → ℕ → List Formed → List Diagnostic
+form_diagnostics bytes holds unit [] = []
+form_diagnostics bytes holds unit (f ∷ fs) = of_result bytes holds unit f.result f.form ++ form_diagnostics bytes holds unit fs
   where
-    of_result : (Occ → Bytes) → ℕ → Result Parts Broken → ℕ → List Diagnostic
-    of_result bytes unit (Ok ps) form = []
-    of_result bytes unit (Err e) form = at_bytes (bytes (or_start unit form (fault_occ unit form (fault_name e.fault) e.here))) (fault_code e.fault) (fault_names e.fault) ∷ []
+    of_result : (Occ → Bytes) → (ℕ → Occ → Bool) → ℕ → Result Parts Broken → ℕ → List Diagnostic
+    of_result bytes holds unit (Ok ps) form = []
+    of_result bytes holds unit (Err e) form =
+        at_bytes (bytes (or_start unit form (fault_occ (holds form) (named_occ (fault_name e.fault)) e.here))) (fault_code e.fault) (fault_names e.fault) ∷ []
 
 abbrev pub datum_bytes : ℕ → Datum → Bytes
 datum_bytes document d = record { document = document; span = record { start = (place_of d).start; end = (place_of d).end } }
@@ -116,12 +135,17 @@ import_fault bytes set (NotThere n) = at_bytes (bytes_or bytes set n.occ) 51 n.n
 import_fault bytes set (Clash s) = at_bytes set 52 s
 import_fault bytes set BadSet = at_bytes set 53 []
 
-abbrev pub set_diagnostics : (Occ → Bytes) → ℕ → List ImportSpec → List SetResult → List Diagnostic
+-- what a set in a document came to
+abbrev pub set_found : (Occ → Bytes) → (document : ℕ) → ImportSpec → SetResult → List Diagnostic
+set_found bytes document s Unknown = at_bytes (datum_bytes document s.library) 102 [] ∷ []
+set_found bytes document s (Faulty f) = import_fault bytes (datum_bytes document s.whole) f ∷ []
+set_found bytes document s (Gives es clashes) = clash_diagnostics (datum_bytes document s.whole) clashes
+
+-- each set in the document of its unit
+abbrev pub set_diagnostics : (Occ → Bytes) → (document : ℕ → ℕ) → List ImportSpec → List SetResult → List Diagnostic
 set_diagnostics bytes document [] rs = []
 set_diagnostics bytes document (s ∷ ss) [] = []
-set_diagnostics bytes document (s ∷ ss) (Unknown ∷ rs) = at_bytes (datum_bytes document s.library) 102 [] ∷ set_diagnostics bytes document ss rs
-set_diagnostics bytes document (s ∷ ss) (Faulty f ∷ rs) = import_fault bytes (datum_bytes document s.whole) f ∷ set_diagnostics bytes document ss rs
-set_diagnostics bytes document (s ∷ ss) (Gives es clashes ∷ rs) = clash_diagnostics (datum_bytes document s.whole) clashes ++ set_diagnostics bytes document ss rs
+set_diagnostics bytes document (s ∷ ss) (r ∷ rs) = set_found bytes (document s.unit) s r ++ set_diagnostics bytes document ss rs
 
 -- at an export's external name, or its declaration's first token
 abbrev pub export_bytes : (Occ → Bytes) → ℕ → ExportSpec → Bytes
@@ -182,26 +206,27 @@ is_empty (x ∷ xs) = false
 abbrev pub unit_start : List (List Span) → Prepared → Bytes
 unit_start spans p = record { document = p.placed.document; span = span_at (spans_at spans p.placed.document) p.placed.source.start.first }
 
-abbrev pub whole_bytes : List (List Span) → Prepared → WholeFault → Bytes
-whole_bytes spans p TooMany = unit_start spans p
-whole_bytes spans p (BadDeclaration d) = datum_bytes p.placed.document d
-whole_bytes spans p DefinedTwice = unit_start spans p
-whole_bytes spans p ImportCycle = unit_start spans p
-whole_bytes spans p TooLarge = unit_start spans p
+-- a bad declaration stands in the document of its unit
+abbrev pub whole_bytes : List (List Span) → (document : ℕ → ℕ) → Prepared → WholeFault → Bytes
+whole_bytes spans document p TooMany = unit_start spans p
+whole_bytes spans document p (BadDeclaration unit d) = datum_bytes (document unit) d
+whole_bytes spans document p DefinedTwice = unit_start spans p
+whole_bytes spans document p ImportCycle = unit_start spans p
+whole_bytes spans document p TooLarge = unit_start spans p
 
-abbrev pub whole_fault : List (List Span) → Prepared → WholeFault → Diagnostic
-whole_fault spans p f = at_bytes (whole_bytes spans p f) (whole_code f) []
+abbrev pub whole_fault : List (List Span) → (document : ℕ → ℕ) → Prepared → WholeFault → Diagnostic
+whole_fault spans document p f = at_bytes (whole_bytes spans document p f) (whole_code f) []
 
 abbrev pub inner_diagnostics : List (List Span) → Program → UnitResult → List Diagnostic → List Diagnostic
 inner_diagnostics spans p r sets =
-    sets ++ export_diagnostics (bytes_of spans p.units) r.unit.number r.export_faults ++ form_diagnostics (bytes_of spans p.units) r.unit.number r.forms ++
+    sets ++ export_diagnostics (bytes_of spans p.units) r.unit.number r.export_faults ++ form_diagnostics (bytes_of spans p.units) (forms_hold r.unit.number r.unit.forms) r.unit.number r.forms ++
     hiding_diagnostics (bytes_of spans p.units) r.unit.number r.forms r.entries p.table ++
     (if is_empty sets then unbound_diagnostics (bytes_of spans p.units) (unit_leaves r.forms) else []) ++
     (if imports_nothing r.unit then at_bytes (unit_start spans r.unit) 104 [] ∷ [] else [])
 
 abbrev pub unit_diagnostics : List (List Span) → Program → UnitResult → Option WholeFault → List Diagnostic
-unit_diagnostics spans p r (Some f) = whole_fault spans r.unit f ∷ []
-unit_diagnostics spans p r None = inner_diagnostics spans p r (set_diagnostics (bytes_of spans p.units) r.unit.placed.document r.unit.specs r.sets)
+unit_diagnostics spans p r (Some f) = whole_fault spans (document_of p.units) r.unit f ∷ []
+unit_diagnostics spans p r None = inner_diagnostics spans p r (set_diagnostics (bytes_of spans p.units) (document_of p.units) r.unit.specs r.sets)
 
 abbrev pub all_diagnostics : List (List Span) → Program → List UnitResult → List Diagnostic
 all_diagnostics spans p [] = []

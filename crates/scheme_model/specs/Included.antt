@@ -1,25 +1,20 @@
 -- What texts give where they are included (R7RS 4.1.7, 5.6.1): an included text stands in the place of the list that includes it. Lists
 -- that include are replaced in three places: among the data of a program or of a text that is included so, among those of a library's
 -- `begin`, and as a declaration.
-use Rattle.std.specs.Prelude.{ℕ, zero, suc, ◌+◌, ◌-◌, ◌==◌, nat_lt, List, [], ◌∷◌, ◌++◌, map, length, Bool, true, false, not, ◌&&◌, ◌||◌, Option, Some, None, Result, Ok, Err, codes, if◌then◌else◌}
+use Rattle.std.specs.Prelude.{ℕ, zero, suc, ◌+◌, ◌-◌, ◌==◌, nat_lt, List, [], ◌∷◌, ◌++◌, map, length, Bool, true, false, ◌&&◌, Option, Some, None, Result, Ok, Err, codes, if◌then◌else◌}
 use Rattle.std.specs.List.{list_any}
-use Rattle.scheme_model.specs.Data.{Datum, atom, list, vector, bytes, Data, none, part, tail, Place, place_of}
+use Rattle.scheme_model.specs.declared.Home.{Home}
+use Rattle.scheme_model.specs.Data.{Datum, atom, list, vector, bytes, Data, none, part, tail, place_of}
 use Rattle.scheme_model.specs.Trees.{Tree, Trees, no_trees, tree}
 use Rattle.scheme_model.specs.ExpansionFaults.{Fault}
 use Rattle.scheme_model.specs.Requirements.{Known, clause_holds}
-use Rattle.scheme_model.specs.Declarations.{Declared, Exports, Imports, Begins, Chooses, Includes as IncludesText, Undeclared, declared_by, symbol_in, symbol_tree, proper_parts, list_parts, is_headed, all_export_parts}
+use Rattle.scheme_model.specs.Declarations.{Declared, Exports, Imports, Begins, Chooses, Includes as IncludesText, Undeclared, declared_by, symbol_in, symbol_tree, proper_parts, is_headed, all_export_parts}
 use Rattle.scheme_model.specs.Includes.{StringAt, includes, includes_declarations, Document, data_of, document_at, is_among, program_data, program_number}
 
 -- ---- forms with their homes
 
--- where the text of an included form stands: the unit of its document's program, and the datum there that it is or stands in, by its number
--- among the data of that program and by its first token
-pub record Home : Type 0 where
-  pub unit : ℕ
-  pub form : ℕ
-  pub first : ℕ
-
--- a datum that is gone through, the document in whose text it stands, and its home where that text is included
+-- a datum that is gone through, the document in whose text it stands, and its home where that text is included: the unit of its
+-- document's program, and the datum there that it is or stands in, by its number among the data of that program and by its first token
 pub record Homed : Type 0 where
   pub document : ℕ
   pub home : Option Home

@@ -1,17 +1,17 @@
 -- The units of documents that include texts (R7RS 4.1.7, 5.1, 5.6.1): the forms of each with their homes, what breaks it before names
 -- are looked at, and the strings in it that mean no text.
-use Rattle.std.specs.Prelude.{ℕ, zero, suc, ◌+◌, ◌==◌, nat_le, List, [], ◌∷◌, ◌++◌, map, filter, length, Bool, true, false, not, ◌&&◌, Option, Some, None, Result, Ok, Err, codes, if◌then◌else◌, ◌^◌}
-use Rattle.std.specs.Option.{is_some}
+use Rattle.std.specs.Prelude.{ℕ, suc, ◌+◌, ◌==◌, nat_le, List, [], ◌∷◌, ◌++◌, map, length, Bool, true, false, not, ◌&&◌, Option, Some, None, codes, if◌then◌else◌, ◌^◌}
 use Rattle.std.specs.List.{list_any}
+use Rattle.scheme_model.specs.declared.Home.{Home}
 use Rattle.scheme_model.specs.declared.Occ.{Occ}
-use Rattle.scheme_model.specs.Identifiers.{Name, Written}
+use Rattle.scheme_model.specs.Identifiers.{Name}
 use Rattle.scheme_model.specs.Data.{Datum, Data, none, part, tail, Place, place_of}
-use Rattle.scheme_model.specs.DataTrees.{tree_of}
-use Rattle.scheme_model.specs.Trees.{Tree, placed_in}
+use Rattle.scheme_model.specs.DataTrees.{form_as}
+use Rattle.scheme_model.specs.Trees.{Tree, placed_by}
 use Rattle.scheme_model.specs.Requirements.{LibraryName, Known, library_name_of}
-use Rattle.scheme_model.specs.Declarations.{UnitKind, IsLibrary, IsProgram, name_or, behind_head, is_headed, is_library, is_proper, symbol_tree}
-use Rattle.scheme_model.specs.Includes.{Document, data_of, Naming, naming, is_on_circle, is_part, usable, program_data, has_program, max_units}
-use Rattle.scheme_model.specs.Included.{Home, Homed, FlatForm, LostString, Listing, Lists, BadAfter, TooLong, Texts, bad, forms_of, declarations, Sources, all_texts, included_data}
+use Rattle.scheme_model.specs.Declarations.{home_or, is_token_of, UnitKind, IsLibrary, IsProgram, name_or, behind_head, is_headed, is_library, is_proper, symbol_tree}
+use Rattle.scheme_model.specs.Includes.{Document, data_of, Naming, naming, is_on_circle, is_part, usable, program_data, max_units}
+use Rattle.scheme_model.specs.Included.{Homed, FlatForm, LostString, Listing, Lists, BadAfter, TooLong, Texts, bad, forms_of, declarations, Sources, all_texts, included_data}
 
 -- ---- forms of units
 
@@ -22,11 +22,6 @@ pub record IncludedForm : Type 0 where
   pub document : ℕ
   pub declared : Bool
   pub home : Home
-
--- a form that isn't included is at home in its own unit
-abbrev pub home_or : (unit form : ℕ) → Datum → Option Home → Home
-home_or unit form d None = record { unit = unit; form = form; first = (place_of d).first }
-home_or unit form d (Some h) = h
 
 abbrev pub numbered_from : (unit form : ℕ) → List FlatForm → List IncludedForm
 numbered_from unit form [] = []
@@ -39,7 +34,7 @@ numbered_from unit form (f ∷ fs) = record {
 
 -- the occurrence of a token of the form's text
 abbrev pub occurrence_in : IncludedForm → ℕ → Occ
-occurrence_in f token = placed_in f.home.unit f.home.form f.home.first token
+occurrence_in f token = placed_by f.home token
 
 -- the occurrence of its first token
 abbrev pub start_of : IncludedForm → Occ
@@ -47,17 +42,11 @@ start_of f = occurrence_in f (place_of f.datum).first
 
 -- the form as it is expanded: its symbols are written in the unit that includes it
 abbrev pub included_tree : (unit : ℕ) → IncludedForm → Tree Name
-included_tree unit f = tree_of (Written unit) (occurrence_in f) f.datum
+included_tree unit f = form_as unit f.home f.datum
 
 -- an occurrence is that of a token of a form
 abbrev pub holds : IncludedForm → Occ → Bool
-holds f o =
-    f.home.unit == o.unit && (f.home.form == o.form && (nat_le (place_of f.datum).first (f.home.first + o.token) && nat_le (f.home.first + o.token) (place_of f.datum).last))
-
--- where a fault stands that names an identifier: there, if that is a token of its form, and else where the form was read that was at work
-abbrev pub fault_place : IncludedForm → (named here : Option Occ) → Option Occ
-fault_place f None here = here
-fault_place f (Some o) here = if holds f o then Some o else here
+holds f o = is_token_of f.home f.datum o
 
 -- ---- units
 

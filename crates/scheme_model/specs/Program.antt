@@ -5,9 +5,10 @@ use Rattle.std.specs.List.{list_any}
 use Rattle.std.specs.Str.{bytes_eq}
 use Rattle.scheme_model.specs.Identifiers.{Name, Written}
 use Rattle.scheme_model.specs.Ident.{Written as WrittenIdent}
-use Rattle.scheme_model.specs.Data.{Datum, place_of}
-use Rattle.scheme_model.specs.DataTrees.{tree_of, form_of}
-use Rattle.scheme_model.specs.Trees.{Tree, name, atom, list, vector, no_trees, tree, proper, placed_in}
+use Rattle.scheme_model.specs.Data.{Datum}
+use Rattle.scheme_model.specs.declared.Home.{Home}
+use Rattle.scheme_model.specs.DataTrees.{tree_of, form_as}
+use Rattle.scheme_model.specs.Trees.{Tree, name, atom, list, vector, no_trees, tree, proper, placed_in, placed_by}
 use Rattle.scheme_model.specs.ExpansionFaults.{Named, Fault, IncludeRefused}
 use Rattle.scheme_model.specs.Meaning.{Meaning, Standard, Global}
 use Rattle.scheme_model.specs.Requirements.{LibraryName, Symbol, same_library, Known}
@@ -18,7 +19,7 @@ use Rattle.scheme_model.specs.UnitExpansion.{Formed, unit}
 use Rattle.scheme_model.specs.Prelude.{PreludeMacro, prelude}
 use Rattle.scheme_model.specs.StandardLibraries.{StandardLibrary, standard_libraries, standard}
 use Rattle.scheme_model.specs.Entries.{StandardName, Entry, entry_at, ImportSet, Library, Only, Except, Prefix, Rename, Bad, set_of, library_in, ImportFault, BadSet, entries_of, gather, place_origin}
-use Rattle.scheme_model.specs.Declarations.{UnitForm, UnitKind, IsLibrary, IsProgram, UnitSource, units_in, library_names, list_parts, is_headed}
+use Rattle.scheme_model.specs.Declarations.{UnitForm, home_of, UnitKind, IsLibrary, IsProgram, UnitSource, units_in, library_names, list_parts, is_headed}
 
 -- ---- the units of the documents
 
@@ -71,8 +72,9 @@ is_include f = is_declared (codes "include") f || (is_declared (codes "include-c
 
 -- ---- imports
 
--- an import set with the data of the set and of its library's name
+-- an import set with the data of the set and of its library's name, and a unit of the document where they stand
 pub record ImportSpec : Type 0 where
+  pub unit : ℕ
   pub set : ImportSet
   pub whole : Datum
   pub library : Datum
@@ -92,12 +94,12 @@ library_datum (Prefix s p) d = library_datum s (second_or d (list_parts d))
 library_datum (Rename s ps) d = library_datum s (second_or d (list_parts d))
 library_datum Bad d = d
 
-abbrev pub spec_with : Datum → ImportSet → ImportSpec
-spec_with d set = record { set = set; whole = d; library = library_datum set d }
+abbrev pub spec_with : (unit : ℕ) → Datum → ImportSet → ImportSpec
+spec_with unit d set = record { unit = unit; set = set; whole = d; library = library_datum set d }
 
--- a set in a form, whose first token has this number
+-- a set in a form, by the form's home
 abbrev pub spec_of : ℕ → ℕ → ℕ → Datum → ImportSpec
-spec_of unit form first d = spec_with d (set_of (tree_of (λ s. s) (placed_in unit form first) d))
+spec_of unit form first d = spec_with unit d (set_of (tree_of (λ s. s) (placed_in unit form first) d))
 
 abbrev pub behind_first : Option (List Datum) → List Datum
 behind_first None = []
@@ -105,7 +107,8 @@ behind_first (Some []) = []
 behind_first (Some (d ∷ ds)) = ds
 
 abbrev pub specs_in : ℕ → ℕ → UnitForm → List ImportSpec
-specs_in unit form f = if is_import f then map (spec_of unit form (place_of f.datum).first) (behind_first (list_parts f.datum)) else []
+specs_in unit form f =
+    let h = home_of unit form f in if is_import f then map (spec_of h.unit h.form h.first) (behind_first (list_parts f.datum)) else []
 
 abbrev pub specs_from : ℕ → ℕ → List UnitForm → List ImportSpec
 specs_from unit form [] = []
@@ -135,13 +138,14 @@ export_of form (list (tree r (tree (atom a p) ts)) tail o) = []
 export_of form (list (tree r (tree (list us end p) ts)) tail o) = []
 export_of form (list (tree r (tree (vector us p) ts)) tail o) = []
 
-abbrev pub exports_with : ℕ → ℕ → ℕ → List Datum → List ExportSpec
-exports_with unit form first [] = []
-exports_with unit form first (d ∷ ds) = export_of form (tree_of (λ s. s) (placed_in unit form first) d) ++ exports_with unit form first ds
+-- the exports in a form with this number and this home
+abbrev pub exports_with : (form : ℕ) → Home → List Datum → List ExportSpec
+exports_with form h [] = []
+exports_with form h (d ∷ ds) = export_of form (tree_of (λ s. s) (placed_by h) d) ++ exports_with form h ds
 
 abbrev pub exports_in : ℕ → ℕ → UnitForm → List ExportSpec
 exports_in unit form f =
-    if is_export f then exports_with unit form (place_of f.datum).first (behind_first (list_parts f.datum)) else []
+    if is_export f then exports_with form (home_of unit form f) (behind_first (list_parts f.datum)) else []
 
 abbrev pub exports_from : ℕ → ℕ → List UnitForm → List ExportSpec
 exports_from unit form [] = []
@@ -151,7 +155,7 @@ exports_from unit form (f ∷ fs) = exports_in unit form f ++ exports_from unit 
 
 pub data WholeFault : Type 0 where
   TooMany : WholeFault
-  BadDeclaration : Datum → WholeFault
+  BadDeclaration : (unit : ℕ) → Datum → WholeFault
   DefinedTwice : WholeFault
   ImportCycle : WholeFault
   TooLarge : WholeFault
@@ -159,7 +163,7 @@ pub data WholeFault : Type 0 where
 -- the code of its diagnostic
 abbrev pub whole_code : WholeFault → ℕ
 whole_code TooMany = 67
-whole_code (BadDeclaration d) = 61
+whole_code (BadDeclaration unit d) = 61
 whole_code DefinedTwice = 63
 whole_code ImportCycle = 62
 whole_code TooLarge = 66
@@ -269,15 +273,16 @@ is_repeated all p = later (name_if p.number p.placed.source)
     later None = false
     later (Some n) = is_some (standard n) || not (is_first (unit_named n 0 all) p.number)
 
-abbrev pub declared_fault : Result (List UnitForm) Datum → Option WholeFault → Option WholeFault
-declared_fault (Ok fs) other = other
-declared_fault (Err d) other = Some (BadDeclaration d)
+-- a bad declaration, in the text of the unit with this number
+abbrev pub declared_fault : (unit : ℕ) → Result (List UnitForm) Datum → Option WholeFault → Option WholeFault
+declared_fault unit (Ok fs) other = other
+declared_fault unit (Err d) other = Some (BadDeclaration unit d)
 
 -- what breaks a unit before its forms are expanded
 abbrev pub fault_before : List Placed → List Prepared → Prepared → Option WholeFault
 fault_before all ps p =
     if nat_le max_units p.number then Some TooMany
-    else declared_fault p.placed.source.forms (if is_repeated all p then Some DefinedTwice else if on_circle ps p then Some ImportCycle else None)
+    else declared_fault p.number p.placed.source.forms (if is_repeated all p then Some DefinedTwice else if on_circle ps p then Some ImportCycle else None)
 
 -- ---- what a unit comes to
 
@@ -376,10 +381,10 @@ with_entries n es before u s = if u == n then entry_meaning (entry_at es s) else
 
 -- ---- the forms
 
--- the forms that are expanded, which aren't declarations
+-- the forms that are expanded, which aren't declarations, each by its number and its home
 abbrev pub form_trees : ℕ → ℕ → List UnitForm → List (ℕ × Tree Name)
 form_trees unit form [] = []
-form_trees unit form (f ∷ fs) = if f.declared then form_trees unit (suc form) fs else (form, form_of unit form f.datum) ∷ form_trees unit (suc form) fs
+form_trees unit form (f ∷ fs) = if f.declared then form_trees unit (suc form) fs else (form, form_as unit (home_of unit form f) f.datum) ∷ form_trees unit (suc form) fs
 
 abbrev pub start_of : Prepared → Table → List KeptMacro → Entries → State
 start_of p table macros entry = record {

@@ -3,9 +3,8 @@
 -- form a local is told by its count alone.
 use Rattle.std.specs.Prelude.{ℕ, zero, suc, List, [], ◌∷◌, map, length, Option, Some, None, Result, Ok, Err, if◌then◌else◌}
 use Rattle.scheme_model.specs.Ident.{Ident, Written}
-use Rattle.scheme_model.specs.Data.{place_of}
 use Rattle.scheme_model.specs.DataTrees.{tree_of}
-use Rattle.scheme_model.specs.Trees.{Tree, placed_in, proper}
+use Rattle.scheme_model.specs.Trees.{Tree, placed_by, proper}
 use Rattle.scheme_model.specs.ExpansionFaults.{Fault}
 use Rattle.scheme_model.specs.Requirements.{Known}
 use Rattle.scheme_model.specs.RulesShape.{Rules, rules_map, rules_parts}
@@ -16,7 +15,7 @@ use Rattle.scheme_model.specs.FrameImages.{frame_image}
 use Rattle.scheme_model.specs.UnitExpansion.{Formed, unit}
 use Rattle.scheme_model.specs.Prelude.{PreludeMacro, prelude}
 use Rattle.scheme_model.specs.Entries.{Entry}
-use Rattle.scheme_model.specs.Declarations.{UnitForm}
+use Rattle.scheme_model.specs.Declarations.{UnitForm, home_of}
 use Rattle.scheme_model.specs.Program.{Document, known_in, Placed, units_of, Prepared, prepare, WholeFault, fault_before, SetResult, UnitResult, Progress, is_program, unit_entries, with_entries, enough_turns, broken_result, unit_result, is_ready, first_ready, prelude_unit, prelude_entry, prelude_meaning, prelude_definitions, Program, in_order}
 
 -- what was expanded so far, as the definition that substitutes has it, with scopes in place of what was substituted
@@ -34,7 +33,7 @@ pub record ScopedProgress : Type 0 where
 abbrev pub forms_over : {A : Type 0} → (List ℕ → A) → ℕ → ℕ → List UnitForm → List (ℕ × Tree A)
 forms_over written unit form [] = []
 forms_over written unit form (f ∷ fs) =
-    if f.declared then forms_over written unit (suc form) fs else (form, tree_of written (placed_in unit form (place_of f.datum).first) f.datum) ∷ forms_over written unit (suc form) fs
+    if f.declared then forms_over written unit (suc form) fs else (form, tree_of written (placed_by (home_of unit form f)) f.datum) ∷ forms_over written unit (suc form) fs
 
 abbrev pub scoped_start_of : Prepared → ScopedProgress → Entries → ScopedState
 scoped_start_of p g entry = record {

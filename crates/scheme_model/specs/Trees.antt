@@ -1,6 +1,7 @@
 -- Trees whose leaves are names of a kind, with the occurrences that they were read at.
 use Rattle.std.specs.Prelude.{ℕ, ◌-◌, Bool, List, Option}
 use Rattle.scheme_model.specs.declared.Occ.{Occ}
+use Rattle.scheme_model.specs.declared.Home.{Home}
 
 -- an atom that isn't an identifier (R7RS 7.1.2): a numeral as written, a string by its characters in UTF-8, a character by
 -- its code, a truth value, or a bytevector by its numerals as written, with one space between each two
@@ -46,3 +47,7 @@ abbrev mutual
 -- a token of a form of a unit, where the form's first token has this number in the text
 abbrev pub placed_in : ℕ → ℕ → ℕ → ℕ → Occ
 placed_in unit form first n = record { unit = unit; form = form; token = n - first }
+
+-- the same by the home of the form's text
+abbrev pub placed_by : Home → ℕ → Occ
+placed_by h n = placed_in h.unit h.form h.first n

@@ -12,3 +12,12 @@ pub struct Occ {
     pub form: u32,
     pub token: u32,
 }
+
+/// Where the text of a form stands: the unit and the form by which the occurrences in it are told, and the number of
+/// that form's first token in its text.
+#[derive(Clone, Copy, Debug, PartialEq, Eq)]
+pub struct Home {
+    pub unit: u32,
+    pub form: u32,
+    pub first: u32,
+}

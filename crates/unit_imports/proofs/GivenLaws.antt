@@ -9,7 +9,7 @@ use Rattle.scheme_model.specs.Requirements.{LibraryName}
 use Rattle.scheme_model.specs.StandardLibraries.{standard}
 use Rattle.scheme_model.specs.Entries as model
 use Rattle.scheme_model.specs.Program.{Placed, Prepared, ImportSpec, is_import, is_program, imports_nothing, base_entries, unit_entries, UnitResult, SetResult, Unknown, Faulty, Gives, standard_entry, unit_exports, unit_named, result_at, exports_if, library_exports, with_exports, of_library, after_set, import_all}
-use Rattle.scheme_model.specs.Diagnostics.{Diagnostic, Bytes, Span, at_bytes, bytes_of, bytes_or, datum_bytes, set_diagnostics, clash_diagnostics, import_fault}
+use Rattle.scheme_model.specs.Diagnostics.{Diagnostic, Bytes, document_of, at_bytes, bytes_of, bytes_or, datum_bytes, set_found, set_diagnostics, clash_diagnostics, import_fault}
 use Rattle.syntax_tree.specs.Names.{Names, KeepsNames}
 use Rattle.syntax_tree.specs.Meant.{AreEntries}
 use Rattle.syntax_tree.specs.declared.units.Entry.{Entry}
@@ -34,7 +34,7 @@ use Rattle.document_units.specs.declared.findings.At.{At}
 use Rattle.document_units.specs.declared.places.Places as code_places
 use Rattle.document_units.specs.Findings.{diagnostic, told_at}
 use Rattle.document_units.specs.Libraries.{library_of}
-use Rattle.document_units.specs.Places.{ArePlaces, bytes_at, number_at, spans_of, start_of}
+use Rattle.document_units.specs.Places.{ArePlaces, bytes_at, number_at, spans_of}
 use Rattle.document_units.specs.Readings.{Read, span_seen}
 use Rattle.unit_imports.specs.Joining.{GatheredAs, GroupsStand}
 use Rattle.unit_imports.specs.SetsGiven.{AreEntriesIf, AreLibraries, ComesTo, ImportsAs, exports_at, set_exports, with_set}
@@ -184,9 +184,9 @@ groups_on old new k gs es h = entries_kept old new k (map finished gs) es h
 pub groups_after : (names : Names) (gs : List Group) (s t : List model.Entry × SetResult) → s ≡ t → GroupsStand names gs t.0 → GroupsStand names gs s.0
 groups_after names gs s t e h = subst (λ (p : List model.Entry × SetResult). GroupsStand names gs p.0) (sym e) h
 
-pub told_after : (bytes : Occ → Bytes) (document : ℕ) (spec : ImportSpec) (old new : List Diagnostic) (s t : List model.Entry × SetResult) → s ≡ t → new ≡ old ++ set_diagnostics bytes document (spec ∷ []) (t.1 ∷ []) →
-    new ≡ old ++ set_diagnostics bytes document (spec ∷ []) (s.1 ∷ [])
-told_after bytes document spec old new s t e h = h ∙ ap (λ (p : List model.Entry × SetResult). old ++ set_diagnostics bytes document (spec ∷ []) (p.1 ∷ [])) (sym e)
+pub told_after : (bytes : Occ → Bytes) (document : ℕ) (spec : ImportSpec) (old new : List Diagnostic) (s t : List model.Entry × SetResult) → s ≡ t → new ≡ old ++ set_found bytes document spec t.1 →
+    new ≡ old ++ set_found bytes document spec s.1
+told_after bytes document spec old new s t e h = h ∙ ap (λ (p : List model.Entry × SetResult). old ++ set_found bytes document spec p.1) (sym e)
 
 -- ---- all sets
 
@@ -195,46 +195,42 @@ drop_at [] n x h = absurd cc
 drop_at (y ∷ xs) zero x h = let same : y ≡ x = cc in ap (λ z. z ∷ xs) same
 drop_at {A} (y ∷ xs) (suc n) x h = let e : suc (n + 1) ≡ suc n + 1 = omega arith in drop_at xs n x h ∙ ap (λ (k : ℕ). x ∷ drop k (y ∷ xs)) e
 
-set_next : (bytes : Occ → Bytes) (document : ℕ) (s : ImportSpec) (ss : List ImportSpec) (r : SetResult) (rs : List SetResult) →
-    set_diagnostics bytes document (s ∷ ss) (r ∷ rs) ≡ set_diagnostics bytes document (s ∷ []) (r ∷ []) ++ set_diagnostics bytes document ss rs
-set_next bytes document s ss Unknown rs = refl
-set_next bytes document s ss (Faulty f) rs = refl
-set_next bytes document s ss (Gives es clashes) rs =
-    ap (λ (ds : List Diagnostic). ds ++ set_diagnostics bytes document ss rs) (sym (append-nil (clash_diagnostics (datum_bytes document s.whole) clashes)))
+abbrev told_of : code_places.Places → List Read → List UnitResult → List ImportSpec → List SetResult → List Diagnostic
+told_of places reads us ss rs = set_diagnostics (bytes_of (spans_of reads) us) (document_of us) ss rs
 
-abbrev told_of : code_places.Places → List Read → List UnitResult → ℕ → List ImportSpec → List SetResult → List Diagnostic
-told_of places reads us document ss rs = set_diagnostics (bytes_of (spans_of reads) us) document ss rs
+-- what one of them gave
+abbrev told_one : List Read → List UnitResult → ImportSpec → SetResult → List Diagnostic
+told_one reads us s r = set_found (bytes_of (spans_of reads) us) (document_of us s.unit) s r
 
 -- what the sets so far gave, and what those that are left are to give
-pub record SetsSoFar (names : Names) (gs : List Group) (before now : List Diagnostic) (places : code_places.Places) (document : ℕ) (all : List Placed) (rs : List UnitResult) (whole rest : List ImportSpec) : Type 0 where
+pub record SetsSoFar (names : Names) (gs : List Group) (before now : List Diagnostic) (places : code_places.Places) (all : List Placed) (rs : List UnitResult) (whole rest : List ImportSpec) : Type 0 where
   pub es : List model.Entry
   pub stand : GroupsStand names gs es
   pub entries : (import_all all rs es rest).0 ≡ (import_all all rs [] whole).0
   pub found : (reads : List Read) (us : List UnitResult) → ArePlaces places reads us →
-      now ++ told_of places reads us document rest (import_all all rs es rest).1 ≡ before ++ told_of places reads us document whole (import_all all rs [] whole).1
+      now ++ told_of places reads us rest (import_all all rs es rest).1 ≡ before ++ told_of places reads us whole (import_all all rs [] whole).1
 
-pub sets_begin : (names : Names) (gs : List Group) (before : List Diagnostic) (places : code_places.Places) (document : ℕ) (all : List Placed) (rs : List UnitResult) (whole : List ImportSpec) → gs ≡ [] →
-    SetsSoFar names gs before before places document all rs whole whole
-sets_begin names gs before places document all rs whole none = record {
+pub sets_begin : (names : Names) (gs : List Group) (before : List Diagnostic) (places : code_places.Places) (all : List Placed) (rs : List UnitResult) (whole : List ImportSpec) → gs ≡ [] →
+    SetsSoFar names gs before before places all rs whole whole
+sets_begin names gs before places all rs whole none = record {
   es = [];
   stand = subst (λ (hs : List Group). GroupsStand names hs []) (sym none) tt;
   entries = refl;
   found = λ reads us are. refl;
 }
 
-pub sets_next : (old new : Names) (gs hs : List Group) (before now more : List Diagnostic) (places : code_places.Places) (document : ℕ) (all : List Placed) (rs : List UnitResult) (whole : List ImportSpec) (i : ℕ) (s : ImportSpec) →
-    slice_get whole i ≡ Some s → (h : SetsSoFar old gs before now places document all rs whole (drop i whole)) → GroupsStand new hs (with_set all rs s.set h.es).0 →
-    ((reads : List Read) (us : List UnitResult) → ArePlaces places reads us → more ≡ now ++ told_of places reads us document (s ∷ []) ((with_set all rs s.set h.es).1 ∷ [])) →
-    SetsSoFar new hs before more places document all rs whole (drop (i + 1) whole)
-sets_next old new gs hs before now more places document all rs whole i s at h stand n = record {
+pub sets_next : (old new : Names) (gs hs : List Group) (before now more : List Diagnostic) (places : code_places.Places) (all : List Placed) (rs : List UnitResult) (whole : List ImportSpec) (i : ℕ) (s : ImportSpec) →
+    slice_get whole i ≡ Some s → (h : SetsSoFar old gs before now places all rs whole (drop i whole)) → GroupsStand new hs (with_set all rs s.set h.es).0 →
+    ((reads : List Read) (us : List UnitResult) → ArePlaces places reads us → more ≡ now ++ told_one reads us s (with_set all rs s.set h.es).1) →
+    SetsSoFar new hs before more places all rs whole (drop (i + 1) whole)
+sets_next old new gs hs before now more places all rs whole i s at h stand n = record {
   es = q.0;
   stand = stand;
   entries = sym (ap (λ (l : List ImportSpec). (import_all all rs h.es l).0) split) ∙ h.entries;
   found = λ reads us are.
-      ap (λ (ds : List Diagnostic). ds ++ told_of places reads us document (drop (i + 1) whole) rest.1) (n reads us are)
-      ∙ append_assoc now (told_of places reads us document (s ∷ []) (q.1 ∷ [])) (told_of places reads us document (drop (i + 1) whole) rest.1)
-      ∙ ap (λ (ds : List Diagnostic). now ++ ds) (sym (set_next (bytes_of (spans_of reads) us) document s (drop (i + 1) whole) q.1 rest.1))
-      ∙ sym (ap (λ (l : List ImportSpec). now ++ told_of places reads us document l (import_all all rs h.es l).1) split) ∙ h.found reads us are;
+      ap (λ (ds : List Diagnostic). ds ++ told_of places reads us (drop (i + 1) whole) rest.1) (n reads us are)
+      ∙ append_assoc now (told_one reads us s q.1) (told_of places reads us (drop (i + 1) whole) rest.1)
+      ∙ sym (ap (λ (l : List ImportSpec). now ++ told_of places reads us l (import_all all rs h.es l).1) split) ∙ h.found reads us are;
 }
   where
     q : List model.Entry × SetResult
@@ -247,23 +243,23 @@ sets_next old new gs hs before now more places document all rs whole i s at h st
     split = drop_at whole i s at
 
 -- the same with their Errors, by the forms of the sets
-pub record SetsTold (names : Names) (gs : List Group) (before now : List Diagnostic) (places : code_places.Places) (document : ℕ) (all : List Placed) (rs : List UnitResult) (whole rest : List ImportSpec) (whole_forms rest_forms : List ℕ) (errors_before errors_now : List (ℕ × ℕ)) : Type 0 where
-  pub sets : SetsSoFar names gs before now places document all rs whole rest
+pub record SetsTold (names : Names) (gs : List Group) (before now : List Diagnostic) (places : code_places.Places) (all : List Placed) (rs : List UnitResult) (whole rest : List ImportSpec) (whole_forms rest_forms : List ℕ) (errors_before errors_now : List (ℕ × ℕ)) : Type 0 where
+  pub sets : SetsSoFar names gs before now places all rs whole rest
   pub errors : length whole_forms ≡ length whole → errors_now ++ set_errors (zip rest_forms (import_all all rs sets.es rest).1) ≡ errors_before ++ set_errors (zip whole_forms (import_all all rs [] whole).1)
 
-pub sets_told_begin : (names : Names) (gs : List Group) (before : List Diagnostic) (places : code_places.Places) (document : ℕ) (all : List Placed) (rs : List UnitResult) (whole : List ImportSpec) (fs : List ℕ) (es : List (ℕ × ℕ)) → gs ≡ [] →
-    SetsTold names gs before before places document all rs whole whole fs fs es es
+pub sets_told_begin : (names : Names) (gs : List Group) (before : List Diagnostic) (places : code_places.Places) (all : List Placed) (rs : List UnitResult) (whole : List ImportSpec) (fs : List ℕ) (es : List (ℕ × ℕ)) → gs ≡ [] →
+    SetsTold names gs before before places all rs whole whole fs fs es es
 unfolding sets_begin
-sets_told_begin names gs before places document all rs whole fs es none = record { sets = sets_begin names gs before places document all rs whole none; errors = λ many. refl }
+sets_told_begin names gs before places all rs whole fs es none = record { sets = sets_begin names gs before places all rs whole none; errors = λ many. refl }
 
-pub sets_told_next : (old new : Names) (gs hs : List Group) (before now more : List Diagnostic) (places : code_places.Places) (document : ℕ) (all : List Placed) (rs : List UnitResult) (whole : List ImportSpec) (i : ℕ) (s : ImportSpec) (fs : List ℕ) (es es_now es_more : List (ℕ × ℕ)) →
-    slice_get whole i ≡ Some s → (h : SetsTold old gs before now places document all rs whole (drop i whole) fs (drop i fs) es es_now) → GroupsStand new hs (with_set all rs s.set h.sets.es).0 →
-    ((reads : List Read) (us : List UnitResult) → ArePlaces places reads us → more ≡ now ++ told_of places reads us document (s ∷ []) ((with_set all rs s.set h.sets.es).1 ∷ [])) →
+pub sets_told_next : (old new : Names) (gs hs : List Group) (before now more : List Diagnostic) (places : code_places.Places) (all : List Placed) (rs : List UnitResult) (whole : List ImportSpec) (i : ℕ) (s : ImportSpec) (fs : List ℕ) (es es_now es_more : List (ℕ × ℕ)) →
+    slice_get whole i ≡ Some s → (h : SetsTold old gs before now places all rs whole (drop i whole) fs (drop i fs) es es_now) → GroupsStand new hs (with_set all rs s.set h.sets.es).0 →
+    ((reads : List Read) (us : List UnitResult) → ArePlaces places reads us → more ≡ now ++ told_one reads us s (with_set all rs s.set h.sets.es).1) →
     es_more ≡ es_now ++ set_errors ((number_at fs i, (with_set all rs s.set h.sets.es).1) ∷ []) →
-    SetsTold new hs before more places document all rs whole (drop (i + 1) whole) fs (drop (i + 1) fs) es es_more
+    SetsTold new hs before more places all rs whole (drop (i + 1) whole) fs (drop (i + 1) fs) es es_more
 unfolding sets_next
-sets_told_next old new gs hs before now more places document all rs whole i s fs es es_now es_more at h stand n one = record {
-  sets = sets_next old new gs hs before now more places document all rs whole i s at h.sets stand n;
+sets_told_next old new gs hs before now more places all rs whole i s fs es es_now es_more at h stand n one = record {
+  sets = sets_next old new gs hs before now more places all rs whole i s at h.sets stand n;
   errors = λ many.
       let within = slice_get_within whole i s at in
       let q = with_set all rs s.set h.sets.es in
@@ -273,16 +269,16 @@ sets_told_next old new gs hs before now more places document all rs whole i s fs
 }
 
 -- nothing is left
-pub record SetsDone (names : Names) (gs : List Group) (before now : List Diagnostic) (places : code_places.Places) (document : ℕ) (all : List Placed) (rs : List UnitResult) (whole : List ImportSpec) : Type 0 where
+pub record SetsDone (names : Names) (gs : List Group) (before now : List Diagnostic) (places : code_places.Places) (all : List Placed) (rs : List UnitResult) (whole : List ImportSpec) : Type 0 where
   pub stand : GroupsStand names gs (import_all all rs [] whole).0
-  pub found : (reads : List Read) (us : List UnitResult) → ArePlaces places reads us → now ≡ before ++ told_of places reads us document whole (import_all all rs [] whole).1
+  pub found : (reads : List Read) (us : List UnitResult) → ArePlaces places reads us → now ≡ before ++ told_of places reads us whole (import_all all rs [] whole).1
 
-pub sets_done : (names : Names) (gs : List Group) (before now : List Diagnostic) (places : code_places.Places) (document : ℕ) (all : List Placed) (rs : List UnitResult) (whole rest : List ImportSpec) → rest ≡ [] →
-    SetsSoFar names gs before now places document all rs whole rest → SetsDone names gs before now places document all rs whole
-sets_done names gs before now places document all rs whole rest none h = record {
+pub sets_done : (names : Names) (gs : List Group) (before now : List Diagnostic) (places : code_places.Places) (all : List Placed) (rs : List UnitResult) (whole rest : List ImportSpec) → rest ≡ [] →
+    SetsSoFar names gs before now places all rs whole rest → SetsDone names gs before now places all rs whole
+sets_done names gs before now places all rs whole rest none h = record {
   stand = subst (GroupsStand names gs) (ap (λ (l : List ImportSpec). (import_all all rs h.es l).0) (sym none) ∙ h.entries) h.stand;
   found = λ reads us are.
-      sym (append-nil now) ∙ ap (λ (l : List ImportSpec). now ++ told_of places reads us document l (import_all all rs h.es l).1) (sym none) ∙ h.found reads us are;
+      sym (append-nil now) ∙ ap (λ (l : List ImportSpec). now ++ told_of places reads us l (import_all all rs h.es l).1) (sym none) ∙ h.found reads us are;
 }
 
 -- ---- what one set is told as
@@ -291,17 +287,17 @@ whole_is : (document : ℕ) (spelled : LibraryName → List ℕ) (c : code_spec.
 whole_is document spelled c s h = ap (seen_at document) h.whole
 
 pub gives_told : (bytes : Occ → Bytes) (document : ℕ) (spelled : LibraryName → List ℕ) (c : code_spec.ImportSpec) (s : ImportSpec) → IsSpec spelled c s → (es : List model.Entry) (clashes : List (List ℕ)) (old new : List Diagnostic) →
-    new ≡ old ++ clash_diagnostics (seen_at document c.span) clashes → new ≡ old ++ set_diagnostics bytes document (s ∷ []) (Gives es clashes ∷ [])
+    new ≡ old ++ clash_diagnostics (seen_at document c.span) clashes → new ≡ old ++ set_found bytes document s (Gives es clashes)
 gives_told bytes document spelled c s h es clashes old new e =
-    e ∙ ap (λ (b : Bytes). old ++ clash_diagnostics b clashes) (whole_is document spelled c s h) ∙ ap (λ (ds : List Diagnostic). old ++ ds) (sym (append-nil (clash_diagnostics (datum_bytes document s.whole) clashes)))
+    e ∙ ap (λ (b : Bytes). old ++ clash_diagnostics b clashes) (whole_is document spelled c s h)
 
 pub faulty_told : (bytes : Occ → Bytes) (document : ℕ) (spelled : LibraryName → List ℕ) (c : code_spec.ImportSpec) (s : ImportSpec) → IsSpec spelled c s → (f : model.ImportFault) (old new : List Diagnostic) →
-    new ≡ old ++ import_fault bytes (seen_at document c.span) f ∷ [] → new ≡ old ++ set_diagnostics bytes document (s ∷ []) (Faulty f ∷ [])
+    new ≡ old ++ import_fault bytes (seen_at document c.span) f ∷ [] → new ≡ old ++ set_found bytes document s (Faulty f)
 faulty_told bytes document spelled c s h f old new e =
     e ∙ ap (λ (b : Bytes). old ++ import_fault bytes b f ∷ []) (whole_is document spelled c s h)
 
 pub unknown_told : (bytes : Occ → Bytes) (document : ℕ) (spelled : LibraryName → List ℕ) (c : code_spec.ImportSpec) (s : ImportSpec) → IsSpec spelled c s → (old new : List Diagnostic) →
-    new ≡ old ++ at_bytes (seen_at document c.library) 102 [] ∷ [] → new ≡ old ++ set_diagnostics bytes document (s ∷ []) (Unknown ∷ [])
+    new ≡ old ++ at_bytes (seen_at document c.library) 102 [] ∷ [] → new ≡ old ++ set_found bytes document s Unknown
 unknown_told bytes document spelled c s h old new e = e ∙ ap (λ (b : Bytes). old ++ at_bytes b 102 [] ∷ []) (ap (seen_at document) h.library)
 
 -- ---- a unit
@@ -315,13 +311,9 @@ base_case all rs p h = ap (λ (b : Bool). cond b (base_entries, []) (import_all 
 pub sets_case : (all : List Placed) (rs : List UnitResult) (p : Prepared) → imports_nothing p ≡ false → unit_entries all rs p ≡ import_all all rs [] p.specs
 sets_case all rs p h = ap (λ (b : Bool). cond b (base_entries, []) (import_all all rs [] p.specs)) h
 
-pub no_results : (bytes : Occ → Bytes) (document : ℕ) (ss : List ImportSpec) → set_diagnostics bytes document ss [] ≡ []
+pub no_results : (bytes : Occ → Bytes) (document : ℕ → ℕ) (ss : List ImportSpec) → set_diagnostics bytes document ss [] ≡ []
 no_results bytes document [] = refl
 no_results bytes document (s ∷ ss) = refl
-
-pub document_is : (at : At) (spans : List (List Span)) (us : List UnitResult) (unit : ℕ) (r : UnitResult) (p : Prepared) → bytes_at at ≡ start_of spans (result_at us unit) → result_at us unit ≡ Some r → r.unit ≡ p → at.document ≡ p.placed.document
-document_is at spans us unit r p e is same =
-    ap (λ (b : Bytes). b.document) e ∙ ap (λ (o : Option UnitResult). (start_of spans o).document) is ∙ ap (λ (q : Prepared). q.placed.document) same
 
 -- ---- what a fault is told as
 
@@ -350,22 +342,21 @@ pub base_stands : (names : Names) (gs : List Group) (all : List Placed) (rs : Li
 base_stands names gs all rs p spelled c im b e h stand =
     subst (λ (q : List model.Entry × List SetResult). GroupsStand names gs q.0) (sym (base_case all rs p (nothing_is spelled c p im b true e h))) stand
 
-pub base_told : (bytes : Occ → Bytes) (ds : List Diagnostic) (all : List Placed) (rs : List UnitResult) (p : Prepared) (spelled : LibraryName → List ℕ) (c : code_source.UnitSource) → ImportsAs spelled c p → (b : Bool) → b ≡ (is_program (kind_as c.kind) && not (list_any is_import (forms_of c.forms))) → b ≡ true →
-    ds ≡ ds ++ set_diagnostics bytes p.placed.document p.specs (unit_entries all rs p).1
-base_told bytes ds all rs p spelled c im b e h =
-    sym (append-nil ds) ∙ ap (λ (xs : List Diagnostic). ds ++ xs) (sym (no_results bytes p.placed.document p.specs))
-    ∙ ap (λ (q : List model.Entry × List SetResult). ds ++ set_diagnostics bytes p.placed.document p.specs q.1) (sym (base_case all rs p (nothing_is spelled c p im b true e h)))
+pub base_told : (bytes : Occ → Bytes) (document : ℕ → ℕ) (ds : List Diagnostic) (all : List Placed) (rs : List UnitResult) (p : Prepared) (spelled : LibraryName → List ℕ) (c : code_source.UnitSource) → ImportsAs spelled c p → (b : Bool) → b ≡ (is_program (kind_as c.kind) && not (list_any is_import (forms_of c.forms))) → b ≡ true →
+    ds ≡ ds ++ set_diagnostics bytes document p.specs (unit_entries all rs p).1
+base_told bytes document ds all rs p spelled c im b e h =
+    sym (append-nil ds) ∙ ap (λ (xs : List Diagnostic). ds ++ xs) (sym (no_results bytes document p.specs))
+    ∙ ap (λ (q : List model.Entry × List SetResult). ds ++ set_diagnostics bytes document p.specs q.1) (sym (base_case all rs p (nothing_is spelled c p im b true e h)))
 
 pub sets_stand : (names : Names) (gs : List Group) (all : List Placed) (rs : List UnitResult) (p : Prepared) (spelled : LibraryName → List ℕ) (c : code_source.UnitSource) → ImportsAs spelled c p → (b : Bool) → b ≡ (is_program (kind_as c.kind) && not (list_any is_import (forms_of c.forms))) → b ≡ false →
     GroupsStand names gs (import_all all rs [] p.specs).0 → GroupsStand names gs (unit_entries all rs p).0
 sets_stand names gs all rs p spelled c im b e h stand =
     subst (λ (q : List model.Entry × List SetResult). GroupsStand names gs q.0) (sym (sets_case all rs p (nothing_is spelled c p im b false e h))) stand
 
-pub sets_told : (bytes : Occ → Bytes) (old new : List Diagnostic) (document : ℕ) (all : List Placed) (rs : List UnitResult) (p : Prepared) (spelled : LibraryName → List ℕ) (c : code_source.UnitSource) → ImportsAs spelled c p → (b : Bool) → b ≡ (is_program (kind_as c.kind) && not (list_any is_import (forms_of c.forms))) → b ≡ false →
-    document ≡ p.placed.document → new ≡ old ++ set_diagnostics bytes document p.specs (import_all all rs [] p.specs).1 → new ≡ old ++ set_diagnostics bytes p.placed.document p.specs (unit_entries all rs p).1
-sets_told bytes old new document all rs p spelled c im b e h here told =
-    told ∙ ap (λ (d : ℕ). old ++ set_diagnostics bytes d p.specs (import_all all rs [] p.specs).1) here
-    ∙ ap (λ (q : List model.Entry × List SetResult). old ++ set_diagnostics bytes p.placed.document p.specs q.1) (sym (sets_case all rs p (nothing_is spelled c p im b false e h)))
+pub sets_told : (bytes : Occ → Bytes) (document : ℕ → ℕ) (old new : List Diagnostic) (all : List Placed) (rs : List UnitResult) (p : Prepared) (spelled : LibraryName → List ℕ) (c : code_source.UnitSource) → ImportsAs spelled c p → (b : Bool) → b ≡ (is_program (kind_as c.kind) && not (list_any is_import (forms_of c.forms))) → b ≡ false →
+    new ≡ old ++ set_diagnostics bytes document p.specs (import_all all rs [] p.specs).1 → new ≡ old ++ set_diagnostics bytes document p.specs (unit_entries all rs p).1
+sets_told bytes document old new all rs p spelled c im b e h told =
+    told ∙ ap (λ (q : List model.Entry × List SetResult). old ++ set_diagnostics bytes document p.specs q.1) (sym (sets_case all rs p (nothing_is spelled c p im b false e h)))
 
 -- the Errors, by the forms of the sets
 pub base_errors : (es : List (ℕ × ℕ)) (all : List Placed) (rs : List UnitResult) (p : Prepared) (spelled : LibraryName → List ℕ) (c : code_source.UnitSource) → ImportsAs spelled c p → (b : Bool) → b ≡ (is_program (kind_as c.kind) && not (list_any is_import (forms_of c.forms))) → b ≡ true → (fs : List ℕ) →

@@ -9,8 +9,8 @@ ghost use Rattle.scheme_model.specs.Requirements.{LibraryName};
 ghost use Rattle.scheme_model.specs.StandardLibraries.{standard};
 ghost use Rattle.scheme_model.specs.Entries as model;
 ghost use Rattle.scheme_model.specs.Program as program;
-ghost use Rattle.scheme_model.specs.Program.{standard_entry, is_import, is_program, import_all, result_at, specs_from, specs_in, unit_entries};
-ghost use Rattle.scheme_model.specs.Diagnostics.{Bytes, bytes_of, bytes_or, clash_diagnostics, import_fault, set_diagnostics};
+ghost use Rattle.scheme_model.specs.Program.{standard_entry, is_import, is_program, import_all, specs_from, specs_in, unit_entries};
+ghost use Rattle.scheme_model.specs.Diagnostics.{Bytes, document_of, bytes_of, bytes_or, clash_diagnostics, import_fault, set_found, set_diagnostics};
 ghost use Rattle.syntax_tree.specs.Names.{Names, KeepsNames};
 ghost use Rattle.syntax_tree.specs.Meant.{AreEntries, IsEntry};
 ghost use Rattle.core_tree.specs.Names.{AllMatch};
@@ -105,7 +105,6 @@ pub fn given_to(
     work: &mut Work,
     places: Places<'_>,
     libraries: Libraries<'_>,
-    unit: u32,
     source: &UnitSource,
 ) -> Mem<Given>
     requires documents { 0 < length places.documents.now }
@@ -121,8 +120,8 @@ pub fn given_to(
         IfOk result (λ given. AreEntries work.new.symbols given.joined.entries.items (unit_entries all rs p).0) }
     ensures told { (spelled : LibraryName → List ℕ) → (all : List program.Placed) → (rs : List program.UnitResult) →
         AreLibraries work.old.symbols libraries.entry spelled all rs → (p : program.Prepared) → ImportsAs spelled source.now p →
-        (reads : List Read) → (us : List program.UnitResult) → ArePlaces places.entry reads us → (r : program.UnitResult) → result_at us unit ≡ Some r → r.unit ≡ p →
-        IfOk result (λ given. all_told given.findings.items ≡ set_diagnostics (bytes_of (spans_of reads) us) p.placed.document p.specs (unit_entries all rs p).1) }
+        (reads : List Read) → (us : List program.UnitResult) → ArePlaces places.entry reads us →
+        IfOk result (λ given. all_told given.findings.items ≡ set_diagnostics (bytes_of (spans_of reads) us) (document_of us) p.specs (unit_entries all rs p).1) }
     ensures errors { (spelled : LibraryName → List ℕ) → (all : List program.Placed) → (rs : List program.UnitResult) →
         AreLibraries work.old.symbols libraries.entry spelled all rs → (p : program.Prepared) → ImportsAs spelled source.now p → p.forms ≡ forms_of source.now.forms → p.specs ≡ specs_from p.number 0 p.forms →
         IfOk result (λ given. errors_in given.findings.items ≡ set_errors (zip (set_forms p.number 0 p.forms) (unit_entries all rs p).1)) }
@@ -133,7 +132,6 @@ pub fn given_to(
         &mut work.symbols,
         places,
         libraries,
-        unit,
         source,
         &mut findings,
     )?;
@@ -149,7 +147,6 @@ fn gathered(
     symbols: &mut Symbols,
     places: Places<'_>,
     libraries: Libraries<'_>,
-    unit: u32,
     source: &UnitSource,
     findings: &mut Vec<Finding>,
 ) -> Mem<Gathering>
@@ -166,9 +163,9 @@ fn gathered(
         IfOk result (λ g. GroupsStand symbols.new g.groups.items (unit_entries all rs p).0) }
     ensures told { (spelled : LibraryName → List ℕ) → (all : List program.Placed) → (rs : List program.UnitResult) →
         AreLibraries symbols.old libraries.entry spelled all rs → (p : program.Prepared) → ImportsAs spelled source.now p →
-        (reads : List Read) → (us : List program.UnitResult) → ArePlaces places.entry reads us → (r : program.UnitResult) → result_at us unit ≡ Some r → r.unit ≡ p →
+        (reads : List Read) → (us : List program.UnitResult) → ArePlaces places.entry reads us →
         OnOk result (all_told findings.new.items
-        ≡ all_told findings.old.items ++ set_diagnostics (bytes_of (spans_of reads) us) p.placed.document p.specs (unit_entries all rs p).1) }
+        ≡ all_told findings.old.items ++ set_diagnostics (bytes_of (spans_of reads) us) (document_of us) p.specs (unit_entries all rs p).1) }
     ensures errors { (spelled : LibraryName → List ℕ) → (all : List program.Placed) → (rs : List program.UnitResult) →
         AreLibraries symbols.old libraries.entry spelled all rs → (p : program.Prepared) → ImportsAs spelled source.now p → p.forms ≡ forms_of source.now.forms → p.specs ≡ specs_from p.number 0 p.forms →
         OnOk result (errors_in findings.new.items ≡ errors_in findings.old.items ++ set_errors (zip (set_forms p.number 0 p.forms) (unit_entries all rs p).1)) }
@@ -176,10 +173,7 @@ fn gathered(
     if imports_nothing(source) {
         return Ok(base_given(alloc, symbols)?);
     }
-    let document = places.start(unit).document;
-    Ok(sets_given(
-        alloc, symbols, places, libraries, document, source, findings,
-    )?)
+    Ok(sets_given(alloc, symbols, places, libraries, source, findings)?)
 }
 
 /// What `(scheme base)` gives.
@@ -206,11 +200,10 @@ fn sets_given(
     symbols: &mut Symbols,
     places: Places<'_>,
     libraries: Libraries<'_>,
-    document: usize,
     source: &UnitSource,
     findings: &mut Vec<Finding>,
 ) -> Mem<Gathering>
-    requires document { document < length places.documents.now }
+    requires documents { 0 < length places.documents.now }
     requires places { CanPlace places }
     requires libraries { ExportsMean symbols.old libraries.expanded.now }
     requires findings { AreFoundIn (length places.documents.now) findings.old.items }
@@ -225,7 +218,7 @@ fn sets_given(
         AreLibraries symbols.old libraries.entry spelled all rs → (ss : List program.ImportSpec) → AllMatch (IsSpec spelled) source.now.imports ss →
         (reads : List Read) → (us : List program.UnitResult) → ArePlaces places.entry reads us →
         OnOk result (all_told findings.new.items
-        ≡ all_told findings.old.items ++ set_diagnostics (bytes_of (spans_of reads) us) document ss (import_all all rs [] ss).1) }
+        ≡ all_told findings.old.items ++ set_diagnostics (bytes_of (spans_of reads) us) (document_of us) ss (import_all all rs [] ss).1) }
     ensures errors { (spelled : LibraryName → List ℕ) → (all : List program.Placed) → (rs : List program.UnitResult) →
         AreLibraries symbols.old libraries.entry spelled all rs → (ss : List program.ImportSpec) → AllMatch (IsSpec spelled) source.now.imports ss → (unit : ℕ) → ss ≡ specs_from unit 0 (forms_of source.now.forms) →
         OnOk result (errors_in findings.new.items ≡ errors_in findings.old.items ++ set_errors (zip (set_forms unit 0 (forms_of source.now.forms)) (import_all all rs [] ss).1)) }
@@ -234,6 +227,7 @@ fn sets_given(
     let forms = set_forms(alloc, source.forms.as_slice())?;
     let specs = source.imports.as_slice();
     for (place, spec) in specs.iter().enumerate() {
+        let document = places.document_of(spec.unit);
         let form = form_in(forms.as_slice(), place);
         let set = SetAt {
             spec,
@@ -274,7 +268,7 @@ fn with_set(
         AreLibraries symbols.old libraries.entry spelled all rs → (s : program.ImportSpec) → IsSpec spelled set.entry.spec.now s → (es : List model.Entry) →
         GroupsStand symbols.old gathering.groups.items es → (reads : List Read) → (us : List program.UnitResult) → ArePlaces places.entry reads us →
         OnOk result (all_told findings.new.items
-        ≡ all_told findings.old.items ++ set_diagnostics (bytes_of (spans_of reads) us) set.entry.document (s ∷ []) ((with_set all rs s.set es).1 ∷ [])) }
+        ≡ all_told findings.old.items ++ set_found (bytes_of (spans_of reads) us) set.entry.document s (with_set all rs s.set es).1) }
     ensures errors { (spelled : LibraryName → List ℕ) → (all : List program.Placed) → (rs : List program.UnitResult) →
         AreLibraries symbols.old libraries.entry spelled all rs → (s : program.ImportSpec) → IsSpec spelled set.entry.spec.now s → (es : List model.Entry) →
         GroupsStand symbols.old gathering.groups.items es → OnOk result (errors_in findings.new.items ≡ errors_in findings.old.items ++ set_errors ((set.entry.form, (with_set all rs s.set es).1) ∷ [])) }
@@ -532,7 +526,7 @@ fn add_clashes(
 fn add_unknown(alloc: Global, findings: &mut Vec<Finding>, set: SetAt<'_>) -> Mem<()>
     ensures inside { (count : ℕ) → set.entry.document < count → AreFoundIn count findings.old.items → OnOk result (AreFoundIn count findings.new.items) }
     ensures told { (s : program.ImportSpec) → (spelled : LibraryName → List ℕ) → IsSpec spelled set.entry.spec.now s → (bytes : Occ → Bytes) →
-        OnOk result (all_told findings.new.items ≡ all_told findings.old.items ++ set_diagnostics bytes set.entry.document (s ∷ []) (program.Unknown ∷ [])) }
+        OnOk result (all_told findings.new.items ≡ all_told findings.old.items ++ set_found bytes set.entry.document s program.Unknown) }
     ensures errors { OnOk result (errors_in findings.new.items ≡ errors_in findings.old.items) }
 {
     let at = set.at(set.spec.library);

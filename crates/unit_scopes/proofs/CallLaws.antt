@@ -14,7 +14,6 @@ use Rattle.syntax_tree.specs.Works.{live_count}
 use Rattle.syntax_tree.specs.declared.trees.Work.{Work}
 use Rattle.syntax_tree.specs.declared.trees.table.Region.{Region}
 use Rattle.core_tree.specs.Cores.{PartStands}
-use Rattle.core_tree.specs.Traces.{IsFault}
 use Rattle.core_tree.specs.declared.cores.CorePart.{CorePart}
 use Rattle.core_tree.specs.declared.traces.FormFault.{FormFault}
 use Rattle.core_tree.specs.declared.traces.Trace.{Trace}
@@ -166,9 +165,6 @@ module _ (old new : Work) (region : Region) (u u1 v w : UnitScope) (number : ℕ
         libraries = m.same.libraries ∙ ap (λ (x : UnitScope). x.libraries) turn;
       })))
 
-  fault_here : (ls : List Frames) (t : ScopedState) (e : FormFault) (b : Broken) → Stays old new region u1 v ls t → IsFault new.symbols t.unit t.form e b → IsFault new.symbols t.unit number e b
-  fault_here ls t e b m h = subst (λ (n : ℕ). IsFault new.symbols t.unit n e b) (sym m.stands.form.number ∙ numbered m.same) h
-
   -- ---- what is left of a form
 
   pub declares : (ls : List Frames) (x : code_left.Left) (p : Pass Identifier FramedIdent × ScopedState) → Sets old new region u1 v ls (Ok x) p → Declares old new region u w budget after ls number traced (Ok x) p
@@ -176,7 +172,7 @@ module _ (old new : Work) (region : Region) (u u1 v w : UnitScope) (number : ℕ
       (h.0, h.1, goes ls ls p.0.notes p.1 (λ n fs at. at) h.2 h.3, subst (λ (n : ℕ). LeftFor new region n number x h.0) (sym unit_is) (subst (λ (n : ℕ). LeftFor new region v.unit n x h.0) (numbered h.2.same) h.4))
 
   pub declares_fault : (ls : List Frames) (e : FormFault) (p : Pass Identifier FramedIdent × ScopedState) → Sets old new region u1 v ls (Err (fault.At e)) p → Declares old new region u w budget after ls number traced (Err (fault.At e)) p
-  declares_fault ls e p h = (h.0, h.1, goes ls ls p.0.notes p.1 (λ n fs at. at) h.2 h.3, fault_here ls p.1 e h.0 h.2 h.4)
+  declares_fault ls e p h = (h.0, h.1, goes ls ls p.0.notes p.1 (λ n fs at. at) h.2 h.3, h.4)
 
   -- ---- what an item comes to
 
@@ -194,7 +190,7 @@ module _ (old new : Work) (region : Region) (u u1 v w : UnitScope) (number : ℕ
 
     pub expands_fault : (e : FormFault) (p : Result Part Broken × ScopedState) → Ends (λ layout. PartStands new v.unit v.form.number) old new region u1 v ls (Err (fault.At e)) p →
         Expands old new region u w budget after ls number traced ns (Err (fault.At e)) p
-    expands_fault e p h = (h.1.0, h.1.1, went p.1 h.0, fault_here h.0.layout p.1 e h.1.0 h.0.stays h.1.2)
+    expands_fault e p h = (h.1.0, h.1.1, went p.1 h.0, h.1.2)
 
 -- ---- a call that changes the state of its form alone
 

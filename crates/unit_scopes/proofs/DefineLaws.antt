@@ -5,11 +5,9 @@ use Rattle.std.specs.Prelude.{is_some as is_kept}
 use Rattle.std.specs.BTreeMap.{BTreeMap, get, btree_map_len}
 use Rattle.std.specs.Ordering.{nat_cmp}
 use Rattle.std.proofs.lemmas.Option.{slice_get_within}
-use Rattle.scheme_model.specs.declared.Occ.{Occ}
 use Rattle.scheme_model.specs.Identifiers.{Number}
 use Rattle.scheme_model.specs.Ident.{Ident as Identifier}
 use Rattle.scheme_model.specs.ExpansionFaults.{Named, KeywordRedefined, Duplicate}
-use Rattle.scheme_model.specs.Diagnostics.{fault_occ}
 use Rattle.scheme_model.specs.Meaning as model
 use Rattle.scheme_model.specs.RulesShape.{Rules}
 use Rattle.scheme_model.specs.Steps.{Broken}
@@ -34,7 +32,7 @@ use Rattle.core_forms.specs.declared.shape.NamePart.{NamePart}
 use Rattle.core_tree.specs.Names.{IsBound}
 use Rattle.unit_scopes.specs.Binds.{with_locals}
 use Rattle.unit_scopes.specs.Chains.{body_chain}
-use Rattle.unit_scopes.specs.Counts.{placed_in, named_fault}
+use Rattle.unit_scopes.specs.Counts.{named_fault}
 use Rattle.unit_scopes.specs.Macros.{IsBound as IsBound_meaning, Keeps}
 use Rattle.unit_scopes.specs.State.{IsMacro, EnvStands, Stands, is_program, most_locals}
 use Rattle.unit_scopes.specs.Stepped.{BindsBody, with_told, with_definition, with_macros}
@@ -191,26 +189,16 @@ is_made here b n r fs p s h k =
 
 -- ---- its faults
 
-placed_by : (unit form : ℕ) (here : Option Occ) (i : Identifier) (o : Option Occ) → placed_in unit form here o ≡ fault_occ unit form (Some (record { name = i; occ = o })) here
-placed_by unit form here i None = refl
-placed_by unit form here i (Some o) = refl
-
-pub placed_named : (work : Work) (unit form : ℕ) (here : Option Occ) (x : NamePart) (n : Named Identifier) → IsName work x n → placed_in unit form here x.occ ≡ fault_occ unit form (Some n) here
-placed_named work unit form here x n is = ap (placed_in unit form here) is.1 ∙ placed_by unit form here n.name n.occ
-
 module _ {X Y : Type 0} (P : X → Y → Type 0) (work : Work) (u : UnitScope) (ls : List Frames) (s : ScopedState) (spot : Spot) (fs : Frames) (here : Here) (x : NamePart) (n : Named Identifier) (is : IsName work x n) (e : Stands work u ls s) (placed : SpotFor work u ls s spot fs) (q : Result Y Broken × ScopedState) where
-  place_so : placed_in u.unit u.form.number here x.occ ≡ fault_occ s.unit s.form (Some n) here
-  place_so = (λ j. placed_in (e.unit j) (e.form.number j) here x.occ) ∙ placed_named work s.unit s.form here x n is
-
-  pub refused_ends : q ≡ (Err (record { fault = KeywordRedefined n; here = here }), s) → EndsIn P work u u ls spot fs (Err (named_fault u.unit u.form.number here 41 x)) q
+  pub refused_ends : q ≡ (Err (record { fault = KeywordRedefined n; here = here }), s) → EndsIn P work u u ls spot fs (Err (named_fault here 41 x)) q
   refused_ends same =
-      subst (λ (r : Result Y Broken × ScopedState). EndsIn P work u u ls spot fs (Err (named_fault u.unit u.form.number here 41 x)) r) (sym same)
-      (record { stands = e; placed = placed; same = same_itself u }, (record { fault = KeywordRedefined n; here = here }, refl, record { code = refl; name = is.0; place = place_so; text = refl }))
+      subst (λ (r : Result Y Broken × ScopedState). EndsIn P work u u ls spot fs (Err (named_fault here 41 x)) r) (sym same)
+      (record { stands = e; placed = placed; same = same_itself u }, (record { fault = KeywordRedefined n; here = here }, refl, record { code = refl; name = is.0; place = is.1; here = refl; text = refl }))
 
-  pub second_ends : q ≡ (Err (record { fault = Duplicate n; here = here }), s) → EndsIn P work u u ls spot fs (Err (named_fault u.unit u.form.number here 42 x)) q
+  pub second_ends : q ≡ (Err (record { fault = Duplicate n; here = here }), s) → EndsIn P work u u ls spot fs (Err (named_fault here 42 x)) q
   second_ends same =
-      subst (λ (r : Result Y Broken × ScopedState). EndsIn P work u u ls spot fs (Err (named_fault u.unit u.form.number here 42 x)) r) (sym same)
-      (record { stands = e; placed = placed; same = same_itself u }, (record { fault = Duplicate n; here = here }, refl, record { code = refl; name = is.0; place = place_so; text = refl }))
+      subst (λ (r : Result Y Broken × ScopedState). EndsIn P work u u ls spot fs (Err (named_fault here 42 x)) r) (sym same)
+      (record { stands = e; placed = placed; same = same_itself u }, (record { fault = Duplicate n; here = here }, refl, record { code = refl; name = is.0; place = is.1; here = refl; text = refl }))
 
 -- ---- what it counts
 

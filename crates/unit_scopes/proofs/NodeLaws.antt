@@ -4,13 +4,13 @@ use Rattle.std.proofs.Common.{◌≡◌, ℕ, zero, suc, ◌+◌, ◌<◌, ◌�
 use Rattle.std.proofs.lemmas.Bool.{le-leb, lt-leb}
 use Rattle.scheme_model.specs.declared.Occ.{Occ}
 use Rattle.scheme_model.specs.Ident.{Ident as Identifier}
-use Rattle.scheme_model.specs.ExpansionFaults.{Fault, NodeBudget, DepthBudget, fault_code, fault_name, error_text}
+use Rattle.scheme_model.specs.ExpansionFaults.{Named, Fault, NodeBudget, DepthBudget, fault_code, fault_name, error_text}
 use Rattle.scheme_model.specs.Requirements.{Known}
 use Rattle.scheme_model.specs.Steps.{Broken, Step, ◌>>=◌, done, fails}
 use Rattle.scheme_model.specs.Order.{counting, max_nodes}
 use Rattle.scheme_model.specs.Expression.{node}
 use Rattle.scheme_model.specs.ScopedExpansion.{Frames, ScopedState}
-use Rattle.scheme_model.specs.Diagnostics.{fault_occ}
+use Rattle.scheme_model.specs.Diagnostics.{named_occ}
 use Rattle.syntax_tree.specs.Names.{Names}
 use Rattle.syntax_tree.specs.declared.trees.Work.{Work}
 use Rattle.syntax_tree.specs.declared.trees.table.Region.{Region}
@@ -29,19 +29,20 @@ use Rattle.std.specs.Result.{IsErrAnd}
 
 -- ---- faults that name nothing
 
-pub plain_is : (names : Names) (unit form : ℕ) (here : Option Occ) (f : Fault Identifier) → fault_name f ≡ None → error_text f ≡ None →
-    IsFault names unit form (record { code = fault_code f; name = None; occ = here; text = None }) (record { fault = f; here = here })
-plain_is names unit form here f named text = record {
+pub plain_is : (names : Names) (here : Option Occ) (f : Fault Identifier) → fault_name f ≡ None → error_text f ≡ None →
+    IsFault names (record { code = fault_code f; name = None; occ = None; here = here; text = None }) (record { fault = f; here = here })
+plain_is names here f named text = record {
   code = refl;
   name = subst (IsNamedBy names None) (sym named) tt;
-  place = ap (λ n. fault_occ unit form n here) (sym named);
+  place = ap (λ (n : Option (Named Identifier)). named_occ n) (sym named);
+  here = refl;
   text = sym text;
 }
 
 -- a step that fails at once, with nothing done
 pub fails_here : {X Y : Type 0} (P : X → Y → Type 0) (work : Work) (region : Region) (u : UnitScope) (ls : List Frames) (s : ScopedState) (here : Option Occ) (f : Fault Identifier) → Stands work u ls s → fault_name f ≡ None → error_text f ≡ None →
     EndsHere P work work region u u ls (Err (plain_fault here (fault_code f))) (fails {A = Y} here f s)
-fails_here P work region u ls s here f e named text = (stays_itself work region u ls s e, (record { fault = f; here = here }, refl, plain_is work.symbols s.unit s.form here f named text))
+fails_here P work region u ls s here f e named text = (stays_itself work region u ls s e, (record { fault = f; here = here }, refl, plain_is work.symbols here f named text))
 
 -- ---- counts
 

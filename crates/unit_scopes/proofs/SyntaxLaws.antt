@@ -184,18 +184,16 @@ module _ (known : Known) (here : Here) (t : Tree Identifier) (r : RulesParts Ide
     pub rules_end : (P : Macro → Rules Identifier → Type 0) (k : Macro) (rs : Rules Identifier) → rules_in_form t ≡ Ok rs → P k rs → EndsHere P work work region u v ls (Ok k) reading
     rules_end P k rs is p = subst (λ (q : Result (Rules Identifier) Broken × ScopedState). EndsHere P work work region u v ls (Ok k) q) (sym (reading_goes (Ok rs) parts counted is)) (rs, stays, refl, p)
 
-    bad_by : (P : Macro → Rules Identifier → Type 0) (x : ExpandFault) → u.form.budget.nodes ≤ 200000 → Tells work.symbols s.unit s.form here x (rules_in_form t) → EndsHere P work work region u v ls (Err x) reading
+    bad_by : (P : Macro → Rules Identifier → Type 0) (x : ExpandFault) → u.form.budget.nodes ≤ 200000 → Tells work.symbols here x (rules_in_form t) → EndsHere P work work region u v ls (Err x) reading
     bad_by P (fault.At e) few h =
         subst (λ (q : Result (Rules Identifier) Broken × ScopedState). EndsHere P work work region u v ls (Err (fault.At e)) q) (sym (reading_goes (Err h.0) parts counted h.1))
-        (stays, (record { fault = fault_map (λ (i : Identifier). i) h.0; here = here }, refl, subst (λ (b : Fault Identifier). IsFault work.symbols s.unit s.form e (record { fault = b; here = here })) (sym (same_fault h.0)) h.2))
+        (stays, (record { fault = fault_map (λ (i : Identifier). i) h.0; here = here }, refl, subst (λ (b : Fault Identifier). IsFault work.symbols e (record { fault = b; here = here })) (sym (same_fault h.0)) h.2))
     bad_by P fault.Full few h = absurd h
     bad_by P fault.Memory few h = leaves_itself work region u few
 
     -- rules that are none
-    pub bad_end : (P : Macro → Rules Identifier → Type 0) (e : RulesFault) → u.form.budget.nodes ≤ 200000 → v.unit ≡ s.unit → v.form.number ≡ s.form → Refuses work e (rules_in_form t) → EndsHere P work work region u v ls (Err (told v.unit v.form.number here (rules_fault e))) reading
-    bad_end P e few unit form h =
-        subst (λ (x : ExpandFault). EndsHere P work work region u v ls (Err x) reading) (λ j. told (sym unit j) (sym form j) here (rules_fault e))
-        (bad_by P (told s.unit s.form here (rules_fault e)) few (bad_rules_are work s.unit s.form here e (rules_in_form t) h))
+    pub bad_end : (P : Macro → Rules Identifier → Type 0) (e : RulesFault) → u.form.budget.nodes ≤ 200000 → Refuses work e (rules_in_form t) → EndsHere P work work region u v ls (Err (told here (rules_fault e))) reading
+    bad_end P e few h = bad_by P (told here (rules_fault e)) few (bad_rules_are work here e (rules_in_form t) h)
 
 -- ---- how reading fails before it
 

@@ -19,7 +19,6 @@ use Rattle.scheme_model.specs.Cores.{Target}
 use Rattle.scheme_model.specs.Steps.{Broken, ◌>>=◌, done}
 use Rattle.scheme_model.specs.Order.{WaitingUse, Instance, Transformer, given, has_use, comparisons, use_of}
 use Rattle.scheme_model.specs.Order as order
-use Rattle.scheme_model.specs.Diagnostics.{fault_occ}
 use Rattle.scheme_model.specs.CountedExpansion.{means_here}
 use Rattle.scheme_model.specs.ScopedExpansion.{Frames, ScopedState, next_number, macro_at}
 use Rattle.scheme_model.proofs.Distinct.{ok_same}
@@ -42,7 +41,7 @@ use Rattle.core_forms.specs.Parts.{IsName}
 use Rattle.core_tree.specs.Names.{AllMatch, IsTarget}
 use Rattle.core_tree.specs.Traces.{IsFault}
 use Rattle.core_tree.specs.declared.cores.Target as code_target
-use Rattle.unit_scopes.specs.Counts.{placed_in, named_fault, with_nodes}
+use Rattle.unit_scopes.specs.Counts.{named_fault, with_nodes}
 use Rattle.feature_requirements.specs.Faults.{plain_fault}
 use Rattle.unit_scopes.specs.Macros.{macro_in}
 use Rattle.unit_scopes.specs.Searched.{searched}
@@ -206,7 +205,7 @@ module _ (known : Known) (here : Option Occ) (fs : Frames) (keyword : Target) (m
     pub over_ends : u.form.budget.uses ≡ 10000 → EndsHere P work work region u u ls (Err (plain_fault here 44)) step
     over_ends full =
         subst (λ (q : Ends). EndsHere P work work region u u ls (Err (plain_fault here 44)) q) (sym (use_over (sym e.form.uses ∙ full)))
-        (stays_itself work region u ls s e, (record { fault = UseBudget; here = here }, refl, record { code = refl; name = tt; place = refl; text = refl }))
+        (stays_itself work region u ls s e, (record { fault = UseBudget; here = here }, refl, record { code = refl; name = tt; place = refl; here = refl; text = refl }))
 
     module _ (scope : ℕ) (there : At ls scope m.env) (few : u.form.budget.uses < 10000) where
       room : s.uses s.form < 10000
@@ -218,15 +217,10 @@ module _ (known : Known) (here : Option Occ) (fs : Frames) (keyword : Target) (m
       begun_stays : Stays work work region u (with_use_begun u scope) ls begun
       begun_stays = record { stands = begun_stands; work = grows_itself work region; counted = omega arith; same = record { unit = refl; number = refl; root = refl; libraries = refl; roots = refl; uses = omega arith; nodes = omega arith } }
 
-      placed : (unit form : ℕ) (i : Identifier) (o : Option Occ) → placed_in unit form here o ≡ fault_occ unit form (Some (named i o)) here
-      placed unit form i None = refl
-      placed unit form i (Some o) = refl
-
       pub unmatched_ends : (x : code_target.Target) (n : NamePart) → IsTarget work.symbols s.unit s.form x keyword → n.ident ≡ x.ident → n.occ ≡ x.occ → match_of_use s fs m ts tail ≡ None →
-          EndsHere P work work region u (with_use_begun u scope) ls (Err (named_fault u.unit u.form.number here 26 n)) step
+          EndsHere P work work region u (with_use_begun u scope) ls (Err (named_fault here 26 n)) step
       unmatched_ends x n is ident occ none =
-          let place : placed_in u.unit u.form.number here n.occ ≡ placed_in s.unit s.form here keyword.occ = λ j. placed_in (e.unit j) (e.form.number j) here ((occ ∙ is.place) j) in
-          subst (λ (q : Ends). EndsHere P work work region u (with_use_begun u scope) ls (Err (named_fault u.unit u.form.number here 26 n)) q) (sym (unmatched room none)) (
+          subst (λ (q : Ends). EndsHere P work work region u (with_use_begun u scope) ls (Err (named_fault here 26 n)) q) (sym (unmatched room none)) (
             begun_stays,
             (
               record { fault = NoRule (named keyword.ident keyword.occ); here = here },
@@ -234,7 +228,8 @@ module _ (known : Known) (here : Option Occ) (fs : Frames) (keyword : Target) (m
               record {
                 code = refl;
                 name = subst (λ (y : ℕ). slice_get work.symbols.idents y ≡ Some keyword.ident) (sym ident) is.ident;
-                place = place ∙ placed s.unit s.form keyword.ident keyword.occ;
+                place = occ ∙ is.place;
+                here = refl;
                 text = refl;
               },
             ),
@@ -243,7 +238,7 @@ module _ (known : Known) (here : Option Occ) (fs : Frames) (keyword : Target) (m
       -- ---- the instance fails
 
       broken_as : (c : Chosen Identifier Identifier) (r : Result (Built (Tree Identifier)) (Fault Identifier)) (b : Broken) (which : ℕ) → match_of_use s fs m ts tail ≡ Some c → built c ≡ r → built_step c r ≡ (Err b, begun) →
-          IsFault work.symbols s.unit s.form (record { code = which; name = None; occ = here; text = None }) b → EndsHere P work work region u (with_use_begun u scope) ls (Err (plain_fault here which)) step
+          IsFault work.symbols (record { code = which; name = None; occ = None; here = here; text = None }) b → EndsHere P work work region u (with_use_begun u scope) ls (Err (plain_fault here which)) step
       broken_as c r b which found is so broken =
           subst (λ (q : Ends). EndsHere P work work region u (with_use_begun u scope) ls (Err (plain_fault here which)) q) (sym (matched_as c room found ∙ ap (built_step c) is ∙ so))
           (begun_stays, (b, refl, broken))
@@ -251,13 +246,13 @@ module _ (known : Known) (here : Option Occ) (fs : Frames) (keyword : Target) (m
       broken_by : (c : Chosen Identifier Identifier) (x : ExpandFault) → match_of_use s fs m ts tail ≡ Some c → FailsToBuild here x (built c) → EndsHere P work work region u (with_use_begun u scope) ls (Err x) step
       broken_by c x found (inl h) =
           subst (λ (y : ExpandFault). EndsHere P work work region u (with_use_begun u scope) ls (Err y) step) (sym h.1)
-          (broken_as c (Err EllipsisLength) (record { fault = EllipsisLength; here = here }) 27 found h.0 refl (record { code = refl; name = tt; place = refl; text = refl }))
+          (broken_as c (Err EllipsisLength) (record { fault = EllipsisLength; here = here }) 27 found h.0 refl (record { code = refl; name = tt; place = refl; here = refl; text = refl }))
       broken_by c x found (inr (inl h)) =
           subst (λ (y : ExpandFault). EndsHere P work work region u (with_use_begun u scope) ls (Err y) step) (sym h.1)
-          (broken_as c (Err NodeBudget) (record { fault = NodeBudget; here = here }) 45 found h.0 refl (record { code = refl; name = tt; place = refl; text = refl }))
+          (broken_as c (Err NodeBudget) (record { fault = NodeBudget; here = here }) 45 found h.0 refl (record { code = refl; name = tt; place = refl; here = refl; text = refl }))
       broken_by c x found (inr (inr h)) =
           subst (λ (y : ExpandFault). EndsHere P work work region u (with_use_begun u scope) ls (Err y) step) (sym h.1)
-          (broken_as c (Err DepthBudget) (record { fault = DepthBudget; here = here }) 46 found h.0 refl (record { code = refl; name = tt; place = refl; text = refl }))
+          (broken_as c (Err DepthBudget) (record { fault = DepthBudget; here = here }) 46 found h.0 refl (record { code = refl; name = tt; place = refl; here = refl; text = refl }))
 
       -- the number and the nodes of the code are those of the state
       pub built_same : (c : Chosen Identifier Identifier) (l : Number) → l ≡ use_number u → instance m.rules l c (200000 - u.form.budget.nodes) ≡ built c

@@ -1,5 +1,5 @@
 -- Counts within their budgets, and faults, as the code has them.
-use Rattle.std.specs.Prelude.{◌≡◌, ◌⊎◌, ℕ, ◌+◌, ◌==◌, ◌≤◌, ◌<◌, ◌&&◌, Option, Some, None, Result, Ok, Err, if◌then◌else◌}
+use Rattle.std.specs.Prelude.{◌≡◌, ◌⊎◌, ℕ, ◌+◌, ◌≤◌, ◌<◌, Option, Some, None, Result, Ok, Err, if◌then◌else◌}
 use Rattle.scheme_model.specs.declared.Occ.{Occ}
 use Rattle.core_forms.specs.declared.shape.NamePart.{NamePart}
 use Rattle.feature_requirements.specs.declared.fault.ExpandFault.{ExpandFault}
@@ -7,13 +7,9 @@ use Rattle.feature_requirements.specs.declared.fault.ExpandFault.TheVariants as 
 use Rattle.unit_scopes.specs.declared.scope.UnitScope.{UnitScope}
 use Rattle.feature_requirements.specs.Faults.{plain_fault}
 
--- a place in this form of this unit, or else where the form was read
-abbrev pub placed_in : (unit form : ℕ) → Option Occ → Option Occ → Option Occ
-placed_in unit form here None = here
-placed_in unit form here (Some o) = if (o.unit == unit) && (o.form == form) then Some o else here
-
-abbrev pub named_fault : (unit form : ℕ) → Option Occ → ℕ → NamePart → ExpandFault
-named_fault unit form here code n = fault.At (record { code = code; name = Some n.ident; occ = placed_in unit form here n.occ; text = None })
+-- a fault that names an identifier, where the form was read
+abbrev pub named_fault : Option Occ → ℕ → NamePart → ExpandFault
+named_fault here code n = fault.At (record { code = code; name = Some n.ident; occ = n.occ; here = here; text = None })
 
 -- with more nodes counted
 abbrev pub with_nodes : UnitScope → ℕ → UnitScope

@@ -67,7 +67,7 @@ MayFill old u = 2 ^ 31 < live_count old + (200000 - u.form.budget.nodes)
 
 -- the fault of the form that is at work
 abbrev pub Breaks : Work → FormFault → {Y : Type 0} → Result Y Broken × ScopedState → Type 0
-Breaks new e p = (b : Broken) × (p.0 ≡ Err b) × IsFault new.symbols p.1.unit p.1.form e b
+Breaks new e p = (b : Broken) × (p.0 ≡ Err b) × IsFault new.symbols e b
 
 -- a step with the value of the code and that of the definition, where scopes may be opened
 abbrev pub Ends : {X Y : Type 0} → (List Frames → X → Y → Type 0) → Work → Work → Region → code.UnitScope → code.UnitScope → List Frames → Result X ExpandFault → Result Y Broken × ScopedState → Type 0

@@ -27,7 +27,7 @@ pub record CanTell (work : Work) (u : UnitScope) (c : code_meaning.Meaning) : Ty
 -- a test that changes nothing, of a step that gives a value or a fault and leaves the state
 abbrev pub Tests : {Y : Type 0} → Work → ScopedState → Result (Unit {0}) ExpandFault → Result Y Broken × ScopedState → Type 0
 Tests {Y} work s (Ok passed) p = (y : Y) × (p ≡ (Ok y, s))
-Tests work s (Err (fault.At e)) p = (b : Broken) × (p ≡ (Err b, s)) × IsFault work.symbols s.unit s.form e b
+Tests work s (Err (fault.At e)) p = (b : Broken) × (p ≡ (Err b, s)) × IsFault work.symbols e b
 Tests work s (Err fault.Full) p = ⊥
 Tests work s (Err fault.Memory) p = Unit {0}
 

@@ -2,7 +2,8 @@
 use Rattle.std.specs.Prelude.{◌≡◌, ℕ, Option, Some, None, Result, Err}
 use Rattle.std.specs.Option.{option_map}
 use Rattle.scheme_model.specs.declared.Occ.{Occ}
-use Rattle.scheme_model.specs.ExpansionFaults.{Named, named, Fault, BadRules, TwoEllipses, DuplicateVariable, EllipsisDepth, IdleEllipsis, BadForm, DuplicateBinder, BadPlace, BadRecord, BadQuasi, fault_code, fault_name}
+use Rattle.scheme_model.specs.ExpansionFaults.{named, Fault, BadRules, TwoEllipses, DuplicateVariable, EllipsisDepth, IdleEllipsis, BadForm, DuplicateBinder, BadPlace, BadRecord, BadQuasi, fault_code, fault_name}
+use Rattle.scheme_model.specs.Diagnostics.{named_occ}
 use Rattle.scheme_model.specs.Ident.{Ident as Identifier}
 use Rattle.syntax_tree.specs.Names.{Names}
 use Rattle.core_forms.specs.declared.fault.CoreFault.{CoreFault}
@@ -10,7 +11,6 @@ use Rattle.core_forms.specs.declared.fault.CoreFault.TheVariants as core
 use Rattle.rules_check.specs.declared.fault.RulesFault.{RulesFault}
 use Rattle.rules_check.specs.declared.fault.RulesFault.TheVariants as rules
 use Rattle.core_tree.specs.Traces.{IsFault}
-use Rattle.unit_scopes.specs.Counts.{placed_in}
 use Rattle.feature_requirements.specs.declared.fault.ExpandFault.{ExpandFault}
 use Rattle.feature_requirements.specs.declared.fault.ExpandFault.TheVariants as fault
 
@@ -31,18 +31,13 @@ rules_fault (rules.Depth n) = Some (EllipsisDepth (named n.ident n.occ))
 rules_fault rules.IdleEllipsis = Some IdleEllipsis
 rules_fault rules.Memory = None
 
--- where a fault stands: at what it names, where that is in this form, or else where the form was read
-abbrev pub fault_place : (unit form : ℕ) → Option Occ → Option (Named ℕ) → Option Occ
-fault_place unit form here None = here
-fault_place unit form here (Some n) = placed_in unit form here n.occ
-
 -- a fault as it is told, or want of memory
-abbrev pub told : (unit form : ℕ) → Option Occ → Option (Fault ℕ) → ExpandFault
-told unit form here None = fault.Memory
-told unit form here (Some f) = fault.At (record { code = fault_code f; name = option_map (λ n. n.name) (fault_name f); occ = fault_place unit form here (fault_name f); text = None })
+abbrev pub told : (here : Option Occ) → Option (Fault ℕ) → ExpandFault
+told here None = fault.Memory
+told here (Some f) = fault.At (record { code = fault_code f; name = option_map (λ n. n.name) (fault_name f); occ = named_occ (fault_name f); here = here; text = None })
 
--- what the code tells is the fault of the definition, in a form of a unit
-abbrev pub Tells : {Y : Type 0} → Names → (unit form : ℕ) → Option Occ → ExpandFault → Result Y (Fault Identifier) → Type 0
-Tells names unit form here (fault.At e) r = (b : Fault Identifier) × (r ≡ Err b) × IsFault names unit form e (record { fault = b; here = here })
-Tells names unit form here fault.Full r = ⊥
-Tells names unit form here fault.Memory r = Unit {0}
+-- what the code tells is the fault of the definition
+abbrev pub Tells : {Y : Type 0} → Names → Option Occ → ExpandFault → Result Y (Fault Identifier) → Type 0
+Tells names here (fault.At e) r = (b : Fault Identifier) × (r ≡ Err b) × IsFault names e (record { fault = b; here = here })
+Tells names here fault.Full r = ⊥
+Tells names here fault.Memory r = Unit {0}

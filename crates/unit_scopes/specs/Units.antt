@@ -92,7 +92,7 @@ abbrev pub Declares : Work → Work → Region → UnitScope → UnitScope → B
 Declares old new region u v before after ls number trace (Ok x) p =
     (l : Left Identifier) × (p.0.left ≡ Ok l) × Goes old new region u v before after ls number trace p.0.notes p.1 × LeftFor new region v.unit number x l
 Declares old new region u v before after ls number trace (Err (fault.At e)) p =
-    (b : Broken) × (p.0.left ≡ Err b) × Goes old new region u v before after ls number trace p.0.notes p.1 × IsFault new.symbols p.1.unit number e b
+    (b : Broken) × (p.0.left ≡ Err b) × Goes old new region u v before after ls number trace p.0.notes p.1 × IsFault new.symbols e b
 Declares old new region u v before after ls number trace (Err fault.Full) p = Unit {0}
 Declares old new region u v before after ls number trace (Err fault.Memory) p = Unit {0}
 
@@ -100,7 +100,7 @@ Declares old new region u v before after ls number trace (Err fault.Memory) p = 
 abbrev pub Sets : Work → Work → Region → UnitScope → UnitScope → List Frames → Result code_left.Left ExpandFault → Pass Identifier FramedIdent × ScopedState → Type 0
 Sets old new region u v ls (Ok x) p =
     (l : Left Identifier) × (p.0.left ≡ Ok l) × Stays old new region u v ls p.1 × NotesFor new ls v.asked p.0.notes × LeftFor new region v.unit v.form.number x l
-Sets old new region u v ls (Err (fault.At e)) p = (b : Broken) × (p.0.left ≡ Err b) × Stays old new region u v ls p.1 × NotesFor new ls v.asked p.0.notes × IsFault new.symbols p.1.unit p.1.form e b
+Sets old new region u v ls (Err (fault.At e)) p = (b : Broken) × (p.0.left ≡ Err b) × Stays old new region u v ls p.1 × NotesFor new ls v.asked p.0.notes × IsFault new.symbols e b
 Sets old new region u v ls (Err fault.Full) p = Leaves old new region u × MayFill old u
 Sets old new region u v ls (Err fault.Memory) p = Leaves old new region u
 
@@ -109,7 +109,7 @@ abbrev pub Expands : Work → Work → Region → UnitScope → UnitScope → Bu
 Expands old new region u v before after ls number trace notes (Ok x) p =
     (m : Part) × (p.0 ≡ Ok m) × Goes old new region u v before after ls number trace notes p.1 × PartStands new v.unit number x.part m × (x.count + before.nodes ≡ after.nodes)
 Expands old new region u v before after ls number trace notes (Err (fault.At e)) p =
-    (b : Broken) × (p.0 ≡ Err b) × Goes old new region u v before after ls number trace notes p.1 × IsFault new.symbols p.1.unit number e b
+    (b : Broken) × (p.0 ≡ Err b) × Goes old new region u v before after ls number trace notes p.1 × IsFault new.symbols e b
 Expands old new region u v before after ls number trace notes (Err fault.Full) p = Unit {0}
 Expands old new region u v before after ls number trace notes (Err fault.Memory) p = Unit {0}
 

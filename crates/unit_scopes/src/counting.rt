@@ -1,7 +1,7 @@
 //! Counts within their budgets, and the faults of forms that name an identifier.
 ghost use Rattle.std.specs.Prelude.{◌≡◌, ◌≤◌};
 ghost use Rattle.unit_scopes.specs.Told.{core_fault, told};
-ghost use Rattle.unit_scopes.specs.Counts.{named_fault, placed_in, Counts, Begins};
+ghost use Rattle.unit_scopes.specs.Counts.{named_fault, Counts, Begins};
 
 use crate::scope::UnitScope;
 use core_forms::{CoreFault, NamePart};
@@ -12,35 +12,20 @@ use scheme_model::Occ;
 /// The most nodes of a form.
 pub const MAX_NODES: u32 = 200_000;
 
+/// A fault that names an identifier, in a form that was read at a place.
+pub fn fails_at(here: Option<Occ>, code: u32, name: NamePart) -> ExpandFault
+    ensures { result ≡ named_fault here code name }
+{
+    ExpandFault::At(FormFault {
+        code,
+        name: Some(name.ident),
+        occ: name.occ,
+        here,
+        text: None,
+    })
+}
+
 impl UnitScope {
-    /// A fault that names an identifier: it stands there, where that is in the form at work.
-    pub fn fails_at(&self, here: Option<Occ>, code: u32, name: NamePart) -> ExpandFault
-        ensures { result ≡ named_fault self.now.unit self.now.form.number here code name }
-    {
-        ExpandFault::At(FormFault {
-            code,
-            name: Some(name.ident),
-            occ: self.placed(here, name.occ),
-            text: None,
-        })
-    }
-
-    /// A place in the form at work, or else where the form was read that is expanded.
-    fn placed(&self, here: Option<Occ>, occ: Option<Occ>) -> Option<Occ>
-        ensures { result ≡ placed_in self.now.unit self.now.form.number here occ }
-    {
-        match occ {
-            None => here,
-            Some(at) => {
-                if at.unit == self.unit && at.form == self.form.number {
-                    Some(at)
-                } else {
-                    here
-                }
-            }
-        }
-    }
-
     /// Counts nodes of the form at work.
     #[inline(always)]
     pub fn count(&mut self, here: Option<Occ>, nodes: u32) -> Result<(), ExpandFault>
@@ -75,12 +60,12 @@ impl UnitScope {
 }
 
 /// The fault of a core form that was misread.
-pub fn misread(scope: &UnitScope, here: Option<Occ>, fault: CoreFault) -> ExpandFault
-    ensures { result ≡ told scope.now.unit scope.now.form.number here (core_fault fault) }
+pub fn misread(here: Option<Occ>, fault: CoreFault) -> ExpandFault
+    ensures { result ≡ told here (core_fault fault) }
 {
     match fault {
         CoreFault::BadForm => fails(here, code::BAD_FORM),
-        CoreFault::DuplicateBinder(name) => scope.fails_at(here, code::DUPLICATE_BINDER, name),
+        CoreFault::DuplicateBinder(name) => fails_at(here, code::DUPLICATE_BINDER, name),
         CoreFault::BadPlace => fails(here, code::BAD_PLACE),
         CoreFault::BadRecord => fails(here, code::BAD_RECORD),
         CoreFault::BadQuasi => fails(here, code::BAD_QUASI),

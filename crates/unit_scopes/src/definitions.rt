@@ -22,6 +22,7 @@ ghost use Rattle.unit_scopes.specs.Kept.{NoteFor, NotesFor, PlaceFor, SpotFor};
 ghost use Rattle.unit_scopes.specs.Defining.{CanGo, HasNumber, ComesTo, CanRefuse, next_here, Places, IsKept, Takes, EndsIn};
 
 use crate::asked::{Asked, Asking, Note};
+use crate::counting::fails_at;
 use crate::macros::Macro;
 use crate::scope::UnitScope;
 use crate::uses::same_meaning;
@@ -107,10 +108,10 @@ impl UnitScope {
             is_macro: kept.is_some(),
         };
         if self.is_refused(work, coming, asked) {
-            return Err(self.fails_at(here, code::KEYWORD_REDEFINED, name));
+            return Err(fails_at(here, code::KEYWORD_REDEFINED, name));
         }
         if self.is_defined(spot, name.ident) {
-            return Err(self.fails_at(here, code::DUPLICATE, name));
+            return Err(fails_at(here, code::DUPLICATE, name));
         }
         self.place(spot, name, meaning, coming.is_macro)?;
         match kept {

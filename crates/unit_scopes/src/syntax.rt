@@ -25,6 +25,7 @@ ghost use Rattle.unit_scopes.specs.Counts.{CountsSome};
 ghost use Rattle.unit_scopes.specs.Asks.{AskedStands};
 
 use crate::asked::{Asked, Asking, Note};
+use crate::counting::fails_at;
 use crate::macros::{Macro, copy_rules};
 use crate::scope::UnitScope;
 use core_forms::NamePart;
@@ -150,23 +151,7 @@ impl UnitScope {
                     leaves,
                 })
             }
-            Err(fault) => Err(self.bad_rules(here, fault)),
-        }
-    }
-
-    /// The fault of rules that are none.
-    fn bad_rules(&self, here: Option<Occ>, fault: RulesFault) -> ExpandFault
-        ensures { result ≡ told self.now.unit self.now.form.number here (rules_fault fault) }
-    {
-        match fault {
-            RulesFault::BadShape => fails(here, code::BAD_RULES),
-            RulesFault::TwoEllipses => fails(here, code::TWO_ELLIPSES),
-            RulesFault::DuplicateVariable(name) => {
-                self.fails_at(here, code::DUPLICATE_VARIABLE, part(name))
-            }
-            RulesFault::Depth(name) => { self.fails_at(here, code::ELLIPSIS_DEPTH, part(name)) }
-            RulesFault::IdleEllipsis => fails(here, code::IDLE_ELLIPSIS),
-            RulesFault::Memory => ExpandFault::Memory,
+            Err(fault) => Err(bad_rules(here, fault)),
         }
     }
 
@@ -219,5 +204,21 @@ impl UnitScope {
             })?;
         }
         Ok(found)
+    }
+}
+
+/// The fault of rules that are none.
+fn bad_rules(here: Option<Occ>, fault: RulesFault) -> ExpandFault
+    ensures { result ≡ told here (rules_fault fault) }
+{
+    match fault {
+        RulesFault::BadShape => fails(here, code::BAD_RULES),
+        RulesFault::TwoEllipses => fails(here, code::TWO_ELLIPSES),
+        RulesFault::DuplicateVariable(name) => {
+            fails_at(here, code::DUPLICATE_VARIABLE, part(name))
+        }
+        RulesFault::Depth(name) => { fails_at(here, code::ELLIPSIS_DEPTH, part(name)) }
+        RulesFault::IdleEllipsis => fails(here, code::IDLE_ELLIPSIS),
+        RulesFault::Memory => ExpandFault::Memory,
     }
 }

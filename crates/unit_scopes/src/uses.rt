@@ -28,7 +28,7 @@ ghost use Rattle.unit_scopes.specs.Macros.{macro_in};
 ghost use Rattle.unit_scopes.specs.Stepped.{with_use_begun, with_uses};
 ghost use Rattle.unit_scopes.specs.declared.macros.Macro.{Macro as AnyMacro};
 
-use crate::counting::MAX_NODES;
+use crate::counting::{MAX_NODES, fails_at};
 use crate::scope::UnitScope;
 use core_forms::NamePart;
 use core_tree::cores::Target;
@@ -165,7 +165,7 @@ impl UnitScope {
         let scope = self.macro_scope(at.keyword.meaning);
         let number = self.begin_use(scope)?;
         let Some(matched) = matched else {
-            return Err(self.fails_at(at.here, code::NO_RULE, name_of(at.keyword)));
+            return Err(fails_at(at.here, code::NO_RULE, name_of(at.keyword)));
         };
         let tree = self.instance(alloc, work, region, at, number, &matched)?;
         work.symbols.told_apart();

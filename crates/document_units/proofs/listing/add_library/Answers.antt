@@ -65,7 +65,7 @@ returns-in_ok-add-in-Err-BadDeclaration-clause-added c = λ has knows.
     let is : true ≡ is_library d = sym c.if-not-is_headed.false ∙ c.is_headed.ensures in
     let name : c.in_ok-name.name ≡ option_map library_text (library_of has d).name = c.in_ok-name.ensures ∙ ap (option_map library_text) (sym (library_named d is) ∙ sym (same_name has d)) in
     let bad = subst (λ (f : LibraryFault). IsLibraryRead n d (library_of has d) (Err f)) c.in-Err-BadDeclaration.field-0-is (c.in-Err-BadDeclaration.ensures has knows) in
-    let broken = Some (fault.BadDeclaration c.in-Err-BadDeclaration.span) in
+    let broken = Some (fault.BadDeclaration n c.in-Err-BadDeclaration.span) in
     let read : IsReadFor n (library_of has d) c.in_ok-name.name s broken = blank_for has n d bad.0 s c.in-Err-BadDeclaration.span c.in_ok-name.name is c.unread-source.ensures.span c.unread-source.ensures.blank bad.1 bad.2 name in
     subst (λ (us : List source.UnitSource). AddsRead c.args.document us c.args.units.now c.add-in-Err-BadDeclaration.new.units) (one_library has d is)
     (c.in_ok-add-in-Err-BadDeclaration.ensures.added (library_of has d) (subst (λ (k : ℕ). IsReadFor k (library_of has d) c.in_ok-name.name s broken) place read))

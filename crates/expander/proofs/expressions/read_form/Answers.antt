@@ -24,9 +24,9 @@ returns-in-Err-clause-read c = λ known region ls s fs k head ts end o knows e a
     let here = c.args.at.here in
     let t = list (tree head ts) end o in
     let refused = parsed_as w c.args.core k c.in_ok-marks.marks (mark_here s fs) head ts end o (Err c.in-Err.fault) is (λ q. c.in_ok-marks.ensures.marks q ls s fs t e at works.0) c.in_ok-marks.ensures.none (λ m are. c.in-Err.ensures.shape k m t is are works.0) in
-    misread_reads known c.args.at.depth here fs s k ts end w region c.args.units.now ls e (told s.unit s.form here (core_fault c.in-Err.fault)) (Err c.misread.result)
-    (c.misread.ensures ∙ (λ j. told (e.unit j) (e.form.number j) here (core_fault c.in-Err.fault)))
-    (misread_is w s.unit s.form here c.in-Err.fault (shape_here known c.args.at.depth here fs s k ts end) refused)
+    misread_reads known c.args.at.depth here fs s k ts end w region c.args.units.now ls e (told here (core_fault c.in-Err.fault)) (Err c.misread.result)
+    c.misread.ensures
+    (misread_is w here c.in-Err.fault (shape_here known c.args.at.depth here fs s k ts end) refused)
 
 pub quote-requires-clause-datum : goal.quote-requires-clause-datum
 quote-requires-clause-datum c =
@@ -88,7 +88,7 @@ returns-in-SyntaxError-clause-read c = λ known region ls s fs k head ts end o k
     let same : c.in_ok-text-in-SyntaxError.text ≡ q.0 = c.in_ok-text-in-SyntaxError.ensures ∙ same_Some c.name.result.now q.0 (sym c.name.ensures ∙ q.2) in
     let told : c.fails_with.result ≡ text_fault here q.0 = c.fails_with.ensures ∙ ap (text_fault here) same in
     subst (λ (x : ExpandFault). Reads known depth here w region u u ls fs (Err x) (λ f. core_form f (searched known) depth here fs k ts end s)) (sym told)
-    (refused_reads known depth here fs s k ts end w region u ls e (ErrorText q.0) (SyntaxError q.0) (text_fault here q.0) (read.1 ∙ ap (λ (m : Shape). Ok m) q.1) (λ f. refl) (record { code = refl; name = tt; place = refl; text = refl }))
+    (refused_reads known depth here fs s k ts end w region u ls e (ErrorText q.0) (SyntaxError q.0) (text_fault here q.0) (read.1 ∙ ap (λ (m : Shape). Ok m) q.1) (λ f. refl) (record { code = refl; name = tt; place = refl; here = refl; text = refl }))
 
 pub returns-in-Include-clause-read : goal.returns-in-Include-clause-read
 returns-in-Include-clause-read c = λ known region ls s fs k head ts end o knows e at is works.
@@ -100,7 +100,7 @@ returns-in-Include-clause-read c = λ known region ls s fs k head ts end o knows
     let read = parsed_as w c.args.core k c.in_ok-marks.marks (mark_here s fs) head ts end o (Ok c.in-Ok.shape) is (λ q. c.in_ok-marks.ensures.marks q ls s fs t e at works.0) c.in_ok-marks.ensures.none (λ m are. c.in-Ok.ensures.shape k m t is are works.0) in
     let q = inclusion_is w c.in-Ok.shape read.0 c.in-Include.is read.2 in
     subst (λ (x : ExpandFault). Reads known depth here w region u u ls fs (Err x) (λ f. core_form f (searched known) depth here fs k ts end s)) (sym c.fails.ensures)
-    (refused_reads known depth here fs s k ts end w region u ls e Inclusion IncludeRefused (plain_fault here 48) (read.1 ∙ ap (λ (m : Shape). Ok m) q) (λ f. refl) (plain_is w.symbols s.unit s.form here IncludeRefused refl refl))
+    (refused_reads known depth here fs s k ts end w region u ls e Inclusion IncludeRefused (plain_fault here 48) (read.1 ∙ ap (λ (m : Shape). Ok m) q) (λ f. refl) (plain_is w.symbols here IncludeRefused refl refl))
 
 pub returns : goal.returns
 returns c = record {

@@ -15,6 +15,6 @@ pub returns : goal.returns
 returns c = record {
   part = λ (old new : Work) (unit form : ℕ) (x : CorePart) (p : Part) trees names h. part_on old new trees names unit form x p h;
   parts = λ (old new : Work) (unit form : ℕ) (xs : List CorePart) (ps : Parts) trees names h. parts_stand_on old new trees names unit form xs ps h;
-  fault = λ (old new : Names) (unit form : ℕ) (e : FormFault) (b : Broken) names h. fault_on old new names unit form e b h;
+  fault = λ (old new : Names) (e : FormFault) (b : Broken) names h. fault_on old new names e b h;
   forms = λ (old new : Work) (unit form : ℕ) (cs : List UnitForm) (fs : List Formed) trees names h. forms_on old new trees names unit cs fs form h;
 }

@@ -1,12 +1,11 @@
 -- The tree of the form is added, and then gone through.
 use Rattle.std.proofs.Common.{refl}
 use Rattle.syntax_tree.specs.Regions.{itself}
-use Rattle.datum_reader.specs.Seeded.{seeded}
-use Rattle.datum_reader.specs.Views.{datum_of}
+use Rattle.library_table.specs.UnitsRead.{form_of}
 use Rattle.unit_scopes.specs.Units.{declared}
 use Rattle.unit_scopes.proofs.FreshLaws.{none_count}
 use Rattle.unit_scopes.proofs.OutcomeLaws.{grows_on}
-use Rattle.form_expansion.specs.Forms.{known_by}
+use Rattle.form_expansion.specs.Forms.{known_by, taken}
 use Rattle.form_expansion.specs.declared.forms.Bench.{Bench}
 use Rattle.form_expansion.proofs.BenchLaws.{stands_on, stays_by, stays_on}
 use Rattle.form_expansion.proofs.FormSteps.{passes_from}
@@ -14,7 +13,7 @@ use Rattle.form_expansion.proofs.forms.declare.Goals as goal
 
 pub declare_tree-requires-clause-form : goal.declare_tree-requires-clause-form
 declare_tree-requires-clause-form g c =
-    ((seeded c.args.unit c.args.number (datum_of c.args.form.now.datum), c.in-Ok.ensures.tree), (c.args.bench.now.region.number, c.in-Ok.ensures.region, itself))
+    ((taken c.args.unit c.args.number (form_of c.args.form.now), c.in-Ok.ensures.tree), (c.args.bench.now.region.number, c.in-Ok.ensures.region, itself))
 
 pub declare_tree-requires-clause-stands : goal.declare_tree-requires-clause-stands
 declare_tree-requires-clause-stands g c =
@@ -22,44 +21,44 @@ declare_tree-requires-clause-stands g c =
       layout = at.layout;
       state = at.state;
       notes = at.notes;
-      stands = stands_on b.work c.seed.new.work c.in-Ok.ensures.keeps c.in-Ok.ensures.old_names c.told_apart.ensures.idents c.told_apart.ensures.symbols b.scope at.layout at.state at.notes at.stands;
-      counts = none_count c.seed.new.work at.state c.args.number k.budget k.trace at.fresh none.uses none.nodes none.locals none.definitions none.keywords none.met;
+      stands = stands_on b.work c.seed_as.new.work c.in-Ok.ensures.keeps c.in-Ok.ensures.old_names c.told_apart.ensures.idents c.told_apart.ensures.symbols b.scope at.layout at.state at.notes at.stands;
+      counts = none_count c.seed_as.new.work at.state c.args.number k.budget k.trace at.fresh none.uses none.nodes none.locals none.definitions none.keywords none.met;
     }
 
 pub returns-in-Ok-clause-passes : goal.returns-in-Ok-clause-passes
 returns-in-Ok-clause-passes g c = λ known ls s notes off knows stands own fresh.
     let b = c.args.bench.now in let none = c.blank-blank.ensures in let k = c.blank-blank.result in let n = c.args.number in
-    let t = seeded c.args.unit n (datum_of c.args.form.now.datum) in
-    let m : Bench = record { work = c.seed.new.work; region = b.region; scope = b.scope } in
+    let t = taken c.args.unit n (form_of c.args.form.now) in
+    let m : Bench = record { work = c.seed_as.new.work; region = b.region; scope = b.scope } in
     passes_from b m c.declare_tree.new.bench c.in-Ok.ensures.keeps c.in-Ok.ensures.old_names refl c.args.unit n s own (declared known n t notes s) c.in_ok-declare_tree-in-Ok.field-0
     (c.in_ok-declare_tree-in-Ok.ensures.passes known ls s notes t knows
-    (stands_on b.work c.seed.new.work c.in-Ok.ensures.keeps c.in-Ok.ensures.old_names c.told_apart.ensures.idents c.told_apart.ensures.symbols b.scope ls s notes stands)
-    (none_count c.seed.new.work s n k.budget k.trace fresh none.uses none.nodes none.locals none.definitions none.keywords none.met)
+    (stands_on b.work c.seed_as.new.work c.in-Ok.ensures.keeps c.in-Ok.ensures.old_names c.told_apart.ensures.idents c.told_apart.ensures.symbols b.scope ls s notes stands)
+    (none_count c.seed_as.new.work s n k.budget k.trace fresh none.uses none.nodes none.locals none.definitions none.keywords none.met)
     c.in-Ok.ensures.tree)
 
 pub returns-in-Ok-clause-few : goal.returns-in-Ok-clause-few
 returns-in-Ok-clause-few g c =
     let b = c.args.bench.now in let none = c.blank-blank.ensures in let k = c.blank-blank.result in let n = c.args.number in let at = c.requires.stands in
-    let t = seeded c.args.unit n (datum_of c.args.form.now.datum) in
+    let t = taken c.args.unit n (form_of c.args.form.now) in
     (c.in_ok-declare_tree-in-Ok.ensures.passes (known_by b.scope.libraries) at.layout at.state at.notes t (λ m _. refl)
-    (stands_on b.work c.seed.new.work c.in-Ok.ensures.keeps c.in-Ok.ensures.old_names c.told_apart.ensures.idents c.told_apart.ensures.symbols b.scope at.layout at.state at.notes at.stands)
-    (none_count c.seed.new.work at.state n k.budget k.trace at.fresh none.uses none.nodes none.locals none.definitions none.keywords none.met)
+    (stands_on b.work c.seed_as.new.work c.in-Ok.ensures.keeps c.in-Ok.ensures.old_names c.told_apart.ensures.idents c.told_apart.ensures.symbols b.scope at.layout at.state at.notes at.stands)
+    (none_count c.seed_as.new.work at.state n k.budget k.trace at.fresh none.uses none.nodes none.locals none.definitions none.keywords none.met)
     c.in-Ok.ensures.tree).form_is.counts.few_nodes
 
 pub returns-in-Ok-clause-stays : goal.returns-in-Ok-clause-stays
 returns-in-Ok-clause-stays g c =
     let b = c.args.bench.now in
-    let m : Bench = record { work = c.seed.new.work; region = b.region; scope = b.scope } in
+    let m : Bench = record { work = c.seed_as.new.work; region = b.region; scope = b.scope } in
     stays_on b m c.declare_tree.new.bench
     (stays_by b m c.requires.region refl c.in-Ok.ensures.keeps c.in-Ok.ensures.old_names c.in-Ok.ensures.added c.in-Ok.ensures.regions refl refl)
     c.in_ok-declare_tree-in-Ok.ensures.stays
 
 pub returns-in_err-declare_tree-in-Ok-clause-grows : goal.returns-in_err-declare_tree-in-Ok-clause-grows
 returns-in_err-declare_tree-in-Ok-clause-grows g c =
-    grows_on c.args.bench.now.work c.seed.new.work c.declare_tree.new.bench.work c.args.bench.now.region
-    (record { trees = c.seed.ensures.keeps; names = c.seed.ensures.old_names; regions = c.seed.ensures.regions; added = c.seed.ensures.added }) c.declare_tree.ensures.grows
+    grows_on c.args.bench.now.work c.seed_as.new.work c.declare_tree.new.bench.work c.args.bench.now.region
+    (record { trees = c.seed_as.ensures.keeps; names = c.seed_as.ensures.old_names; regions = c.seed_as.ensures.regions; added = c.seed_as.ensures.added }) c.declare_tree.ensures.grows
 
 pub returns-in-Ok-clause-grows : goal.returns-in-Ok-clause-grows
 returns-in-Ok-clause-grows g c =
-    grows_on c.args.bench.now.work c.seed.new.work c.declare_tree.new.bench.work c.args.bench.now.region
-    (record { trees = c.seed.ensures.keeps; names = c.seed.ensures.old_names; regions = c.seed.ensures.regions; added = c.seed.ensures.added }) c.declare_tree.ensures.grows
+    grows_on c.args.bench.now.work c.seed_as.new.work c.declare_tree.new.bench.work c.args.bench.now.region
+    (record { trees = c.seed_as.ensures.keeps; names = c.seed_as.ensures.old_names; regions = c.seed_as.ensures.regions; added = c.seed_as.ensures.added }) c.declare_tree.ensures.grows

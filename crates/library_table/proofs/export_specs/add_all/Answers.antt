@@ -10,19 +10,19 @@ use Rattle.library_table.proofs.Gathering.{gathered_none, gathered_more, gathere
 use Rattle.library_table.proofs.export_specs.add_all.Goals as goal
 
 pub loop-datum-init : goal.loop-datum-init
-loop-datum-init c = gathered_none IsExportRead (λ k d. export_of c.args.start.form (plain (place c.args.start) (datum_of d))) c.args.parts.now c.args.specs.now c.args.specs.now refl
+loop-datum-init c = gathered_none IsExportRead (λ k d. export_of c.args.number (plain (place c.args.home) (datum_of d))) c.args.parts.now c.args.specs.now c.args.specs.now refl
 
 pub loop-datum-preserved : goal.loop-datum-preserved
 loop-datum-preserved c =
-    let at = place c.args.start in
+    let at = place c.args.home in
     let d = c.datum-item.result in
-    gathered_more IsExportRead (λ k d. export_of c.args.start.form (plain at (datum_of d))) c.args.parts.now c.loop-datum.datum-index d c.args.specs.now c.loop-datum.specs c.add_export.new.specs (omega arith) c.datum-item.is c.loop-datum.invariant
-    (export_added c.loop-datum.specs c.add_export.new.specs c.in_ok-spec.spec (export_of c.args.start.form (plain at (datum_of d))) c.in_ok-add_export.ensures c.in_ok-spec.ensures)
+    gathered_more IsExportRead (λ k d. export_of c.args.number (plain at (datum_of d))) c.args.parts.now c.loop-datum.datum-index d c.args.specs.now c.loop-datum.specs c.add_export.new.specs (omega arith) c.datum-item.is c.loop-datum.invariant
+    (export_added c.loop-datum.specs c.add_export.new.specs c.in_ok-spec.spec (export_of c.args.number (plain at (datum_of d))) c.in_ok-add_export.ensures c.in_ok-spec.ensures)
 
 pub returns : goal.returns
 returns c =
-    let s = c.args.start in
+    let s = c.args.home in
     let ds = c.args.parts.now in
-    let f : ℕ → Datum → List model.ExportSpec = λ k d. export_of s.form (plain (place s) (datum_of d)) in
-    adds_as IsExportRead c.args.specs.now c.loop-datum.specs (numbered f 0 ds) _ (exports_each s.unit s.form s.first 0 ds)
+    let f : ℕ → Datum → List model.ExportSpec = λ k d. export_of c.args.number (plain (place s) (datum_of d)) in
+    adds_as IsExportRead c.args.specs.now c.loop-datum.specs (numbered f 0 ds) _ (exports_each c.args.number s 0 ds)
     (gathered_all IsExportRead f ds c.loop-datum.datum-index c.args.specs.now c.loop-datum.specs (omega arith) c.loop-datum.invariant)

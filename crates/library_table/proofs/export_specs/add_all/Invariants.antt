@@ -7,4 +7,4 @@ use Rattle.library_table.proofs.Gathering.{GatheredUpTo}
 use Rattle.library_table.proofs.export_specs.add_all.Given as goal
 
 abbrev pub invariant-loop-datum : goal.invariant-loop-datum
-invariant-loop-datum l = GatheredUpTo IsExportRead (λ k d. export_of l.start.form (plain (place l.start) (datum_of d))) l.parts l.datum-index l.initial.specs l.specs
+invariant-loop-datum l = GatheredUpTo IsExportRead (λ k d. export_of l.number (plain (place l.home) (datum_of d))) l.parts l.datum-index l.initial.specs l.specs

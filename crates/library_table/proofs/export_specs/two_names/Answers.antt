@@ -8,6 +8,6 @@ use Rattle.library_table.proofs.export_specs.two_names.Goals as goal
 
 pub returns : goal.returns
 returns c = λ r ts end o.
-    let at = place c.args.start in
-    two_named c.args.start.form r (tree_at at c.args.inner.now) (tree_at at c.args.outer.now) ts end o c.in-Some.inner c.in-Some-2.outer (sym (ap (option_map named) c.in-Some.is) ∙ c.in_ok-inner.ensures)
+    let at = place c.args.home in
+    two_named c.args.number r (tree_at at c.args.inner.now) (tree_at at c.args.outer.now) ts end o c.in-Some.inner c.in-Some-2.outer (sym (ap (option_map named) c.in-Some.is) ∙ c.in_ok-inner.ensures)
     (sym (ap (option_map named) c.in-Some-2.is) ∙ c.in_ok-outer.ensures)

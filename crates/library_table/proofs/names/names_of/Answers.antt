@@ -10,11 +10,11 @@ use Rattle.library_table.proofs.names.names_of.Goals as goal
 
 pub loop-datum-init : goal.loop-datum-init
 loop-datum-init c =
-    subst (λ (xs : List SetName). UpTo named name_of (place c.args.start) c.args.parts.now 0 xs) (sym c.new-names.ensures) (front_none (each_of name_of (trees_at (place c.args.start) c.args.parts.now)))
+    subst (λ (xs : List SetName). UpTo named name_of (place c.args.home) c.args.parts.now 0 xs) (sym c.new-names.ensures) (front_none (each_of name_of (trees_at (place c.args.home) c.args.parts.now)))
 
 pub returns-in_err-name : goal.returns-in_err-name
 returns-in_err-name c =
-    let at = place c.args.start in
+    let at = place c.args.home in
     let ds = c.args.parts.now in
     let e = c.in_err-name.field-0.0 in
     reads_err (λ xs. map named xs) c.from_residual.result e (names_of (trees_at at ds)) c.from_residual.ensures.1
@@ -23,7 +23,7 @@ returns-in_err-name c =
 
 pub loop-datum-preserved : goal.loop-datum-preserved
 loop-datum-preserved c =
-    let at = place c.args.start in
+    let at = place c.args.home in
     let ds = c.args.parts.now in
     let i = c.loop-datum.datum-index in
     subst (λ (xs : List SetName). UpTo named name_of at ds (i + 1) xs) (sym c.in_ok-push.ensures.ok)
@@ -31,6 +31,6 @@ loop-datum-preserved c =
 
 pub returns : goal.returns
 returns c =
-    let at = place c.args.start in
+    let at = place c.args.home in
     let ds = c.args.parts.now in
     names_each (trees_at at ds) ∙ up_all named name_of at ds c.loop-datum.datum-index c.loop-datum.names (omega arith) c.loop-datum.invariant

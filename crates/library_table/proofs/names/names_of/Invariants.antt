@@ -5,4 +5,4 @@ use Rattle.library_table.proofs.TreeRows.{UpTo}
 use Rattle.library_table.proofs.names.names_of.Given as goal
 
 abbrev pub invariant-loop-datum : goal.invariant-loop-datum
-invariant-loop-datum l = UpTo named name_of (place l.start) l.parts l.datum-index l.names
+invariant-loop-datum l = UpTo named name_of (place l.home) l.parts l.datum-index l.names

@@ -7,4 +7,4 @@ use Rattle.library_table.proofs.names.only_name.Goals as goal
 pub returns-then-not-is_empty : goal.returns-then-not-is_empty
 returns-then-not-is_empty c = λ end dotted.
     let some : 0 < length c.in-Parts.rest.now = grind (arith, nat_tests) in
-    only_long (place c.args.start) c.args.parts.now c.in-Parts.first.now c.in-Parts.rest.now end c.in-Parts.ensures some
+    only_long (place c.args.home) c.args.parts.now c.in-Parts.first.now c.in-Parts.rest.now end c.in-Parts.ensures some

@@ -11,7 +11,7 @@ use Rattle.library_table.proofs.names.pair_of.Goals as goal
 
 pub returns-in-List : goal.returns-in-List
 returns-in-List c =
-    let at = place c.args.start in
+    let at = place c.args.home in
     let ds = c.in-List.parts.now in
     let t = list_seen at ds c.in-List.dotted (datum_of c.args.datum.now) c.in-List.ensures in
     reads_same paired c.pair_in.result (pair_in (trees_at at ds) t.end) (pair_of (tree_at at c.args.datum.now)) (ap pair_of t.whole) (c.pair_in.ensures t.end t.dotted)

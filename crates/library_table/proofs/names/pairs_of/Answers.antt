@@ -10,11 +10,11 @@ use Rattle.library_table.proofs.names.pairs_of.Goals as goal
 
 pub loop-datum-init : goal.loop-datum-init
 loop-datum-init c =
-    subst (λ (xs : List NamePair). UpTo paired pair_of (place c.args.start) c.args.parts.now 0 xs) (sym c.new-pairs.ensures) (front_none (each_of pair_of (trees_at (place c.args.start) c.args.parts.now)))
+    subst (λ (xs : List NamePair). UpTo paired pair_of (place c.args.home) c.args.parts.now 0 xs) (sym c.new-pairs.ensures) (front_none (each_of pair_of (trees_at (place c.args.home) c.args.parts.now)))
 
 pub returns-in_err-pair : goal.returns-in_err-pair
 returns-in_err-pair c =
-    let at = place c.args.start in
+    let at = place c.args.home in
     let ds = c.args.parts.now in
     let e = c.in_err-pair.field-0.0 in
     reads_err (λ xs. map paired xs) c.from_residual.result e (pairs_of (trees_at at ds)) c.from_residual.ensures.1
@@ -23,7 +23,7 @@ returns-in_err-pair c =
 
 pub loop-datum-preserved : goal.loop-datum-preserved
 loop-datum-preserved c =
-    let at = place c.args.start in
+    let at = place c.args.home in
     let ds = c.args.parts.now in
     let i = c.loop-datum.datum-index in
     subst (λ (xs : List NamePair). UpTo paired pair_of at ds (i + 1) xs) (sym c.in_ok-push.ensures.ok)
@@ -31,6 +31,6 @@ loop-datum-preserved c =
 
 pub returns : goal.returns
 returns c =
-    let at = place c.args.start in
+    let at = place c.args.home in
     let ds = c.args.parts.now in
     pairs_each (trees_at at ds) ∙ up_all paired pair_of at ds c.loop-datum.datum-index c.loop-datum.pairs (omega arith) c.loop-datum.invariant

@@ -6,4 +6,4 @@ use Rattle.library_table.proofs.Gathering.{GatheredUpTo}
 use Rattle.library_table.proofs.parts.add_specs.Given as goal
 
 abbrev pub invariant-loop-datum : goal.invariant-loop-datum
-invariant-loop-datum l = GatheredUpTo IsImportSpec (λ k d. spec_of l.start.unit l.start.form l.start.first (datum_of d) ∷ []) l.parts l.datum-index l.initial.specs l.specs
+invariant-loop-datum l = GatheredUpTo IsImportSpec (λ k d. spec_of l.home.unit l.home.form l.home.first (datum_of d) ∷ []) l.parts l.datum-index l.initial.specs l.specs

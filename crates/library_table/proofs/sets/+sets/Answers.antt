@@ -15,7 +15,7 @@ set_of-set_of_list-requires t c = (omega (arith, parts_lighter c.in-List.parts.n
 
 pub set_of_list-returns-in-None : goal.set_of_list-returns-in-None
 set_of_list-returns-in-None t c =
-    let at = place c.args.start in
+    let at = place c.args.home in
     let d = c.args.datum.now in
     let l = list_seen at c.args.parts.now c.args.dotted (datum_of d) c.requires in
     let o = Some (at (place_of (datum_of d)).first) in
@@ -23,7 +23,7 @@ set_of_list-returns-in-None t c =
 
 pub set_of_list-returns-in_ok-inner-in-Some : goal.set_of_list-returns-in_ok-inner-in-Some
 set_of_list-returns-in_ok-inner-in-Some t c =
-    let at = place c.args.start in
+    let at = place c.args.home in
     let d = c.args.datum.now in
     let l = list_seen at c.args.parts.now c.args.dotted (datum_of d) c.requires in
     let o = Some (at (place_of (datum_of d)).first) in

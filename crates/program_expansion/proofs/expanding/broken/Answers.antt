@@ -1,6 +1,6 @@
 -- The finding stands in a document.
 use Rattle.std.proofs.Common.{◌≡◌, List, [], ◌∷◌, ◌++◌, length, sym, ap, ◌∙◌, subst}
-use Rattle.scheme_model.specs.Diagnostics.{whole_fault}
+use Rattle.scheme_model.specs.Diagnostics.{document_of, whole_fault}
 use Rattle.scheme_model.specs.Program.{whole_code}
 use Rattle.document_units.specs.declared.listing.WholeFault.{WholeFault}
 use Rattle.document_units.specs.declared.findings.Finding.{Finding}
@@ -26,4 +26,4 @@ returns-clause-finds c = λ rs p r f places at broken fault.
     let one = c.in_ok-finding.finding in
     let adds = c.in_ok-finding.ensures.exact rs p.units r f places at (subst (λ (w : WholeFault). IsWhole w f) (sym fault) (whole_of f)) in
     let is : c.push.new.self.items ≡ one ∷ [] = c.in_ok-push.ensures.items ∙ ap (λ (fs : List Finding). fs ++ one ∷ []) c.new-findings.ensures.items in
-    whole_found rs p r f c.push.new.self.items broken (subst (λ (fs : List Finding). Adds [] fs (whole_fault (spans_of rs) r.unit f ∷ []) ((whole_code f, 0) ∷ [])) (sym is) adds)
+    whole_found rs p r f c.push.new.self.items broken (subst (λ (fs : List Finding). Adds [] fs (whole_fault (spans_of rs) (document_of p.units) r.unit f ∷ []) ((whole_code f, 0) ∷ [])) (sym is) adds)

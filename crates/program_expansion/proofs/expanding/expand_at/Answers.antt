@@ -220,7 +220,7 @@ returns-clause-finds g c = λ spelled us known x y order finds up reads ends hea
     record { heads = subst (λ (ks : List Head). AreHeads reads 0 ks ends) (sym c.as_slice-heads.ensures.value) heads; spans = tokens } in
     let result = results n turn.unit turn.there in
     let told : AreSetsFound reads ends p (unit_entries us gp.results p).1 c.in_ok-given.given.findings.items = record {
-      told = c.in_ok-given.ensures.told spelled us gp.results libraries p (record { kind = source.kind; forms = source.forms; specs = source.imports refl }) reads ends places result.0 result.1 result.2;
+      told = c.in_ok-given.ensures.told spelled us gp.results libraries p (record { kind = source.kind; forms = source.forms; specs = source.imports refl }) reads ends places;
       errors = c.in_ok-given.ensures.errors spelled us gp.results libraries p (record { kind = source.kind; forms = source.forms; specs = source.imports refl }) source.forms refl;
     } in
     let mine = c.in_ok-came.ensures.finds spelled known gp p (unit_entries us gp.results p) up.knows goes refl source given reads ends result.0 places result.1 result.2 told in

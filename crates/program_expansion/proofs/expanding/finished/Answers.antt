@@ -1,6 +1,7 @@
 -- What the forms define and name is among the names, to which those of imports and exports are added.
 use Rattle.std.proofs.Common.{◌≡◌, ℕ, List, [], refl, sym, ap, ◌∙◌, subst}
 use Rattle.std.specs.Prelude.{reverse}
+use Rattle.scheme_model.specs.Declarations.{forms_hold}
 use Rattle.scheme_model.specs.Diagnostics.{bytes_of, export_diagnostics, form_diagnostics, hiding_diagnostics, is_empty}
 use Rattle.scheme_model.specs.Program.{Prepared, export_all, names_of_unit, with_refused}
 use Rattle.syntax_tree.specs.declared.units.Entry.{Entry}
@@ -8,6 +9,7 @@ use Rattle.core_tree.specs.Units.{AreDefinitions, FormsStand, definitions_from, 
 use Rattle.core_tree.specs.declared.cores.Binder.{Binder}
 use Rattle.core_tree.specs.declared.units.UnitForm.{UnitForm}
 use Rattle.library_table.specs.declared.units.ImportSpec.{ImportSpec}
+use Rattle.library_table.specs.UnitsRead.{forms_of}
 use Rattle.document_units.specs.UnitSources.{IsSpec}
 use Rattle.core_tree.specs.Names.{AllMatch}
 use Rattle.unit_scopes.proofs.ImportLaws.{same_trees}
@@ -42,8 +44,8 @@ pub add_hiding-requires-clause-known : goal.add_hiding-requires-clause-known
 add_hiding-requires-clause-known c =
     let old = c.args.work.now.symbols in
     let now = c.names_used.new.work.symbols in
-    let is : c.as_slice-6.result.now ≡ definitions_from 0 c.args.forms = c.as_slice-6.ensures.value ∙ c.in_ok-defined.ensures ∙ ap (λ (fs : List UnitForm). definitions_from 0 fs) c.as_slice-slice.ensures in
-    known_kept old now c.in_ok-used.ensures.names c.as_slice-6.result.now (subst (λ (bs : List (ℕ × Binder)). AreKnown old bs) (sym is) (formed_known c.args.work.now c.args.unit c.args.forms c.requires.forms))
+    let is : c.as_slice-7.result.now ≡ definitions_from 0 c.args.forms = c.as_slice-7.ensures.value ∙ c.in_ok-defined.ensures ∙ ap (λ (fs : List UnitForm). definitions_from 0 fs) c.as_slice-slice.ensures in
+    known_kept old now c.in_ok-used.ensures.names c.as_slice-7.result.now (subst (λ (bs : List (ℕ × Binder)). AreKnown old bs) (sym is) (formed_known c.args.work.now c.args.unit c.args.forms c.requires.forms))
 
 pub add_unbound_if-requires-clause-forms : goal.add_unbound_if-requires-clause-forms
 add_unbound_if-requires-clause-forms c =
@@ -99,7 +101,7 @@ returns-clause-finds c = λ spelled q p imports fs own source are stand told rea
     let f4 = c.add_unbound_if.new.findings.items in
     let f5 = c.add_no_import.new.findings.items in
     let is : c.as_slice-2.result.now ≡ definitions_from 0 c.args.forms = c.as_slice-2.ensures.value ∙ c.in_ok-defined.ensures ∙ ap (λ (fs : List UnitForm). definitions_from 0 fs) c.as_slice-slice.ensures in
-    let is_too : c.as_slice-6.result.now ≡ definitions_from 0 c.args.forms = c.as_slice-6.ensures.value ∙ c.in_ok-defined.ensures ∙ ap (λ (fs : List UnitForm). definitions_from 0 fs) c.as_slice-slice.ensures in
+    let is_too : c.as_slice-7.result.now ≡ definitions_from 0 c.args.forms = c.as_slice-7.ensures.value ∙ c.in_ok-defined.ensures ∙ ap (λ (fs : List UnitForm). definitions_from 0 fs) c.as_slice-slice.ensures in
     let names = c.in_ok-names.names.items in
     let finds = c.in_ok-names.ensures.finds q.table (subst (λ (bs : List (ℕ × Binder)). AreDefinitions old.symbols (reverse bs) (defined_by unit q.table)) (sym is) told) imports.0 are in
     let named = subst (λ (es : List Entry). FindsNames old.symbols es find) (sym c.as_slice-5.ensures.value) finds in
@@ -107,7 +109,8 @@ returns-clause-finds c = λ spelled q p imports fs own source are stand told rea
     let exports : Adds f0 f1 (export_diagnostics bytes unit xfaults) (export_errors xfaults) =
     record { told = c.in_ok-exports.ensures.told old.symbols find named p.exports source.exports reads ends places; errors = c.in_ok-exports.ensures.errors old.symbols find named p.exports source.exports } in
     let forms = subst (λ (cs : List UnitForm). FormsStand old unit 0 cs all) (sym c.as_slice-slice.ensures) stand in
-    let faults = c.in_ok-add_faults.ensures.exact reads ends old all places keeps forms in
+    let faults : Adds f1 f2 (form_diagnostics bytes (forms_hold unit p.forms) unit all) (form_errors all) =
+    subst (λ gs. Adds f1 f2 (form_diagnostics bytes (forms_hold unit gs) unit all) (form_errors all)) (ap forms_of c.as_slice-6.ensures ∙ sym source.forms) (c.in_ok-add_faults.ensures.exact reads ends old all places keeps forms) in
     let hiding = c.in_ok-add_hiding.ensures.exact reads ends q.table imports.0 places
     (subst (λ (bs : List (ℕ × Binder)). AreDefinitions new.symbols (reverse bs) (defined_by unit q.table)) (sym is_too) (definitions_kept old.symbols new.symbols keeps (reverse (definitions_from 0 c.args.forms)) (defined_by unit q.table) told))
     (entries_kept old.symbols new.symbols keeps c.args.given.joined.entries.items imports.0 are) old all forms in
@@ -115,5 +118,5 @@ returns-clause-finds c = λ spelled q p imports fs own source are stand told rea
     let none = c.in_ok-add_no_import.ensures.exact spelled reads ends r places at (subst (λ (x : Prepared). ImportsAs spelled c.args.source.now x) (sym unit_is) (record { kind = source.kind; forms = source.forms; specs = source.imports refl })) in
     all_found reads ends q p imports fs f0 f1 f2 f3 f4 f5 c.none_placed-sets_are_good.result sets
     (subst (λ n. Adds f0 f1 (export_diagnostics bytes n (export_all (names_of_unit q.table n imports.0) [] p.exports).faults) (export_errors (export_all (names_of_unit q.table n imports.0) [] p.exports).faults)) (sym own) exports)
-    (subst (λ n. Adds f1 f2 (form_diagnostics bytes n all) (form_errors all)) (sym own) faults) (subst (λ n. Adds f2 f3 (hiding_diagnostics bytes n all imports.0 q.table) []) (sym own) hiding)
+    (subst (λ n. Adds f1 f2 (form_diagnostics bytes (forms_hold n p.forms) n all) (form_errors all)) (sym own) faults) (subst (λ n. Adds f2 f3 (hiding_diagnostics bytes n all imports.0 q.table) []) (sym own) hiding)
     (c.none_placed-sets_are_good.ensures ∙ ap (λ (xs : List Finding). is_empty (all_told xs)) c.as_slice.ensures.value) unbound (subst (λ (x : Prepared). Adds f4 f5 (no_import_diagnostics (spans_of reads) x) []) unit_is none)

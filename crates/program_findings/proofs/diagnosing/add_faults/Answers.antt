@@ -1,7 +1,9 @@
 -- What a fault names is among the names.
 use Rattle.std.proofs.Common.{◌≡◌, ◌<◌, ◌+◌, ◌++◌, ◌∷◌, [], refl, subst, length, arith, add-one}
 use Rattle.std.proofs.lemmas.Option.{slice_get_read}
+use Rattle.scheme_model.specs.Declarations.{forms_hold}
 use Rattle.scheme_model.specs.Diagnostics.{bytes_of}
+use Rattle.library_table.specs.UnitsRead.{forms_of}
 use Rattle.core_tree.specs.Traces.{IsFault}
 use Rattle.document_units.specs.Places.{spans_of}
 use Rattle.document_units.specs.Diagnosed.{fault_found}
@@ -28,12 +30,12 @@ loop-place-preserved c =
     record {
       inside = λ found. c.in_ok-add_fault.ensures.inside (c.loop-place.invariant.inside found);
       exact = λ rs us work fs are kept stand.
-          come_more (bytes_of (spans_of rs) us) work c.args.unit fs c.args.findings.now.items c.loop-place.findings.items c.add_fault.new.findings.items c.loop-place.place (c.loop-place.place + 1) c.index-forms-place.result c.args.forms.now at (add-one c.loop-place.place)
+          come_more (bytes_of (spans_of rs) us) (forms_hold c.args.unit (forms_of c.args.sources.now)) work c.args.unit fs c.args.findings.now.items c.loop-place.findings.items c.add_fault.new.findings.items c.loop-place.place (c.loop-place.place + 1) c.index-forms-place.result c.args.forms.now at (add-one c.loop-place.place)
           (c.loop-place.invariant.exact rs us work fs are kept stand) c.in_ok-add_fault.ensures.whole
-          (λ fault e has is. subst (λ n. IsFault work.symbols c.args.unit n fault e → c.add_fault.new.findings.items ≡ c.loop-place.findings.items ++ fault_found (bytes_of (spans_of rs) us) c.args.unit n e ∷ []) c.in_ok-number.ensures
+          (λ fault e has is. subst (λ n. IsFault work.symbols fault e → c.add_fault.new.findings.items ≡ c.loop-place.findings.items ++ fault_found (bytes_of (spans_of rs) us) (forms_hold c.args.unit (forms_of c.args.sources.now)) c.args.unit n e ∷ []) c.in_ok-number.ensures
           (λ h. c.in_ok-add_fault.ensures.fault rs us work.symbols fault e are kept has h) is);
     }
 
 pub returns-clause-exact : goal.returns-clause-exact
 returns-clause-exact c = λ rs us work fs are kept stand.
-    come_all (bytes_of (spans_of rs) us) work c.args.unit fs c.args.findings.now.items c.loop-place.findings.items c.loop-place.findings.items c.loop-place.place c.args.forms.now (omega arith) (c.loop-place.invariant.exact rs us work fs are kept stand)
+    come_all (bytes_of (spans_of rs) us) (forms_hold c.args.unit (forms_of c.args.sources.now)) work c.args.unit fs c.args.findings.now.items c.loop-place.findings.items c.loop-place.findings.items c.loop-place.place c.args.forms.now (omega arith) (c.loop-place.invariant.exact rs us work fs are kept stand)

@@ -1,7 +1,9 @@
 use Rattle.std.proofs.Common.{List, length, drop}
 use Rattle.scheme_model.specs.UnitExpansion.{Formed}
 use Rattle.scheme_model.specs.Program.{UnitResult}
+use Rattle.scheme_model.specs.Declarations.{forms_hold}
 use Rattle.scheme_model.specs.Diagnostics.{bytes_of}
+use Rattle.library_table.specs.UnitsRead.{forms_of}
 use Rattle.syntax_tree.specs.Names.{KeepsNames}
 use Rattle.syntax_tree.specs.declared.trees.Work.{Work}
 use Rattle.core_tree.specs.Units.{FormsStand}
@@ -15,5 +17,5 @@ abbrev pub invariant-loop-place : goal.invariant-loop-place
 invariant-loop-place l = record {
   inside : AreFoundIn (length l.places.documents.now) l.initial.findings.items → AreFoundIn (length l.places.documents.now) l.findings.items;
   exact : (rs : List Read) (us : List UnitResult) (work : Work) (fs : List Formed) → ArePlaces l.places rs us → KeepsNames work.symbols l.symbols → FormsStand work l.unit 0 l.forms fs →
-      ToCome (bytes_of (spans_of rs) us) work l.unit l.place (drop l.place l.forms) fs l.initial.findings.items l.findings.items;
+      ToCome (bytes_of (spans_of rs) us) (forms_hold l.unit (forms_of l.sources)) work l.unit l.place (drop l.place l.forms) fs l.initial.findings.items l.findings.items;
 }

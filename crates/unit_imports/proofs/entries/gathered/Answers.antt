@@ -1,12 +1,12 @@
 use Rattle.std.proofs.Common.{List, [], ◌++◌, ◌∙◌, sym, ap}
 use Rattle.std.specs.List.{zip}
 use Rattle.scheme_model.specs.Declarations.{UnitForm}
-use Rattle.scheme_model.specs.Diagnostics.{bytes_of}
+use Rattle.scheme_model.specs.Diagnostics.{document_of, bytes_of}
 use Rattle.scheme_model.specs.Program.{import_all, specs_from}
 use Rattle.core_tree.specs.Units.{set_errors, set_forms}
 use Rattle.document_units.specs.Findings.{all_told, errors_in}
 use Rattle.document_units.specs.Places.{spans_of}
-use Rattle.unit_imports.proofs.GivenLaws.{base_errors, base_stands, base_told, document_is, sets_errors, sets_stand, sets_told}
+use Rattle.unit_imports.proofs.GivenLaws.{base_errors, base_stands, base_told, sets_errors, sets_stand, sets_told}
 use Rattle.unit_imports.proofs.entries.gathered.Goals as goal
 
 pub returns-then-imports_nothing-clause-exact : goal.returns-then-imports_nothing-clause-exact
@@ -14,8 +14,8 @@ returns-then-imports_nothing-clause-exact c = λ spelled all rs libs p im.
     base_stands c.base_given.new.symbols c.in_ok-base_given.field-0.groups.items all rs p spelled c.args.source.now im c.imports_nothing.result c.imports_nothing.ensures c.if-imports_nothing.true c.in_ok-base_given.ensures.exact
 
 pub returns-then-imports_nothing-clause-told : goal.returns-then-imports_nothing-clause-told
-returns-then-imports_nothing-clause-told c = λ spelled all rs libs p im reads us places r at is.
-    base_told (bytes_of (spans_of reads) us) (all_told c.args.findings.now.items) all rs p spelled c.args.source.now im c.imports_nothing.result c.imports_nothing.ensures c.if-imports_nothing.true
+returns-then-imports_nothing-clause-told c = λ spelled all rs libs p im reads us places.
+    base_told (bytes_of (spans_of reads) us) (document_of us) (all_told c.args.findings.now.items) all rs p spelled c.args.source.now im c.imports_nothing.result c.imports_nothing.ensures c.if-imports_nothing.true
 
 pub returns-clause-exact : goal.returns-clause-exact
 returns-clause-exact c = λ spelled all rs libs p im.
@@ -23,9 +23,9 @@ returns-clause-exact c = λ spelled all rs libs p im.
     (c.in_ok-sets_given.ensures.exact spelled all rs libs p.specs im.specs)
 
 pub returns-clause-told : goal.returns-clause-told
-returns-clause-told c = λ spelled all rs libs p im reads us places r at is.
-    sets_told (bytes_of (spans_of reads) us) (all_told c.args.findings.now.items) (all_told c.sets_given.new.findings.items) c.start-document.result.document all rs p spelled c.args.source.now im c.imports_nothing.result c.imports_nothing.ensures
-    c.if-imports_nothing.false (document_is c.start-document.result (spans_of reads) us c.args.unit r p (c.start-document.ensures.exact reads us places) at is) (c.in_ok-sets_given.ensures.told spelled all rs libs p.specs im.specs reads us places)
+returns-clause-told c = λ spelled all rs libs p im reads us places.
+    sets_told (bytes_of (spans_of reads) us) (document_of us) (all_told c.args.findings.now.items) (all_told c.sets_given.new.findings.items) all rs p spelled c.args.source.now im c.imports_nothing.result c.imports_nothing.ensures
+    c.if-imports_nothing.false (c.in_ok-sets_given.ensures.told spelled all rs libs p.specs im.specs reads us places)
 
 pub returns-then-imports_nothing-clause-errors : goal.returns-then-imports_nothing-clause-errors
 returns-then-imports_nothing-clause-errors c = λ spelled all rs libs p im forms specs.

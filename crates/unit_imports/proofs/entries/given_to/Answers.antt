@@ -4,7 +4,7 @@ use Rattle.scheme_model.specs.Program.{unit_entries}
 use Rattle.core_tree.specs.Units.{set_errors, set_forms}
 use Rattle.syntax_tree.specs.Meant.{AreEntries}
 use Rattle.syntax_tree.specs.declared.units.Entry.{Entry}
-use Rattle.scheme_model.specs.Diagnostics.{bytes_of, set_diagnostics}
+use Rattle.scheme_model.specs.Diagnostics.{document_of, bytes_of, set_diagnostics}
 use Rattle.document_units.specs.Findings.{all_told, errors_in}
 use Rattle.document_units.specs.Places.{spans_of}
 use Rattle.document_units.specs.declared.findings.Finding.{Finding}
@@ -15,9 +15,9 @@ returns-clause-exact c = λ spelled all rs libs p im.
     subst (λ (es : List Entry). AreEntries c.gathered.new.symbols es (unit_entries all rs p).0) (sym c.in_ok-of.ensures.entries) (c.in_ok-gathering.ensures.exact spelled all rs libs p im)
 
 pub returns-clause-told : goal.returns-clause-told
-returns-clause-told c = λ spelled all rs libs p im reads us places r at is.
-    c.in_ok-gathering.ensures.told spelled all rs libs p im reads us places r at is
-    ∙ ap (λ (fs : List Finding). all_told fs ++ set_diagnostics (bytes_of (spans_of reads) us) p.placed.document p.specs (unit_entries all rs p).1) c.new-findings.ensures.items
+returns-clause-told c = λ spelled all rs libs p im reads us places.
+    c.in_ok-gathering.ensures.told spelled all rs libs p im reads us places
+    ∙ ap (λ (fs : List Finding). all_told fs ++ set_diagnostics (bytes_of (spans_of reads) us) (document_of us) p.specs (unit_entries all rs p).1) c.new-findings.ensures.items
 
 pub returns-clause-errors : goal.returns-clause-errors
 returns-clause-errors c = λ spelled all rs libs p im forms specs.

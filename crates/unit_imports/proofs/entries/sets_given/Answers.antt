@@ -1,5 +1,6 @@
 use Rattle.std.proofs.Common.{◌≡◌, ℕ, List, [], ◌∷◌, ◌++◌, ◌∙◌, append-nil, length, drop, sym, ap, subst, arith}
 use Rattle.std.specs.List.{zip}
+use Rattle.scheme_model.specs.Diagnostics.{document_of, bytes_of, set_found}
 use Rattle.scheme_model.specs.Program.{ImportSpec, import_all}
 use Rattle.core_tree.specs.Names.{AllMatch}
 use Rattle.core_tree.specs.Units.{set_errors, set_forms}
@@ -8,7 +9,7 @@ use Rattle.library_table.specs.declared.units.UnitForm.{UnitForm}
 use Rattle.import_sets.specs.Given.{Gathered}
 use Rattle.library_table.specs.declared.units.ImportSpec as code
 use Rattle.document_units.specs.Findings.{all_told, errors_in}
-use Rattle.document_units.specs.Places.{number_at}
+use Rattle.document_units.specs.Places.{number_at, spans_of}
 use Rattle.unit_imports.specs.Joining.{AreApart, GroupsMean}
 use Rattle.unit_imports.specs.SetsGiven.{with_set}
 use Rattle.document_units.specs.UnitSources.{IsSpec}
@@ -27,7 +28,7 @@ loop-place-init c =
       apart = subst AreApart (sym none) tt;
       clashes = ap (λ (g : Gathered). g.clashes) c.new-gathering.ensures;
       findings = c.requires.findings;
-      sets = λ spelled all rs libs ss specs. sets_told_begin c.args.symbols.now c.new-gathering.result.groups.items (all_told c.args.findings.now.items) c.args.places c.args.document all rs ss c.in_ok-forms.forms.items (errors_in c.args.findings.now.items) none;
+      sets = λ spelled all rs libs ss specs. sets_told_begin c.args.symbols.now c.new-gathering.result.groups.items (all_told c.args.findings.now.items) c.args.places all rs ss c.in_ok-forms.forms.items (errors_in c.args.findings.now.items) none;
     }
 
 pub loop-place-preserved : goal.loop-place-preserved
@@ -50,19 +51,21 @@ loop-place-preserved c =
           let h = c.loop-place.invariant.sets spelled all rs libs ss specs in
           let known = libraries_kept old mid c.loop-place.invariant.names c.args.libraries spelled all rs libs in
           sets_told_next mid new c.loop-place.gathering.groups.items c.in_ok-gathering.gathering.groups.items (all_told c.args.findings.now.items) (all_told c.loop-place.findings.items) (all_told c.with_set.new.findings.items) c.args.places
-          c.args.document all rs ss i m.0 fs (errors_in c.args.findings.now.items) (errors_in c.loop-place.findings.items) (errors_in c.with_set.new.findings.items) m.1 h
-          (c.in_ok-gathering.ensures.exact spelled all rs known m.0 m.2 h.sets.es h.sets.stand) (c.in_ok-gathering.ensures.told spelled all rs known m.0 m.2 h.sets.es h.sets.stand)
+          all rs ss i m.0 fs (errors_in c.args.findings.now.items) (errors_in c.loop-place.findings.items) (errors_in c.with_set.new.findings.items) m.1 h
+          (c.in_ok-gathering.ensures.exact spelled all rs known m.0 m.2 h.sets.es h.sets.stand) (λ reads us are.
+          c.in_ok-gathering.ensures.told spelled all rs known m.0 m.2 h.sets.es h.sets.stand reads us are
+          ∙ ap (λ (d : ℕ). all_told c.loop-place.findings.items ++ set_found (bytes_of (spans_of reads) us) d m.0 (with_set all rs m.0.set h.sets.es).1) (c.document_of-document.ensures.exact reads us are ∙ ap (document_of us) m.2.unit))
           (c.in_ok-gathering.ensures.errors spelled all rs known m.0 m.2 h.sets.es h.sets.stand ∙ ap (λ (n : ℕ). errors_in c.loop-place.findings.items ++ set_errors ((n, (with_set all rs m.0.set h.sets.es).1) ∷ [])) (c.form_in-form.ensures ∙ ap (λ (ns : List ℕ). number_at ns i) c.as_slice-in-loop-place.ensures.value));
     }
 
 pub returns-clause-exact : goal.returns-clause-exact
 returns-clause-exact c = λ spelled all rs libs ss specs.
-    (sets_done c.loop-place.symbols c.loop-place.gathering.groups.items (all_told c.args.findings.now.items) (all_told c.loop-place.findings.items) c.args.places c.args.document all rs ss (drop c.loop-place.place ss)
+    (sets_done c.loop-place.symbols c.loop-place.gathering.groups.items (all_told c.args.findings.now.items) (all_told c.loop-place.findings.items) c.args.places all rs ss (drop c.loop-place.place ss)
     (none_left (IsSpec spelled) c.args.source.now.imports ss c.loop-place.place specs (let e = ap (λ (l : List code.ImportSpec). length l) c.as_slice-specs.ensures in omega arith)) (c.loop-place.invariant.sets spelled all rs libs ss specs).sets).stand
 
 pub returns-clause-told : goal.returns-clause-told
 returns-clause-told c = λ spelled all rs libs ss specs reads us places.
-    (sets_done c.loop-place.symbols c.loop-place.gathering.groups.items (all_told c.args.findings.now.items) (all_told c.loop-place.findings.items) c.args.places c.args.document all rs ss (drop c.loop-place.place ss)
+    (sets_done c.loop-place.symbols c.loop-place.gathering.groups.items (all_told c.args.findings.now.items) (all_told c.loop-place.findings.items) c.args.places all rs ss (drop c.loop-place.place ss)
     (none_left (IsSpec spelled) c.args.source.now.imports ss c.loop-place.place specs (let e = ap (λ (l : List code.ImportSpec). length l) c.as_slice-specs.ensures in omega arith)) (c.loop-place.invariant.sets spelled all rs libs ss specs).sets).found
     reads us places
 
@@ -77,3 +80,6 @@ returns-clause-errors c = λ spelled all rs libs ss specs unit is.
     let past : drop n ss ≡ [] = none_left (IsSpec spelled) c.args.source.now.imports ss n specs (let e = ap (λ (l : List code.ImportSpec). length l) c.as_slice-specs.ensures in omega arith) in
     sym (append-nil now) ∙ (ap (λ (es : List (ℕ × ℕ)). now ++ es) (sym (no_set_errors (drop n fs))) ∙ (ap (λ (l : List ImportSpec). now ++ set_errors (zip (drop n fs) (import_all all rs h.sets.es l).1)) (sym past)
     ∙ (h.errors many ∙ ap (λ (ns : List ℕ). errors_in c.args.findings.now.items ++ set_errors (zip ns (import_all all rs [] ss).1)) forms)))
+
+pub with_set-requires-clause-document : goal.with_set-requires-clause-document
+with_set-requires-clause-document c = c.document_of-document.ensures.inside c.requires.places c.requires.documents

@@ -19,5 +19,5 @@ invariant-loop-place l = record {
   clashes : l.gathering.clashes.items ≡ [];
   findings : AreFoundIn (length l.places.documents.now) l.findings.items;
   sets : (spelled : LibraryName → List ℕ) (all : List Placed) (rs : List UnitResult) → AreLibraries l.initial.symbols l.libraries spelled all rs → (ss : List ImportSpec) → AllMatch (IsSpec spelled) l.source.imports ss →
-      SetsTold l.symbols l.gathering.groups.items (all_told l.initial.findings.items) (all_told l.findings.items) l.places l.document all rs ss (drop l.place ss) l.forms.items (drop l.place l.forms.items) (errors_in l.initial.findings.items) (errors_in l.findings.items);
+      SetsTold l.symbols l.gathering.groups.items (all_told l.initial.findings.items) (all_told l.findings.items) l.places all rs ss (drop l.place ss) l.forms.items (drop l.place l.forms.items) (errors_in l.initial.findings.items) (errors_in l.findings.items);
 }

@@ -1,4 +1,4 @@
-use Rattle.std.proofs.Common.{◌≡◌, ℕ, ◌<◌, ◌≤◌, List, length, Some, Ok, Err, sym, ap, ◌∙◌, subst, arith}
+use Rattle.std.proofs.Common.{◌≡◌, ℕ, ◌<◌, ◌≤◌, List, length, Some, Ok, Err, sym, ◌∙◌, subst, arith}
 use Rattle.std.proofs.lemmas.Option.{slice_get_within}
 use Rattle.scheme_model.specs.Order.{use_of}
 use Rattle.syntax_tree.specs.Macros.{AreLeaves}
@@ -7,7 +7,6 @@ use Rattle.syntax_tree.specs.declared.trees.nodes.Tree as number
 use Rattle.unit_scopes.specs.Macros.{macro_in}
 use Rattle.unit_scopes.specs.Searched.{searched}
 use Rattle.unit_scopes.specs.Stepped.{with_use_begun}
-use Rattle.unit_scopes.specs.Counts.{named_fault}
 use Rattle.unit_scopes.specs.Used.{match_of_use, InstanceFor}
 use Rattle.unit_scopes.specs.Outcomes.{At, EndsHere}
 use Rattle.feature_requirements.specs.declared.fault.ExpandFault.{ExpandFault}
@@ -58,7 +57,7 @@ returns-in_default-clause-used c = λ known ls s fs keyword m ts tail stands the
     let begun : c.begin_use.new.self ≡ with_use_begun u scope = c.in_ok-number.ensures.begun in
     subst (λ (v : UnitScope). EndsHere (InstanceFor w r u.unit u.form.number) w w r u v ls (Err c.fails_at.result) (use_of (searched known) at.here fs keyword m ts tail s)) (sym begun)
     (subst (λ (x : ExpandFault). EndsHere (InstanceFor w r u.unit u.form.number) w w r u (with_use_begun u scope) ls (Err x) (use_of (searched known) at.here fs keyword m ts tail s))
-    (sym (c.fails_at.ensures ∙ ap (λ (v : UnitScope). named_fault v.unit v.form.number at.here 26 c.name_of.result) begun))
+    (sym c.fails_at.ensures)
     (unmatched_ends known at.here fs keyword m ts tail s w r u ls stands (InstanceFor w r u.unit u.form.number) scope at_scope few at.keyword c.name_of.result for.target c.name_of.ensures.ident c.name_of.ensures.place none))
 
 pub instance-requires-clause-matched : goal.instance-requires-clause-matched

@@ -1,4 +1,4 @@
-use Rattle.std.proofs.Common.{Err, sym, ◌∙◌, subst}
+use Rattle.std.proofs.Common.{Err, sym, subst}
 use Rattle.scheme_model.specs.Order.{rules_at}
 use Rattle.scheme_model.specs.RulesShape.{Rules}
 use Rattle.scheme_model.specs.Ident.{Ident as Identifier}
@@ -36,4 +36,4 @@ returns-in-Err-clause-read c = λ known region ls s fs t r stands at for parts.
     let P : Macro → Rules Identifier → Type 0 = λ k rs. IsMacro w ls k (record { env = fs; rules = rs }) in
     let counted = counted_rules known w region u v ls s here t r c.size.result (c.size.ensures t for) stands c.in_ok-count.ensures in
     subst (λ (x : ExpandFault). EndsHere P w w region u v ls (Err x) (rules_at (searched known) here t r s)) (sym c.bad_rules.ensures)
-    (bad_end known here t r s w region u v ls parts counted.0 counted.1 P c.in-Err.fault stands.form.few_nodes (counted.1.same.unit ∙ stands.unit) (counted.1.same.number ∙ stands.form.number) (c.in-Err.ensures t for))
+    (bad_end known here t r s w region u v ls parts counted.0 counted.1 P c.in-Err.fault stands.form.few_nodes (c.in-Err.ensures t for))

@@ -15,7 +15,7 @@ pub returns-in_default : goal.returns-in_default
 returns-in_default c = λ known ls s fs t stands at for.
     let w = c.args.work.now in let here = c.args.here in
     subst (λ (x : ExpandFault). Tests w s (Err x) (rules_parts (searched known) here fs (rules_parts_of t) s)) (sym c.fails.ensures)
-    (record { fault = BadForm; here = here }, no_rules_are known w.symbols fs s here (rules_parts_of t) (c.in_default.ensures t for), record { code = refl; name = tt; place = refl; text = refl })
+    (record { fault = BadForm; here = here }, no_rules_are known w.symbols fs s here (rules_parts_of t) (c.in_default.ensures t for), record { code = refl; name = tt; place = refl; here = refl; text = refl })
 
 pub head_of-requires-clause-ident : goal.head_of-requires-clause-ident
 head_of-requires-clause-ident c =
@@ -32,7 +32,7 @@ returns-then-not-is_rules c = λ known ls s fs t stands at for.
       record { fault = BadForm; here = here },
       other_head known w.symbols fs s here c.in-Some.ident (rules_parts_of t) (c.in-Some.ensures t for)
           (λ i is. sym (c.is_rules.ensures (head_as (λ x. is_some (macro_at s.macros x)) (means_here s fs i)) (c.head_of.ensures ls s fs i stands at is)) ∙ no),
-      record { code = refl; name = tt; place = refl; text = refl },
+      record { code = refl; name = tt; place = refl; here = refl; text = refl },
     )
 
 pub returns : goal.returns
