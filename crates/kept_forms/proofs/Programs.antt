@@ -5,10 +5,9 @@ use Rattle.std.proofs.lemmas.Bool.{false_from_ne_true}
 use Rattle.std.proofs.lemmas.Bool.Decides.{nat_tests}
 use Rattle.scheme_model.specs.Identifiers.{Number}
 use Rattle.scheme_model.specs.Ident.{Ident, Written}
-use Rattle.scheme_model.specs.Trees.{Tree, placed_in}
-use Rattle.scheme_model.specs.Data.{place_of}
+use Rattle.scheme_model.specs.Trees.{Tree, placed_by}
 use Rattle.scheme_model.specs.DataTrees.{tree_of}
-use Rattle.scheme_model.specs.Declarations.{UnitForm}
+use Rattle.scheme_model.specs.Declarations.{UnitForm, home_of}
 use Rattle.scheme_model.specs.Requirements.{Known}
 use Rattle.scheme_model.specs.Order.{is_some}
 use Rattle.scheme_model.specs.UnitExpansion.{Formed, unit}
@@ -52,7 +51,7 @@ module _ (written : List ℕ → Ident) (u : ℕ) where
   from_here (x ∷ fs) k form le = go x.declared (from_here fs k (suc form) (omega (arith, le)))
     where
       go : (b : Bool) → AllOf (λ (t : ℕ × Tree Ident). k ≤ t.0) (forms_over written u (suc form) fs)
-          → AllOf (λ (t : ℕ × Tree Ident). k ≤ t.0) (cond b (forms_over written u (suc form) fs) ((form, tree_of written (placed_in u form (place_of x.datum).first) x.datum) ∷ forms_over written u (suc form) fs))
+          → AllOf (λ (t : ℕ × Tree Ident). k ≤ t.0) (cond b (forms_over written u (suc form) fs) ((form, tree_of written (placed_by (home_of u form x)) x.datum) ∷ forms_over written u (suc form) fs))
       go true h = h
       go false h = (le, h)
 
@@ -60,7 +59,7 @@ module _ (written : List ℕ → Ident) (u : ℕ) where
   forms_distinct [] form = tt
   forms_distinct (x ∷ fs) form = go x.declared (forms_distinct fs (suc form))
     where
-      go : (b : Bool) → Distinct number_of (forms_over written u (suc form) fs) → Distinct number_of (cond b (forms_over written u (suc form) fs) ((form, tree_of written (placed_in u form (place_of x.datum).first) x.datum) ∷ forms_over written u (suc form) fs))
+      go : (b : Bool) → Distinct number_of (forms_over written u (suc form) fs) → Distinct number_of (cond b (forms_over written u (suc form) fs) ((form, tree_of written (placed_by (home_of u form x)) x.datum) ∷ forms_over written u (suc form) fs))
       go true h = h
       go false h =
           (all_of_more (λ (t : ℕ × Tree Ident). suc form ≤ t.0) (λ (t : ℕ × Tree Ident). form ≡ t.0 → ⊥) (λ t le e. omega (arith, le, e)) (forms_over written u (suc form) fs) (from_here fs (suc form) (suc form) (omega arith)), h)

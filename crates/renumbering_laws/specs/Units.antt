@@ -1,7 +1,10 @@
 -- Units of a program under other numbers (R7RS 5.1, 5.6), and what was expanded before them.
 use Rattle.std.specs.Prelude.{◌≡◌, map}
+use Rattle.scheme_model.specs.declared.Home.{Home}
 use Rattle.scheme_model.specs.Ident.{Written}
 use Rattle.scheme_model.specs.Substitution.{definition_count, Table}
+use Rattle.scheme_model.specs.Declarations.{UnitForm}
+use Rattle.scheme_model.specs.RulesShape.{option_map}
 use Rattle.scheme_model.specs.Program.{Prepared, Progress, is_program, form_trees, prelude_unit}
 use Rattle.scheme_model.specs.ScopedProgram.{ScopedProgress, forms_over}
 use Rattle.renumbering_laws.specs.Renumbering.{Renumbering, ident, named_as, numbered_as}
@@ -31,6 +34,14 @@ pub record UnitMoves (r : Renumbering) (p q : Prepared) (table table' : Table) :
   pub number : q.number ≡ r.unit p.number
   pub kind : is_program q.placed.source.kind ≡ is_program p.placed.source.kind
   pub counts : CountsOn r p.number (definition_count table p.number) (definition_count table' q.number)
+
+-- the home of a text, under its new numbers
+abbrev pub home_as : Renumbering → Home → Home
+home_as r h = record { unit = r.unit h.unit; form = r.form h.unit h.form; first = h.first }
+
+-- a form, with the home of its text where that is included
+abbrev pub form_as : Renumbering → UnitForm → UnitForm
+form_as r f = record { datum = f.datum; declared = f.declared; home = option_map (home_as r) f.home }
 
 -- it has the same forms, under their new numbers
 abbrev pub FormsMove : Renumbering → Prepared → Prepared → Type 0

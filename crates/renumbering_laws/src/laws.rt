@@ -21,7 +21,7 @@ ghost use Rattle.renumbering_laws.specs.Renumbering.{Renumbering, IsOneToOne, id
 ghost use Rattle.renumbering_laws.specs.States.{named_pending, named_pass, TablesMove, EntriesMove, StatesMove, StatesRest, StatesGo, StatesGoRest};
 ghost use Rattle.renumbering_laws.specs.ScopedStates.{IsOnto, scoped_pending, scoped_pass, ScopedMove, ScopedRest, ScopedGo, ScopedGoRest};
 ghost use Rattle.renumbering_laws.specs.NewStates.{HasInverse, state_new, scoped_state_new};
-ghost use Rattle.renumbering_laws.specs.Units.{KeepsPrelude, ProgressMoves, ScopedProgressMoves, UnitMoves, FormsMove, ScopedFormsMove};
+ghost use Rattle.renumbering_laws.specs.Units.{KeepsPrelude, ProgressMoves, ScopedProgressMoves, UnitMoves, FormsMove, ScopedFormsMove, form_as};
 ghost use Rattle.renumbering_laws.specs.Exports.{entry_as, export_as, exported_as};
 ghost use Rattle.renumbering_laws.specs.Pairings.{ArePairs, IsAside, Sends, forth, paired};
 ghost use Rattle.renumbering_laws.specs.Arrows.{leaf_as, name_use_as, arrow_as, UnitsMove, SameMembers, UnitsMoveAround, BoundAlike, AreApart};
@@ -68,7 +68,8 @@ pub fn pairs_are_renumberings()
 
 /// A unit of a program comes to the same under its new number (R7RS 5.1, 5.6), where what was expanded before it corresponds: its forms are those
 /// before, renumbered, and what is defined by then corresponds. The prelude corresponds to itself where its unit and its form keep their
-/// numbers. A unit's forms are the same where only units are renumbered.
+/// numbers. A unit's forms are the same where its own aren't renumbered, each with the
+/// home of its text under the new numbers.
 pub fn units_are_renumbered()
     ensures scoped { (r : Renumbering) (w : IsOnto r) (known : Known) (p q : Prepared) (g h : ScopedProgress) (entry entry' : Entries) →
         IsOneToOne r → UnitMoves r p q g.table h.table → ScopedFormsMove r p q → ScopedProgressMoves r w g h → EntriesMove r entry entry' →
@@ -78,7 +79,7 @@ pub fn units_are_renumbered()
         IsRenumbered (option_map (map (formed_as r p.number))) (StatesGoRest r p.number (start_of p g.table g.macros entry) (start_of q h.table h.macros entry')) (unit_over known (form_trees p.number 0 p.forms) (start_of p g.table g.macros entry)) (unit_over known (form_trees q.number 0 q.forms) (start_of q h.table h.macros entry')) }
     ensures prelude { (r : Renumbering) (w : IsOnto r) → IsOneToOne r → KeepsPrelude r → ScopedProgressMoves r w scoped_before scoped_before }
     ensures substituted_prelude { (r : Renumbering) → IsOneToOne r → KeepsPrelude r → ProgressMoves r progress_before progress_before }
-    ensures same_forms { (r : Renumbering) (p q : Prepared) → q.number ≡ r.unit p.number → q.forms ≡ p.forms → ((n : ℕ) → r.form p.number n ≡ n) → FormsMove r p q × ScopedFormsMove r p q }
+    ensures same_forms { (r : Renumbering) (p q : Prepared) → q.number ≡ r.unit p.number → q.forms ≡ map (form_as r) p.forms → ((n : ℕ) → r.form p.number n ≡ n) → FormsMove r p q × ScopedFormsMove r p q }
 {}
 
 /// What a unit exports, and the faults of its exports, are the same, renumbered, where what it imports and what units define are (R7RS 5.6).
