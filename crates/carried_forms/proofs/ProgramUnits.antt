@@ -107,9 +107,9 @@ unless_many : (b : Bool) (x : Option WholeFault) → cond b (Some TooMany) x ≡
 unless_many true x e = no (sym (ap is_some e))
 unless_many false x e = (refl, e)
 
-unless_bad : (r : Result (List UnitForm) Datum) (x : Option WholeFault) → declared_fault r x ≡ None → ((d : Datum) → r ≡ Err d → ⊥) × (x ≡ None)
-unless_bad (Ok fs) x e = (λ d k. absurd cc, e)
-unless_bad (Err d) x e = no (sym (ap is_some e))
+unless_bad : (u : ℕ) (r : Result (List UnitForm) Datum) (x : Option WholeFault) → declared_fault u r x ≡ None → ((d : Datum) → r ≡ Err d → ⊥) × (x ≡ None)
+unless_bad u (Ok fs) x e = (λ d k. absurd cc, e)
+unless_bad u (Err d) x e = no (sym (ap is_some e))
 
 unless_twice : (b : Bool) (x : Option WholeFault) → cond b (Some DefinedTwice) x ≡ None → b ≡ false
 unless_twice true x e = no (sym (ap is_some e))
@@ -123,8 +123,8 @@ record Clean (all : List Placed) (p : Prepared) : Type 0 where
 clean_of : (all : List Placed) (ps : List Prepared) (p : Prepared) → fault_before all ps p ≡ None → Clean all p
 clean_of all ps p e =
     let rest = cond (is_repeated all p) (Some DefinedTwice) (cond (on_circle ps p) (Some ImportCycle) None) in
-    let a = unless_many (nat_le max_units p.number) (declared_fault p.placed.source.forms rest) e in
-    let b = unless_bad p.placed.source.forms rest a.1 in
+    let a = unless_many (nat_le max_units p.number) (declared_fault p.number p.placed.source.forms rest) e in
+    let b = unless_bad p.number p.placed.source.forms rest a.1 in
     record { few = a.0; declared = b.0; once = unless_twice (is_repeated all p) (cond (on_circle ps p) (Some ImportCycle) None) b.1 }
 
 -- ---- names
