@@ -1,6 +1,6 @@
 -- What a session counts is told by what it read, unless memory ran out or a write failed.
-use Rattle.std.proofs.Common.{◌≡◌, ◌∙◌, ◌⊎◌, inl, inr, ◌+◌, ◌<◌, ℕ, List, [], ◌∷◌, ◌++◌, length, Option, Some, None, refl, sym, ap, subst, append_assoc, append-nil, arith}
-use Rattle.std.specs.FinMap.{empty, entries}
+use Rattle.std.proofs.Common.{◌≡◌, ◌∙◌, ◌⊎◌, inl, inr, ◌<◌, ℕ, List, [], ◌∷◌, ◌++◌, length, Option, Some, None, refl, sym, ap, subst, append_assoc, append-nil, arith}
+use Rattle.std.specs.FinMap.{empty}
 use Rattle.std.specs.List.{AllByRecursion}
 use Rattle.std.proofs.lemmas.List.{append_cancel_left, append_cancel_right, length-append, map-append}
 use Rattle.ls_base.specs.Frames.{End, IsFrames, fault, rest}
@@ -14,16 +14,10 @@ use Rattle.lookahead.specs.Looked.{looked, uncancelled}
 use Rattle.lookahead.specs.declared.looking.Looking.{Looking}
 use Rattle.lookahead.specs.declared.looking.Looking.TheVariants.{Ahead, OneByOne}
 use Rattle.lookahead.proofs.OneCompletion.{only_completion}
-use Rattle.scheme_model.specs.Session as session
 use Rattle.scheme_model.specs.Session.{Ending, Run, begin}
-use Rattle.program_answers.proofs.TextLists.{one_row}
-use Rattle.program_expansion.specs.UsesInTurn.{uses_in}
-use Rattle.rename_conditions.specs.Readers.{Reader}
-use Rattle.rename_conditions.proofs.ReaderLaws.{readers_are_one}
-use Rattle.rename_planner.specs.ToldRenames.{rename_uses}
-use Rattle.session_core.specs.Asked.{Question, Nothing, About, Renaming, News}
-use Rattle.session_core.specs.Counted.{AreCounted, AreUsesFor, IsCounted}
-use Rattle.session_core.specs.FromWire.{encoding_of, pos_of}
+use Rattle.session_core.specs.Asked.{Question}
+use Rattle.session_core.specs.Counted.{AreCounted}
+use Rattle.session_core.proofs.CountedLaws.{one_count}
 use Rattle.command_output.specs.Prints.{SinkSeen}
 use Rattle.command_output.specs.Reads.{TakesAll, TakesBytes, source_seen}
 use Rattle.command_output.specs.Streams.{Streams, streams}
@@ -36,36 +30,16 @@ use Rattle.session_serving.specs.declared.serve.SessionEnd.{SessionEnd}
 use Rattle.session_serving.specs.declared.serve.SessionEnd.TheVariants.{Exited, InputEnded, ReadFailed, WriteFailed, NoMemory, FrameFault, Endless}
 use Rattle.session_serving.proofs.Sessions.{ended_session, uncancelled_session}
 
--- ---- replies
-
-one_question : (q : Question) (m n : ℕ) → AreUsesFor q m → AreUsesFor q n → m ≡ n
-one_question Nothing m n h k = h ∙ sym k
-one_question (About encoding texts uri position query) m n h k = h ∙ sym k
-one_question (Renaming encoding texts uri position new_name) m n h k =
-    h.2 ∙ ap (λ (r : Reader). rename_uses r (encoding_of encoding) (entries texts) uri (pos_of position) new_name) (readers_are_one h.0 k.0 h.1 k.1) ∙ sym k.2
-one_question (News encoding before after uri) m n h k = h.2 ∙ ap uses_in (one_row (entries after) h.0 k.0 h.1 k.1) ∙ sym k.2
-
-one_reply : (r : session.Reply Question) (m n : ℕ) → IsCounted r m → IsCounted r n → m ≡ n
-one_reply (session.Capabilities id prepare encoding) m n h k = h ∙ sym k
-one_reply (session.Result id question) m n h k = h ∙ sym k
-one_reply (session.Renamed id question) m n h k = one_question question m n h k
-one_reply (session.Error id code text) m n h k = h ∙ sym k
-one_reply (session.Publish question) m n h k = one_question question m n h k
-one_reply (session.Log text) m n h k = h ∙ sym k
-
-one_of_replies : (rs : List (session.Reply Question)) (from a b : ℕ) → AreCounted rs from a → AreCounted rs from b → a ≡ b
-one_of_replies [] from a b h k = h ∙ sym k
-one_of_replies (r ∷ rs) from a b h k =
-    one_of_replies rs (from + h.0) a b h.2 (subst (λ (n : ℕ). AreCounted rs (from + n) b) (one_reply r k.0 h.0 k.1 h.1) k.2)
+-- ---- bytes and pieces
 
 pub one_of_bytes : (bytes : List ℕ) (from a b : ℕ) → CountsAll bytes from a → CountsAll bytes from b → a ≡ b
 one_of_bytes bytes from a b h k =
-    one_of_replies (session_over h.bodies).replies from a b h.counted
+    one_count (session_over h.bodies).replies from a b h.counted
     (subst (λ (bodies : List (List ℕ)). AreCounted (session_over bodies).replies from b) (sym (one_reading bytes h.bodies k.bodies h.end k.end h.frames k.frames).0) k.counted)
 
 one_of_pieces : (looking : Looking) (pieces : List (List ℕ)) (from a b : ℕ) → CountsAllBy looking pieces from a → CountsAllBy looking pieces from b → a ≡ b
 one_of_pieces looking pieces from a b h k =
-    one_of_replies (looked_over looking h.given).replies from a b h.counted
+    one_count (looked_over looking h.given).replies from a b h.counted
     (subst (λ (given : List (List (List ℕ))). AreCounted (looked_over looking given).replies from b) (sym (only_completion pieces [] [] h.given k.given h.end k.end h.complete k.complete).0) k.counted)
 
 -- ---- what was read
