@@ -1,7 +1,7 @@
 -- The units of programs are told apart: of those that aren't broken no two are of one document, kind and name, and units behind the most
 -- are broken.
-use Rattle.std.proofs.Common.{◌≡◌, ◌⊎◌, inl, inr, ℕ, zero, suc, ◌+◌, ◌≤◌, ◌<◌, List, [], ◌∷◌, ◌++◌, map, filter, length, Bool, true, false, cond, Option, Some, None, Result, Ok, Err, refl, sym, ap, ◌∙◌, subst, arith, le-leb}
-use Rattle.std.specs.Prelude.{not, ◌==◌, ◌≢◌, nat_le, nat_lt}
+use Rattle.std.proofs.Common.{◌≡◌, inl, inr, ℕ, zero, suc, ◌+◌, ◌≤◌, ◌<◌, List, [], ◌∷◌, ◌++◌, map, filter, length, Bool, true, false, cond, Option, Some, None, Result, Ok, Err, refl, sym, ap, ◌∙◌, subst, arith, le-leb}
+use Rattle.std.specs.Prelude.{not, ◌==◌, nat_le, nat_lt}
 use Rattle.std.proofs.lemmas.Bool.{eqb-true}
 use Rattle.std.proofs.lemmas.Bool.Decides.{nat_tests}
 use Rattle.std.proofs.lemmas.Option.{same_Some}
@@ -14,7 +14,7 @@ use Rattle.scheme_model.specs.StandardLibraries.{standard}
 use Rattle.scheme_model.specs.UnitExpansion.{Formed}
 use Rattle.scheme_model.specs.Entries.{Entry}
 use Rattle.scheme_model.specs.Declarations.{UnitForm, UnitKind, IsLibrary, IsProgram, UnitSource, behind_head, library_with, library_of, is_library, libraries_in, program_forms, program_in, units_in}
-use Rattle.scheme_model.specs.Program.{Document, data_of, Placed, units_from, units_of, known_in, Prepared, prepared, prepare, max_units, name_if, unit_named, is_repeated, on_circle, WholeFault, TooMany, BadDeclaration, DefinedTwice, ImportCycle, declared_fault, fault_before, SetResult, UnitResult, result_at, unit_result, is_ready, first_ready}
+use Rattle.scheme_model.specs.Program.{Document, data_of, Placed, units_from, units_of, known_in, Prepared, prepared, prepare, max_units, name_if, unit_named, is_repeated, on_circle, WholeFault, TooMany, DefinedTwice, ImportCycle, declared_fault, fault_before, SetResult, UnitResult, result_at, unit_result, is_ready, first_ready}
 use Rattle.scheme_model.specs.ScopedProgram.{ScopedProgress, scoped_by_fault, scoped_worked, scoped_work, scoped_before}
 use Rattle.carried_forms.specs.Paired.{UnitText, is_same_unit, IsAlone, AreTold, AreWithin}
 use Rattle.carried_forms.specs.Worked.{OpenDocument, IsElsewhere, AreOpenOnce, read_documents, uri_at, is_broken, unit_text, unit_texts}
