@@ -4,8 +4,8 @@ use Rattle.std.specs.Prelude.{reverse}
 use Rattle.std.specs.List.{zip}
 use Rattle.std.proofs.lemmas.List.{length-map, reverse-append}
 use Rattle.std.proofs.lemmas.Option.{same_Some}
-use Rattle.scheme_model.specs.Data.{Datum, place_of}
-use Rattle.scheme_model.specs.Declarations.{UnitForm, list_parts}
+use Rattle.scheme_model.specs.Data.{Datum}
+use Rattle.scheme_model.specs.Declarations.{UnitForm, home_of, list_parts}
 use Rattle.scheme_model.specs.Program.{ImportSpec, SetResult, Unknown, Faulty, Gives, behind_first, is_import, spec_of, specs_in, specs_from}
 use Rattle.core_tree.specs.Units.{set_errors, set_forms}
 use Rattle.datum_reader.specs.Views.{data_of}
@@ -24,12 +24,14 @@ same_for n (x ∷ xs) (y ∷ ys) long = ap (λ ns. n ∷ ns) (same_for n xs ys (
 -- the sets of a form that is an import declaration, and of another
 pub sets_in : (unit n : ℕ) (f : UnitForm) (ds : List code.Datum) → is_import f ≡ true → data_of ds ≡ behind_first (list_parts f.datum) → map (λ (d : code.Datum). n) ds ≡ map (λ (s : ImportSpec). n) (specs_in unit n f)
 sets_in unit n f ds is parts =
-    same_for n ds (map (spec_of unit n (place_of f.datum).first) (behind_first (list_parts f.datum)))
-    (sym (length-map ds _) ∙ (ap (λ (xs : List Datum). length xs) parts ∙ sym (length-map (behind_first (list_parts f.datum)) (spec_of unit n (place_of f.datum).first))))
-    ∙ ap (λ b. map (λ (s : ImportSpec). n) (cond b (map (spec_of unit n (place_of f.datum).first) (behind_first (list_parts f.datum))) [])) (sym is)
+    let h = home_of unit n f in
+    same_for n ds (map (spec_of h.unit h.form h.first) (behind_first (list_parts f.datum)))
+    (sym (length-map ds _) ∙ (ap (λ (xs : List Datum). length xs) parts ∙ sym (length-map (behind_first (list_parts f.datum)) (spec_of h.unit h.form h.first))))
+    ∙ ap (λ b. map (λ (s : ImportSpec). n) (cond b (map (spec_of h.unit h.form h.first) (behind_first (list_parts f.datum))) [])) (sym is)
 
 pub no_sets_in : (unit n : ℕ) (f : UnitForm) → is_import f ≡ false → [] ≡ map (λ (s : ImportSpec). n) (specs_in unit n f)
-no_sets_in unit n f is = ap (λ b. map (λ (s : ImportSpec). n) (cond b (map (spec_of unit n (place_of f.datum).first) (behind_first (list_parts f.datum))) [])) (sym is)
+no_sets_in unit n f is =
+    let h = home_of unit n f in ap (λ b. map (λ (s : ImportSpec). n) (cond b (map (spec_of h.unit h.form h.first) (behind_first (list_parts f.datum))) [])) (sym is)
 
 -- one form more
 pub forms_next : (unit : ℕ) (fs : List UnitForm) (i j : ℕ) (f : UnitForm) (now new all : List ℕ) → j ≡ suc i → slice_get fs i ≡ Some f → new ≡ now ++ map (λ (s : ImportSpec). i) (specs_in unit i f) → now ++ set_forms unit i (drop i fs) ≡ all →
