@@ -1,5 +1,9 @@
 -- The tree of the form is added, and then gone through.
-use Rattle.std.proofs.Common.{refl}
+use Rattle.std.proofs.Common.{refl, subst}
+use Rattle.scheme_model.specs.declared.Home.{Home}
+use Rattle.datum_reader.specs.Seeded.{seeded_as}
+use Rattle.datum_reader.specs.Views.{datum_of}
+use Rattle.syntax_tree.specs.Works.{StandsFor}
 use Rattle.syntax_tree.specs.Regions.{itself}
 use Rattle.library_table.specs.UnitsRead.{form_of}
 use Rattle.unit_scopes.specs.Units.{declared}
@@ -13,7 +17,7 @@ use Rattle.form_expansion.proofs.forms.declare.Goals as goal
 
 pub declare_tree-requires-clause-form : goal.declare_tree-requires-clause-form
 declare_tree-requires-clause-form g c =
-    ((taken c.args.unit c.args.number (form_of c.args.form.now), c.in-Ok.ensures.tree), (c.args.bench.now.region.number, c.in-Ok.ensures.region, itself))
+    ((taken c.args.unit c.args.number (form_of c.args.form.now), (subst (λ (h : Home). StandsFor c.seed_as.new.work c.in-Ok.tree (seeded_as c.args.unit h (datum_of c.args.form.now.datum))) c.home_in-home.ensures c.in-Ok.ensures.tree)), (c.args.bench.now.region.number, c.in-Ok.ensures.region, itself))
 
 pub declare_tree-requires-clause-stands : goal.declare_tree-requires-clause-stands
 declare_tree-requires-clause-stands g c =
@@ -34,7 +38,7 @@ returns-in-Ok-clause-passes g c = λ known ls s notes off knows stands own fresh
     (c.in_ok-declare_tree-in-Ok.ensures.passes known ls s notes t knows
     (stands_on b.work c.seed_as.new.work c.in-Ok.ensures.keeps c.in-Ok.ensures.old_names c.told_apart.ensures.idents c.told_apart.ensures.symbols b.scope ls s notes stands)
     (none_count c.seed_as.new.work s n k.budget k.trace fresh none.uses none.nodes none.locals none.definitions none.keywords none.met)
-    c.in-Ok.ensures.tree)
+    (subst (λ (h : Home). StandsFor c.seed_as.new.work c.in-Ok.tree (seeded_as c.args.unit h (datum_of c.args.form.now.datum))) c.home_in-home.ensures c.in-Ok.ensures.tree))
 
 pub returns-in-Ok-clause-few : goal.returns-in-Ok-clause-few
 returns-in-Ok-clause-few g c =
@@ -43,7 +47,7 @@ returns-in-Ok-clause-few g c =
     (c.in_ok-declare_tree-in-Ok.ensures.passes (known_by b.scope.libraries) at.layout at.state at.notes t (λ m _. refl)
     (stands_on b.work c.seed_as.new.work c.in-Ok.ensures.keeps c.in-Ok.ensures.old_names c.told_apart.ensures.idents c.told_apart.ensures.symbols b.scope at.layout at.state at.notes at.stands)
     (none_count c.seed_as.new.work at.state n k.budget k.trace at.fresh none.uses none.nodes none.locals none.definitions none.keywords none.met)
-    c.in-Ok.ensures.tree).form_is.counts.few_nodes
+    (subst (λ (h : Home). StandsFor c.seed_as.new.work c.in-Ok.tree (seeded_as c.args.unit h (datum_of c.args.form.now.datum))) c.home_in-home.ensures c.in-Ok.ensures.tree)).form_is.counts.few_nodes
 
 pub returns-in-Ok-clause-stays : goal.returns-in-Ok-clause-stays
 returns-in-Ok-clause-stays g c =
