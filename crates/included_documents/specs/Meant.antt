@@ -1,6 +1,6 @@
 -- Which document a string means in another (URL Standard, sections 4.4 and 4.5): it is read against the other's URL. Where a document is
 -- called by something that is no URL, as a file by its name, the string is joined to it as a path.
-use Rattle.std.specs.Prelude.{ℕ, zero, suc, ◌==◌, List, [], ◌∷◌, ◌++◌, Bool, false, Option, Some, None, Result, Ok, Err, if◌then◌else◌}
+use Rattle.std.specs.Prelude.{ℕ, zero, suc, ◌==◌, List, [], ◌∷◌, ◌++◌, Bool, false, Option, Some, None, Ok, Err, if◌then◌else◌}
 use Rattle.std.specs.List.{list_any}
 use Rattle.std.specs.Str.{bytes_eq}
 use Rattle.url.specs.Parts.{Parts, serialize}

@@ -1,0 +1,2 @@
+-- The definitions on worked rows
+pub mod MeantRows
