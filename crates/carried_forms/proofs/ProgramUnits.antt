@@ -13,8 +13,10 @@ use Rattle.scheme_model.specs.Substitution.{Table}
 use Rattle.scheme_model.specs.StandardLibraries.{standard}
 use Rattle.scheme_model.specs.UnitExpansion.{Formed}
 use Rattle.scheme_model.specs.Entries.{Entry}
-use Rattle.scheme_model.specs.Declarations.{UnitForm, UnitKind, IsLibrary, IsProgram, UnitSource, behind_head, library_with, library_of, is_library, libraries_in, program_forms, program_in, units_in}
-use Rattle.scheme_model.specs.Program.{Document, data_of, Placed, units_from, units_of, known_in, Prepared, prepared, prepare, max_units, name_if, unit_named, is_repeated, on_circle, WholeFault, TooMany, DefinedTwice, ImportCycle, declared_fault, fault_before, SetResult, UnitResult, result_at, unit_result, is_ready, first_ready}
+use Rattle.scheme_model.specs.Declarations.{UnitForm, UnitKind, IsLibrary, IsProgram, behind_head, library_with, is_library, program_forms}
+use Rattle.scheme_model.specs.Includes.{Document, data_of, max_units}
+use Rattle.scheme_model.specs.IncludedUnits.{UnitSource, library_of, libraries_in, program_in, units_in, Placed, units_from}
+use Rattle.scheme_model.specs.Program.{units_of, known_in, Prepared, prepared, prepare, name_if, unit_named, is_repeated, on_circle, WholeFault, TooMany, DefinedTwice, ImportCycle, declared_fault, fault_before, SetResult, UnitResult, result_at, unit_result, is_ready, first_ready}
 use Rattle.scheme_model.specs.ScopedProgram.{ScopedProgress, scoped_by_fault, scoped_worked, scoped_work, scoped_before}
 use Rattle.carried_forms.specs.Paired.{UnitText, is_same_unit, IsAlone, AreTold, AreWithin}
 use Rattle.carried_forms.specs.Worked.{OpenDocument, IsElsewhere, AreOpenOnce, read_documents, uri_at, is_broken, unit_text, unit_texts}

@@ -2,7 +2,8 @@
 use Rattle.std.specs.Prelude.{ℕ, List, [], ◌∷◌, map, filter, Bool, true, false, ◌&&◌, Option, Some, None, if◌then◌else◌}
 use Rattle.std.specs.List.{flat_map}
 use Rattle.scheme_model.specs.Meaning.{same_meaning}
-use Rattle.scheme_model.specs.Program.{Document, enough_turns}
+use Rattle.scheme_model.specs.Includes.{Document}
+use Rattle.scheme_model.specs.Program.{enough_turns}
 use Rattle.scheme_model.specs.Questions.{Around, Moment, Question, LooksUp, UsesRules, Compares, IsAssigned, Requires, Defines, Answer, Means, answer}
 use Rattle.scheme_model.specs.FormsAlike.{questions_of_pass, questions_of_left}
 use Rattle.carried_forms.specs.Renumbering.{Renumbering, new_moment, new_question, new_answer}

@@ -6,7 +6,8 @@ use Rattle.scheme_model.specs.Requirements.{Known}
 use Rattle.scheme_model.specs.Order.{Note}
 use Rattle.scheme_model.specs.Substitution.{Clock}
 use Rattle.scheme_model.specs.ScopedExpansion.{FramedIdent, ScopedState}
-use Rattle.scheme_model.specs.Program.{Placed, Prepared, WholeFault, units_of, prepare, known_in, fault_before, is_ready, first_ready, enough_turns}
+use Rattle.scheme_model.specs.IncludedUnits.{Placed}
+use Rattle.scheme_model.specs.Program.{Prepared, WholeFault, units_of, prepare, known_in, fault_before, is_ready, first_ready, enough_turns}
 use Rattle.scheme_model.specs.ScopedProgram.{ScopedProgress, forms_over, scoped_unit_over, scoped_start_after, scoped_worked, scoped_before}
 use Rattle.scheme_model.specs.FormsAlike.{set_aside, finish}
 use Rattle.macro_uses.specs.MacroUses.{total_of, program_uses}

@@ -10,7 +10,9 @@ use Rattle.scheme_model.specs.Steps.{Broken}
 use Rattle.scheme_model.specs.Substitution.{Clock}
 use Rattle.scheme_model.specs.ScopedExpansion.{FramedIdent, ScopedState}
 use Rattle.scheme_model.specs.Declarations.{UnitForm}
-use Rattle.scheme_model.specs.Program.{Document, Placed, Prepared, UnitResult, WholeFault, known_in, units_of, prepare, fault_before, is_ready, first_ready, result_at, enough_turns}
+use Rattle.scheme_model.specs.Includes.{Document}
+use Rattle.scheme_model.specs.IncludedUnits.{Placed}
+use Rattle.scheme_model.specs.Program.{Prepared, UnitResult, WholeFault, known_in, units_of, prepare, fault_before, is_ready, first_ready, result_at, enough_turns}
 use Rattle.scheme_model.specs.ScopedProgram.{ScopedProgress, forms_over, scoped_unit_over, scoped_start_after, scoped_worked, scoped_work, scoped_before}
 use Rattle.scheme_model.specs.Questions.{Around}
 use Rattle.scheme_model.specs.FormsAlike.{set_aside, finish}

@@ -10,7 +10,8 @@ use Rattle.scheme_model.specs.Order.{is_some}
 use Rattle.scheme_model.specs.Substitution.{Table, Defined, defined_in}
 use Rattle.scheme_model.specs.StandardLibraries.{standard}
 use Rattle.scheme_model.specs.Entries.{Source, At, StandardName, Origin, Entry, has_origin, origins_of_both, entry_at, ImportSet, Library, Only, Except, Prefix, Rename, Bad, library_in, ImportFault, BadSet, ◌>>=◌, all_there, is_listed, prefixed, place_origin, renamed, under_pairs, or_itself, rename_all, Joined, added, clashing, join_entry, gather, unless_clash, has_bad, given_by, entries_of}
-use Rattle.scheme_model.specs.Program.{Placed, ImportSpec, ExportSpec, unit_named, Prepared, UnitResult, SameExport, result_at, standard_entry, exports_if, unit_exports, library_exports, after_set, with_exports, of_library, import_all, base_entries, imports_nothing, unit_entries, own_entry, names_of_unit, exported, Exported, has_name, export_one, export_all}
+use Rattle.scheme_model.specs.IncludedUnits.{Placed}
+use Rattle.scheme_model.specs.Program.{ImportSpec, ExportSpec, unit_named, Prepared, UnitResult, SameExport, result_at, standard_entry, exports_if, unit_exports, library_exports, after_set, with_exports, of_library, import_all, base_entries, imports_nothing, unit_entries, own_entry, names_of_unit, exported, Exported, has_name, export_one, export_all}
 use Rattle.scheme_model.specs.Live.{NameUse, entry_use, listed_uses, second_use, pair_uses, if_given, set_uses, meaning_or, origins_or, export_uses, all_export_uses}
 use Rattle.scheme_model.specs.ProgramArrows.{uses_given, uses_in_set, import_uses}
 use Rattle.scheme_model.specs.Spelling.{entry_origins, second_names}

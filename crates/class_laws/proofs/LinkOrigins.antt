@@ -10,7 +10,8 @@ use Rattle.scheme_model.specs.Cores.{Target, Bound, LocalNumber, Definition}
 use Rattle.scheme_model.specs.RulesShape.{Rule, Rules, Variable, pattern_variables}
 use Rattle.scheme_model.specs.Substitution.{Table, Defined, defined_in}
 use Rattle.scheme_model.specs.Entries.{At, Origin, Entry, entry_at, place_origin}
-use Rattle.scheme_model.specs.Program.{Placed, ImportSpec, ExportSpec, WholeFault, UnitResult, Program, result_at, names_of_unit, is_some_fault}
+use Rattle.scheme_model.specs.IncludedUnits.{Placed}
+use Rattle.scheme_model.specs.Program.{ImportSpec, ExportSpec, WholeFault, UnitResult, Program, result_at, names_of_unit, is_some_fault}
 use Rattle.scheme_model.specs.Live.{CoreLeaf, Binds, Uses, Assigns, Quotes, Defines, NameUse, export_uses, all_export_uses}
 use Rattle.scheme_model.specs.ProgramArrows.{Arrow, program_leaves, program_keywords, import_uses, unit_names, program_names, is_whole, program_table, local_at, bound_here, arrow_of, is_live_at, core_targets, ident_names, variable_arrow, template_arrows, template_arrows_all, template_arrows_tail, rule_arrows, places_at, variable_places, rule_binders, leaf_binders, table_binders, binders_in}
 use Rattle.scheme_model.specs.Spelling.{Link, entries_at, imported_origins, defined_or, ident_origins, target_origins, links_at, target_links, name_links, arrow_links, links_to_themselves, leaf_targets, macro_links, second_places, second_places_in, links_of}

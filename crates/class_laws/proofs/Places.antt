@@ -13,7 +13,8 @@ use Rattle.scheme_model.specs.Order.{is_some}
 use Rattle.scheme_model.specs.Entries.{Entry}
 use Rattle.scheme_model.specs.Substitution.{Table, Defined, defined_in}
 use Rattle.scheme_model.specs.UnitExpansion.{Formed}
-use Rattle.scheme_model.specs.Program.{Placed, Prepared, WholeFault, ImportSpec, ExportSpec, SetResult, UnitResult, result_at, names_of_unit, broken_result, unit_result, unit_entries}
+use Rattle.scheme_model.specs.IncludedUnits.{Placed}
+use Rattle.scheme_model.specs.Program.{Prepared, WholeFault, ImportSpec, ExportSpec, SetResult, UnitResult, result_at, names_of_unit, broken_result, unit_result, unit_entries}
 use Rattle.scheme_model.specs.ProgramArrows.{places_at}
 use Rattle.scheme_model.specs.Spelling.{second_names, second_places}
 use Rattle.scheme_model.proofs.FrameAsks.{AllOf}

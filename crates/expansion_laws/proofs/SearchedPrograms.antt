@@ -11,7 +11,8 @@ use Rattle.scheme_model.specs.UnitExpansion.{Formed}
 use Rattle.scheme_model.specs.ScopedExpansion.{ScopedMacro, ScopedState}
 use Rattle.scheme_model.specs.CountedExpansion.{counted}
 use Rattle.scheme_model.specs.Entries.{Entry}
-use Rattle.scheme_model.specs.Program.{Placed, Prepared, WholeFault, fault_before, UnitResult, result_at, unit_entries, enough_turns, broken_result, unit_result, is_ready, first_ready, is_standard, prelude_unit}
+use Rattle.scheme_model.specs.IncludedUnits.{Placed}
+use Rattle.scheme_model.specs.Program.{Prepared, WholeFault, fault_before, UnitResult, result_at, unit_entries, enough_turns, broken_result, unit_result, is_ready, first_ready, is_standard, prelude_unit}
 use Rattle.scheme_model.specs.ScopedProgram.{ScopedProgress, scoped_unit_over, scoped_start_after, scoped_by_fault, scoped_worked, scoped_work, scoped_before}
 use Rattle.unit_scopes.specs.Searched.{searched, forms_of, searched_unit_over, numbers_of, all_passed, front_passed, front_finished}
 use Rattle.scheme_model.proofs.FrameEras.{Era}

@@ -17,7 +17,8 @@ use Rattle.scheme_model.specs.CountedExpansion.{counted}
 use Rattle.scheme_model.specs.Questions.{Moment}
 use Rattle.scheme_model.specs.FormsAlike.{bare_state}
 use Rattle.scheme_model.specs.Entries.{Entry}
-use Rattle.scheme_model.specs.Program.{Placed, Prepared, WholeFault, fault_before, SetResult, UnitResult, result_at, unit_entries, with_entries, enough_turns, broken_result, unit_result, is_ready, first_ready, is_program}
+use Rattle.scheme_model.specs.IncludedUnits.{Placed}
+use Rattle.scheme_model.specs.Program.{Prepared, WholeFault, fault_before, SetResult, UnitResult, result_at, unit_entries, with_entries, enough_turns, broken_result, unit_result, is_ready, first_ready, is_program}
 use Rattle.scheme_model.specs.ScopedProgram.{ScopedProgress, forms_over, scoped_start_of, scoped_unit_over, scoped_start_after, scoped_by_fault, scoped_worked, scoped_work, scoped_before}
 use Rattle.scheme_model.proofs.FrameEras.{Era, Worked, Before}
 use Rattle.scheme_model.proofs.FrameAsks.{AllOf, all_of_more}

@@ -2,7 +2,9 @@
 use Rattle.std.proofs.Common.{◌≡◌, ℕ, zero, suc, ◌+◌, List, ◌∷◌, length, true, Option, Some, None, refl, sym, ap, ◌∙◌, subst}
 use Rattle.scheme_model.specs.Requirements.{Known}
 use Rattle.scheme_model.specs.ScopedExpansion.{ScopedState}
-use Rattle.scheme_model.specs.Program.{Document, known_in, Placed, units_of, Prepared, prepare, WholeFault, fault_before, broken_result, unit_result, unit_entries, with_entries, enough_turns, is_ready, first_ready, in_order, program_of}
+use Rattle.scheme_model.specs.Includes.{Document}
+use Rattle.scheme_model.specs.IncludedUnits.{Placed}
+use Rattle.scheme_model.specs.Program.{known_in, units_of, Prepared, prepare, WholeFault, fault_before, broken_result, unit_result, unit_entries, with_entries, enough_turns, is_ready, first_ready, in_order, program_of}
 use Rattle.scheme_model.specs.ScopedProgram.{ScopedProgress, scoped_unit_over, scoped_start_after, scoped_by_fault, scoped_worked, scoped_work, scoped_before, scoped_program_of}
 use Rattle.scheme_model.proofs.FramePrograms.{work_gone, between_before, program_law, Between as BetweenUnits}
 use Rattle.kept_forms.specs.KeptForms.{unit_keeping}

@@ -3,7 +3,9 @@ use Rattle.std.specs.Prelude.{◌≡◌, ℕ, zero, suc, ◌+◌, List, ◌∷�
 use Rattle.scheme_model.specs.Ident.{Written}
 use Rattle.scheme_model.specs.Requirements.{Known}
 use Rattle.scheme_model.specs.Entries.{Entry}
-use Rattle.scheme_model.specs.Program.{Document, known_in, Placed, units_of, Prepared, prepare, WholeFault, fault_before, SetResult, broken_result, unit_entries, with_entries, enough_turns, is_ready, first_ready, Program, in_order}
+use Rattle.scheme_model.specs.Includes.{Document}
+use Rattle.scheme_model.specs.IncludedUnits.{Placed}
+use Rattle.scheme_model.specs.Program.{known_in, units_of, Prepared, prepare, WholeFault, fault_before, SetResult, broken_result, unit_entries, with_entries, enough_turns, is_ready, first_ready, Program, in_order}
 use Rattle.scheme_model.specs.ScopedProgram.{ScopedProgress, forms_over, scoped_start_of, scoped_start_after, after_unit, scoped_before, scoped_unit_over, scoped_worked}
 use Rattle.scheme_model.specs.FormsAlike.{bare_place, bare_kept}
 use Rattle.kept_forms.specs.KeptForms.{FormOrKept, form_of, unit_keeping}

@@ -2,7 +2,9 @@
 use Rattle.std.proofs.Common.{◌≡◌, ℕ, zero, suc, ◌+◌, List, [], ◌∷◌, length, Bool, true, false, cond, Option, Some, None, refl, sym, ap, ◌∙◌}
 use Rattle.std.specs.Prelude.{◌&&◌, not}
 use Rattle.scheme_model.specs.Requirements.{Known}
-use Rattle.scheme_model.specs.Program.{Document, Placed, Prepared, Progress, WholeFault, units_of, prepare, known_in, unit_entries, is_ready, first_ready, fault_before, worked, progress_before}
+use Rattle.scheme_model.specs.Includes.{Document}
+use Rattle.scheme_model.specs.IncludedUnits.{Placed}
+use Rattle.scheme_model.specs.Program.{Prepared, Progress, WholeFault, units_of, prepare, known_in, unit_entries, is_ready, first_ready, fault_before, worked, progress_before}
 use Rattle.scheme_model.specs.ScopedProgram.{ScopedProgress, scoped_worked, scoped_before, imaged}
 use Rattle.scheme_model.proofs.EntryLaws.{NoLocal, unit_entries_fit}
 use Rattle.scheme_model.proofs.FramePrograms.{done, Between, between_before, not_done, work_gone, progress_law}

@@ -3,7 +3,9 @@
 use Rattle.std.specs.Prelude.{ℕ, zero, suc, ◌+◌, List, [], ◌∷◌, map, length, Option, Some, None}
 use Rattle.scheme_model.specs.Requirements.{Known}
 use Rattle.scheme_model.specs.Substitution.{State, Clock}
-use Rattle.scheme_model.specs.Program.{Document, Placed, Prepared, Progress, WholeFault, units_of, prepare, known_in, fault_before, is_ready, first_ready, worked, unit_over, unit_entries, with_entries, form_trees, start_of, progress_before}
+use Rattle.scheme_model.specs.Includes.{Document}
+use Rattle.scheme_model.specs.IncludedUnits.{Placed}
+use Rattle.scheme_model.specs.Program.{Prepared, Progress, WholeFault, units_of, prepare, known_in, fault_before, is_ready, first_ready, worked, unit_over, unit_entries, with_entries, form_trees, start_of, progress_before}
 
 -- what the forms with these numbers have counted
 abbrev pub total_of : Clock → List ℕ → ℕ

@@ -1,6 +1,6 @@
 //! Laws of the definition. Each is the contract of a function that does nothing.
 ghost use Rattle.std.specs.Prelude.{◌≡◌, List};
-ghost use Rattle.scheme_model.specs.Program.{Document};
+ghost use Rattle.scheme_model.specs.Includes.{Document};
 ghost use Rattle.macro_uses.specs.MacroUses.{program_uses};
 ghost use Rattle.macro_uses.specs.ScopedUses.{scoped_program_uses};
 

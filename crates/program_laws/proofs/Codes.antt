@@ -11,7 +11,8 @@ use Rattle.scheme_model.specs.Order.{Counted}
 use Rattle.scheme_model.specs.UnitExpansion.{Formed}
 use Rattle.scheme_model.specs.Substitution.{Table, Defined}
 use Rattle.scheme_model.specs.Entries.{Entry, ImportFault, NotThere, Clash, BadSet}
-use Rattle.scheme_model.specs.Program.{Document, Prepared, UnitResult, Program, ImportSpec, WholeFault, TooMany, BadDeclaration, DefinedTwice, ImportCycle, TooLarge, SetResult, Unknown, Faulty, Gives, ExportFault, NotDefined, SameExport, program_of, imports_nothing}
+use Rattle.scheme_model.specs.Includes.{Document}
+use Rattle.scheme_model.specs.Program.{Prepared, UnitResult, Program, ImportSpec, WholeFault, TooMany, BadDeclaration, DefinedTwice, ImportCycle, TooLarge, SetResult, Unknown, Faulty, Gives, ExportFault, NotDefined, SameExport, program_of, imports_nothing}
 use Rattle.scheme_model.specs.Live.{CoreLeaf, Binds, Uses, Assigns, Quotes, Defines, unit_leaves}
 use Rattle.scheme_model.specs.Declarations.{forms_hold}
 use Rattle.scheme_model.specs.Diagnostics.{Diagnostic, Span, Bytes, document_of, bytes_of, at_bytes, form_diagnostics, datum_bytes, clash_diagnostics, import_fault, set_diagnostics, export_diagnostics, or_start, hides, is_broken, hiding_diagnostics, unbound_at, unbound_diagnostics, is_empty, unit_start, whole_fault, inner_diagnostics, unit_diagnostics, all_diagnostics, is_before, same_diagnostic, put_in, sorted, diagnostics_of}

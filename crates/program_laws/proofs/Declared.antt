@@ -8,7 +8,8 @@ use Rattle.scheme_model.specs.DataTrees.{atom_tree, tree_of, parts_of, end_of}
 use Rattle.scheme_model.specs.Measures.{tree_size, trees_size, tail_size}
 use Rattle.scheme_model.specs.ExpansionFaults.{Fault}
 use Rattle.scheme_model.specs.Requirements.{Known, LibraryName, library_name_of, clause_holds}
-use Rattle.scheme_model.specs.Declarations.{with_part, proper_parts, symbol_in, symbol_tree, is_headed, UnitForm, plain_form, declared_form, Flat, ◌>>=◌, or_bad, all_export_parts, Clause, later_clauses, picked, chosen_clause, flat_of, some_clauses, both, parts_or, Declared, Exports, Imports, Begins, Chooses, Includes, Undeclared, declared_by, declared_as, declaration, declarations, clauses, clause_of, UnitSource, name_or, no_name, library_with, behind_head, library_of, is_library, libraries_in, is_proper, program_forms, program_in, units_in}
+use Rattle.scheme_model.specs.Declarations.{with_part, proper_parts, symbol_in, symbol_tree, is_headed, UnitForm, plain_form, declared_form, Flat, ◌>>=◌, or_bad, all_export_parts, Clause, later_clauses, picked, chosen_clause, flat_of, some_clauses, both, parts_or, Declared, Exports, Imports, Begins, Chooses, Includes, Undeclared, declared_by, declared_as, declaration, declarations, clauses, clause_of, name_or, no_name, library_with, behind_head, is_library, is_proper, program_forms}
+use Rattle.scheme_model.specs.IncludedUnits.{UnitSource, library_of, libraries_in, program_in, units_in}
 use Rattle.program_laws.specs.Turns.{Each, datum_size}
 use Rattle.program_laws.proofs.Lists.{each_map, each_both, one_of_two, each_filtered}
 

@@ -11,8 +11,10 @@ use Rattle.scheme_model.specs.Requirements.{Known}
 use Rattle.scheme_model.specs.UnitExpansion.{Formed}
 use Rattle.scheme_model.specs.Substitution.{State, model}
 use Rattle.scheme_model.specs.Entries.{Entry}
-use Rattle.scheme_model.specs.Declarations.{UnitForm, home_of, Flat, units_in}
-use Rattle.scheme_model.specs.Program.{Document, data_of, known_in, Placed, units_from, units_of, is_include, forms_or_none, Prepared, prepare, WholeFault, fault_before, SetResult, UnitResult, Progress, result_at, unit_entries, form_trees, start_of, enough_turns, by_fault, refused_form, with_refused, unit_result, unit_over, with_entries, is_ready, first_ready, worked, work, progress_before, in_order, program_of}
+use Rattle.scheme_model.specs.Declarations.{UnitForm, home_of, Flat}
+use Rattle.scheme_model.specs.Includes.{Document, data_of}
+use Rattle.scheme_model.specs.IncludedUnits.{units_in, Placed, units_from}
+use Rattle.scheme_model.specs.Program.{known_in, units_of, is_include, forms_or_none, Prepared, prepare, WholeFault, fault_before, SetResult, UnitResult, Progress, result_at, unit_entries, form_trees, start_of, enough_turns, by_fault, refused_form, with_refused, unit_result, unit_over, with_entries, is_ready, first_ready, worked, work, progress_before, in_order, program_of}
 use Rattle.program_laws.specs.Turns.{Each, datum_size, AreBounded, IsDone}
 use Rattle.program_laws.proofs.Faults.{Any, not_out}
 use Rattle.program_laws.proofs.Steps.{Ended}

@@ -9,7 +9,9 @@ use Rattle.scheme_model.specs.UnitExpansion.{Formed}
 use Rattle.scheme_model.specs.Substitution.{Table}
 use Rattle.scheme_model.specs.Entries.{Entry, library_in}
 use Rattle.scheme_model.specs.Declarations.{UnitForm}
-use Rattle.scheme_model.specs.Program.{Document, known_in, Placed, units_of, ImportSpec, is_named, imported_as, unit_named, imported_units, Prepared, prepared, prepare, imports_at, is_in, imports_of_all, joined, reached, on_circle, is_repeated, WholeFault, TooMany, DefinedTwice, ImportCycle, declared_fault, fault_before, max_units, SetResult, UnitResult, Progress, result_at, unit_result, by_fault, all_done, is_ready, first_ready, worked, work, progress_before, in_order, program_of}
+use Rattle.scheme_model.specs.Includes.{Document, max_units}
+use Rattle.scheme_model.specs.IncludedUnits.{Placed}
+use Rattle.scheme_model.specs.Program.{known_in, units_of, ImportSpec, is_named, imported_as, unit_named, imported_units, Prepared, prepared, prepare, imports_at, is_in, imports_of_all, joined, reached, on_circle, is_repeated, WholeFault, TooMany, DefinedTwice, ImportCycle, declared_fault, fault_before, SetResult, UnitResult, Progress, result_at, unit_result, by_fault, all_done, is_ready, first_ready, worked, work, progress_before, in_order, program_of}
 use Rattle.program_laws.specs.Circles.{IsClosed}
 use Rattle.program_laws.specs.Turns.{Each}
 use Rattle.program_laws.proofs.Circles.{Is, never, or_true, or_left, or_right, same_number, joined_old, of_joined, imported_of, missing, missing_most, less, reached_closed}

@@ -4,7 +4,7 @@ use Rattle.std.specs.Prelude.{◌==◌}
 use Rattle.std.specs.Char.{to_ascii_lowercase}
 use Rattle.scheme_model.specs.Data.{Datum}
 use Rattle.scheme_model.specs.Kinds.{Token as ModelToken}
-use Rattle.scheme_model.specs.Program.{Document, data_of}
+use Rattle.scheme_model.specs.Includes.{Document, data_of}
 use Rattle.scheme_tokens.specs.Lexical.{Leaf, Name, Numeral, Quoted, Character, Truth, Quote, Quasi, Unquote, Splice, TokenKind, Paren, VectorParen, BytesParen, Close, Dot, Skip, Marked, Atomic, IsBare, IsNumeral, IsTruth, IsLeaf, IsToken, Token, First, IsSpelledFrom, mark_bytes, behind_mark}
 use Rattle.std.specs.Str.{chars, chars_after, continuation_len, lead_bits}
 use Rattle.std.specs.Option.{option_map}

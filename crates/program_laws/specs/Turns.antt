@@ -6,7 +6,7 @@ use Rattle.scheme_model.specs.ExpansionFaults.{OutOfTurns}
 use Rattle.scheme_model.specs.Cores.{Parts}
 use Rattle.scheme_model.specs.Steps.{Broken}
 use Rattle.scheme_model.specs.Declarations.{symbol_tree}
-use Rattle.scheme_model.specs.Program.{Document, data_of}
+use Rattle.scheme_model.specs.Includes.{Document, data_of}
 
 -- this holds of each
 abbrev pub Each : {X : Type 0} → (X → Type 0) → List X → Type 0

@@ -2,7 +2,8 @@
 ghost use Rattle.std.specs.Prelude.{◌≡◌, ℕ, ◌*◌, ◌≤◌, List, map, length};
 ghost use Rattle.scheme_model.specs.Data.{Datum};
 ghost use Rattle.scheme_model.specs.UnitExpansion.{Formed};
-ghost use Rattle.scheme_model.specs.Program.{Document, Prepared, UnitResult, units_of, prepare, reached, program_of};
+ghost use Rattle.scheme_model.specs.Includes.{Document};
+ghost use Rattle.scheme_model.specs.Program.{Prepared, UnitResult, units_of, prepare, reached, program_of};
 ghost use Rattle.scheme_model.specs.Diagnostics.{Diagnostic, Span, diagnostics_of};
 ghost use Rattle.datum_reader.specs.Texts.{IsReading};
 ghost use Rattle.program_laws.specs.Circles.{IsClosed};

@@ -3,7 +3,9 @@ use Rattle.std.proofs.Common.{◌≡◌, ◌↔◌, ℕ, suc, List, [], ◌∷�
 use Rattle.std.specs.Prelude.{◌==◌}
 use Rattle.std.proofs.lemmas.Option.{same_Some}
 use Rattle.scheme_model.specs.Diagnostics.{Span}
-use Rattle.scheme_model.specs.Program.{Document, Placed, units_of, Prepared, prepare, forms_or_none, UnitResult, Program, result_at, program_of}
+use Rattle.scheme_model.specs.Includes.{Document}
+use Rattle.scheme_model.specs.IncludedUnits.{Placed}
+use Rattle.scheme_model.specs.Program.{units_of, Prepared, prepare, forms_or_none, UnitResult, Program, result_at, program_of}
 use Rattle.rename_model.specs.SameProgram.{set_forms, unit_errors}
 use Rattle.rename_conditions.specs.Renames.{errors_of}
 use Rattle.program_laws.specs.Turns.{Each}

@@ -1,7 +1,8 @@
 //! Laws of the program's definition. Each is the contract of a function that does nothing.
 ghost use Rattle.std.specs.Prelude.{◌≡◌, ◌↔◌, ℕ, List, []};
 ghost use Rattle.scheme_model.specs.Diagnostics.{Span};
-ghost use Rattle.scheme_model.specs.Program.{Document, result_at, program_of};
+ghost use Rattle.scheme_model.specs.Includes.{Document};
+ghost use Rattle.scheme_model.specs.Program.{result_at, program_of};
 ghost use Rattle.rename_model.specs.SameProgram.{unit_errors};
 ghost use Rattle.rename_conditions.specs.Renames.{errors_of};
 ghost use Rattle.program_differences.specs.Exported.{ExportsAreGiven};

@@ -6,7 +6,8 @@ use Rattle.std.proofs.lemmas.Slice.Eq.{bytes_eq-Decides}
 use Rattle.std.proofs.lemmas.Bool.Decides.{nat_tests}
 use Rattle.scheme_model.specs.declared.Occ.{Occ}
 use Rattle.scheme_model.specs.Identifiers.{Number, same_number}
-use Rattle.scheme_model.specs.Program.{Placed, UnitResult, Program, result_at}
+use Rattle.scheme_model.specs.IncludedUnits.{Placed}
+use Rattle.scheme_model.specs.Program.{UnitResult, Program, result_at}
 use Rattle.scheme_model.specs.ProgramArrows.{program_table}
 use Rattle.scheme_model.specs.Substitution.{Table}
 use Rattle.rename_model.specs.Walks.{Node, node_number, Seen, OfNode, OfNumber, OfName, OfDefinition, OfLocal, OfBinders, Point}

@@ -2,7 +2,8 @@
 use Rattle.std.specs.Prelude.{ℕ, List, [], ◌∷◌, ◌++◌, map, Option, Some, None, if◌then◌else◌}
 use Rattle.std.specs.List.{flat_map}
 use Rattle.scheme_model.specs.declared.Occ.{Occ}
-use Rattle.scheme_model.specs.Program.{Document, UnitResult, Program, ExportSpec, program_of, units_of}
+use Rattle.scheme_model.specs.Includes.{Document}
+use Rattle.scheme_model.specs.Program.{UnitResult, Program, ExportSpec, program_of, units_of}
 use Rattle.scheme_model.specs.Diagnostics.{Span}
 use Rattle.scheme_model.specs.Sites.{name_at}
 use Rattle.rename_model.specs.Reach.{unit_numbers}

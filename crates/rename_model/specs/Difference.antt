@@ -2,7 +2,8 @@
 use Rattle.std.specs.Prelude.{ℕ, List, [], ◌∷◌, ◌++◌, Bool, true, false, Option, Some, None, if◌then◌else◌}
 use Rattle.scheme_model.specs.declared.Occ.{Occ}
 use Rattle.scheme_model.specs.Meaning.{Meaning, Local, Global, Standard, Free}
-use Rattle.scheme_model.specs.Program.{Placed, Program}
+use Rattle.scheme_model.specs.IncludedUnits.{Placed}
+use Rattle.scheme_model.specs.Program.{Program}
 use Rattle.scheme_model.specs.ProgramArrows.{binder_of, program_leaves, program_table}
 use Rattle.scheme_model.specs.Spelling.{is_member}
 use Rattle.rename_model.specs.Walks.{Spot, AtUse, AtQuoted, AtRule, AtTemplate, AtExport, AtErrors, AtShape, Shown, ShowsNothing, ShowsSymbol, ShowsMeaning, ShowsPlace, Point}

@@ -2,7 +2,8 @@
 use Rattle.std.specs.Prelude.{ℕ, zero, suc, ◌==◌, nat_le, List, [], ◌∷◌, map, filter, length, Bool, false, not, ◌&&◌, ◌||◌, if◌then◌else◌}
 use Rattle.std.specs.List.{list_any}
 use Rattle.scheme_model.specs.declared.Occ.{Occ}
-use Rattle.scheme_model.specs.Program.{UnitResult, is_in, max_units}
+use Rattle.scheme_model.specs.Includes.{max_units}
+use Rattle.scheme_model.specs.Program.{UnitResult, is_in}
 
 abbrev pub holds_one : List Occ → ℕ → Bool
 holds_one os unit = list_any (λ (o : Occ). o.unit == unit) os

@@ -12,7 +12,8 @@ use Rattle.scheme_model.specs.UnitExpansion.{Formed}
 use Rattle.scheme_model.specs.Substitution.{Table}
 use Rattle.scheme_model.specs.Entries.{Entry}
 use Rattle.scheme_model.specs.Declarations.{UnitForm, UnitKind, IsLibrary, IsProgram}
-use Rattle.scheme_model.specs.Program.{Placed, UnitResult, Program, result_at, ExportSpec, WholeFault, SetResult, Unknown, Faulty, Gives, ExportFault, NotDefined, SameExport, specs_in}
+use Rattle.scheme_model.specs.IncludedUnits.{Placed}
+use Rattle.scheme_model.specs.Program.{UnitResult, Program, result_at, ExportSpec, WholeFault, SetResult, Unknown, Faulty, Gives, ExportFault, NotDefined, SameExport, specs_in}
 use Rattle.scheme_model.specs.ProgramArrows.{program_leaves, program_keywords, program_names, program_table, is_live_at}
 use Rattle.rename_model.specs.Walks.{Node, node_number, IsSymbol, IsNumeral, IsString, Seen, OfNode, OfNumber, OfName, OfDefinition, OfLocal, OfBinders, Spot, AtUse, AtQuoted, AtRule, AtTemplate, AtExport, AtErrors, AtShape, Shown, ShowsNothing, ShowsSymbol, Point, point, node, number, meaning_at, form_points}
 

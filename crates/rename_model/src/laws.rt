@@ -1,6 +1,7 @@
 //! Laws of the definitions. Each is the contract of a function that does nothing.
 ghost use Rattle.std.specs.Prelude.{◌≡◌, ◌↔◌, ℕ, List, [], Option, None};
-ghost use Rattle.scheme_model.specs.Program.{Placed, Program};
+ghost use Rattle.scheme_model.specs.IncludedUnits.{Placed};
+ghost use Rattle.scheme_model.specs.Program.{Program};
 ghost use Rattle.rename_model.specs.SameProgram.{Plan, stretches, live_in, IsSame};
 ghost use Rattle.rename_model.specs.Difference.{difference_in};
 ghost use Rattle.rename_model.specs.Bound.{AllStretchesBound, HaveNoErrors, AllLeftOutAlike};

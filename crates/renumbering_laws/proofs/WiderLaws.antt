@@ -14,8 +14,9 @@ use Rattle.scheme_model.specs.ScopedExpansion.{ScopedState}
 use Rattle.scheme_model.specs.CountedExpansion.{counted}
 use Rattle.scheme_model.specs.StandardNames.{base_names}
 use Rattle.scheme_model.specs.StandardLibraries.{standard_libraries}
-use Rattle.scheme_model.specs.Declarations.{UnitSource, IsLibrary}
-use Rattle.scheme_model.specs.Program.{Placed, Prepared, prepared, prepare, fault_before, TooMany, DefinedTwice, prelude_unit, prelude_entry}
+use Rattle.scheme_model.specs.Declarations.{IsLibrary}
+use Rattle.scheme_model.specs.IncludedUnits.{UnitSource, Placed}
+use Rattle.scheme_model.specs.Program.{Prepared, prepared, prepare, fault_before, TooMany, DefinedTwice, prelude_unit, prelude_entry}
 use Rattle.renumbering_laws.specs.Renumbering.{Renumbering}
 use Rattle.renumbering_laws.specs.States.{CountsOn}
 

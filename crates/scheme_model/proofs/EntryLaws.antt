@@ -11,7 +11,8 @@ use Rattle.scheme_model.specs.Substitution.{Table, Entries, Defined, defined_in}
 use Rattle.scheme_model.specs.Ident.{Ident, Written}
 use Rattle.scheme_model.specs.StandardLibraries.{standard}
 use Rattle.scheme_model.specs.Entries.{Entry, entry_at, ImportSet, Library, Only, Except, Prefix, Rename, Bad, library_in, ImportFault, BadSet, ◌>>=◌, all_there, is_listed, prefixed, renamed, under_pairs, or_itself, rename_all, Joined, added, clashing, join_entry, gather, unless_clash, has_bad, given_by, entries_of}
-use Rattle.scheme_model.specs.Program.{Placed, ImportSpec, ExportSpec, unit_named, Prepared, UnitResult, SameExport, result_at, standard_entry, exports_if, unit_exports, library_exports, after_set, with_exports, of_library, import_all, base_entries, imports_nothing, unit_entries, entry_meaning, with_entries, own_entry, names_of_unit, exported, Exported, has_name, export_one, export_all}
+use Rattle.scheme_model.specs.IncludedUnits.{Placed}
+use Rattle.scheme_model.specs.Program.{ImportSpec, ExportSpec, unit_named, Prepared, UnitResult, SameExport, result_at, standard_entry, exports_if, unit_exports, library_exports, after_set, with_exports, of_library, import_all, base_entries, imports_nothing, unit_entries, entry_meaning, with_entries, own_entry, names_of_unit, exported, Exported, has_name, export_one, export_all}
 use Rattle.scheme_model.proofs.FrameAsks.{AllOf}
 use Rattle.scheme_model.proofs.FrameHeld.{all_append}
 

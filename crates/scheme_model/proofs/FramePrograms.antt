@@ -23,7 +23,9 @@ use Rattle.scheme_model.specs.FrameImages.{frame_image, image_outside, DefinesOu
 use Rattle.scheme_model.specs.Prelude.{PreludeMacro, prelude}
 use Rattle.scheme_model.specs.Entries.{Entry}
 use Rattle.scheme_model.specs.Declarations.{UnitForm, home_of}
-use Rattle.scheme_model.specs.Program.{Document, known_in, units_of, prepare, Placed, Prepared, WholeFault, fault_before, SetResult, UnitResult, Progress, result_at, unit_entries, with_entries, form_trees, start_of, enough_turns, broken_result, unit_result, expanded_unit, by_fault, is_ready, first_ready, worked, work, written_rules, is_standard, prelude_unit, prelude_entry, prelude_meaning, prelude_macro, prelude_definitions, progress_before, in_order, program_of}
+use Rattle.scheme_model.specs.Includes.{Document}
+use Rattle.scheme_model.specs.IncludedUnits.{Placed}
+use Rattle.scheme_model.specs.Program.{known_in, units_of, prepare, Prepared, WholeFault, fault_before, SetResult, UnitResult, Progress, result_at, unit_entries, with_entries, form_trees, start_of, enough_turns, broken_result, unit_result, expanded_unit, by_fault, is_ready, first_ready, worked, work, written_rules, is_standard, prelude_unit, prelude_entry, prelude_meaning, prelude_macro, prelude_definitions, progress_before, in_order, program_of}
 use Rattle.scheme_model.specs.ScopedProgram.{ScopedProgress, forms_over, scoped_start_of, scoped_unit_over, numbered_unit_over, scoped_start_after, scoped_expanded, scoped_by_fault, scoped_worked, scoped_work, prelude_rules, scoped_prelude_macro, scoped_before, scoped_program_of, imaged_macro, imaged}
 use Rattle.scheme_model.proofs.RenamingLaws.{map_after}
 use Rattle.scheme_model.proofs.IdentKinds.{rules_kind, rules_fused}

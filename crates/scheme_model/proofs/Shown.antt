@@ -4,6 +4,7 @@ use Rattle.std.specs.Str.{bytes_eq}
 use Rattle.scheme_model.specs.declared.Occ.{Occ}
 use Rattle.scheme_model.specs.Identifiers.{Name}
 use Rattle.scheme_model.specs.Ident.{Ident, Written, symbol_of, erase}
+use Rattle.scheme_model.specs.Data.{Datum}
 use Rattle.scheme_model.specs.Trees.{Tree, name, atom, list, vector, Trees, no_trees, tree, Tail, proper, dotted, map_tree}
 use Rattle.scheme_model.specs.StandardNames.{is_base}
 use Rattle.scheme_model.specs.Meaning.{Meaning, Standard}
@@ -16,7 +17,8 @@ use Rattle.scheme_model.specs.Substitution.{State, model}
 use Rattle.scheme_model.specs.ScopedExpansion.{ScopedState, scoped}
 use Rattle.scheme_model.specs.UnitExpansion.{Formed, unit}
 use Rattle.scheme_model.specs.Declarations.{UnitForm}
-use Rattle.scheme_model.specs.Program.{Document, UnitResult, WholeFault, whole_code, program_of, units_of}
+use Rattle.scheme_model.specs.Includes.{Document}
+use Rattle.scheme_model.specs.Program.{UnitResult, WholeFault, whole_code, program_of, units_of}
 use Rattle.scheme_model.specs.ProgramArrows.{arrows_of}
 use Rattle.scheme_model.specs.Spelling.{Link, links_of, class_of, prefixes_of}
 use Rattle.scheme_model.specs.Diagnostics.{Span, Bytes, bytes_of, Diagnostic, diagnostics_of}
@@ -220,8 +222,15 @@ rows_of_unit r = record { broken = broken_code r.fault; forms = unless_broken r.
     unless_broken None rows = rows
     unless_broken (Some f) rows = []
 
-abbrev pub unit_rows : List Document → List UnitRow
-unit_rows ds = map rows_of_unit (program_of ds).units
+-- texts as they read, in which no string means another
+abbrev pub Texts : Type 0
+Texts = List (Option (List Datum))
+
+abbrev pub alone : Texts → List Document
+alone ts = map (λ t. record { read = t; meant = λ s. None }) ts
+
+abbrev pub unit_rows : Texts → List UnitRow
+unit_rows ts = map rows_of_unit (program_of (alone ts)).units
 
 -- an arrow by the bytes of its ends
 pub record ArrowRow : Type 0 where
@@ -245,12 +254,15 @@ abbrev sort_arrows : List ArrowRow → List ArrowRow
 sort_arrows [] = []
 sort_arrows (a ∷ bs) = put_arrow a (sort_arrows bs)
 
-abbrev pub arrow_rows : List (List Span) → List Document → List ArrowRow
-arrow_rows spans ds = let p = program_of ds in
+abbrev pub arrows_between : List (List Span) → List Document → List ArrowRow
+arrows_between spans ds = let p = program_of ds in
     sort_arrows (map (λ a. record { binder = bytes_of spans p.units a.binder; target = bytes_of spans p.units a.target }) (arrows_of (units_of ds) p))
 
-abbrev pub diagnostic_rows : List (List Span) → List Document → List Diagnostic
-diagnostic_rows spans ds = diagnostics_of spans (program_of ds)
+abbrev pub arrow_rows : List (List Span) → Texts → List ArrowRow
+arrow_rows spans ts = arrows_between spans (alone ts)
+
+abbrev pub diagnostic_rows : List (List Span) → Texts → List Diagnostic
+diagnostic_rows spans ts = diagnostics_of spans (program_of (alone ts))
 
 -- a member of a class, with its prefixes
 pub record PartRow : Type 0 where
@@ -269,8 +281,14 @@ abbrev parts_with : List (List Span) → List UnitResult → List Link → List 
 parts_with spans rs ls ms = sort_parts (map (λ o. record { place = bytes_of spans rs o; prefixes = prefixes_of ls o [] }) ms)
 
 -- the class of an occurrence
-abbrev pub class_rows : List (List Span) → List Document → Occ → List PartRow
-class_rows spans ds o = let p = program_of ds in let ls = links_of (units_of ds) p in parts_with spans p.units ls (class_of ls o)
+abbrev pub class_in : List (List Span) → List Document → Occ → List PartRow
+class_in spans ds o = let p = program_of ds in let ls = links_of (units_of ds) p in parts_with spans p.units ls (class_of ls o)
 
-abbrev pub answer_rows : List (List Span) → List Document → (document offset : ℕ) → Query → Answer
-answer_rows spans ds document offset query = answer_in spans (units_of ds) (program_of ds) document offset query
+abbrev pub class_rows : List (List Span) → Texts → Occ → List PartRow
+class_rows spans ts o = class_in spans (alone ts) o
+
+abbrev pub answered : List (List Span) → List Document → (document offset : ℕ) → Query → Answer
+answered spans ds document offset query = answer_in spans (units_of ds) (program_of ds) document offset query
+
+abbrev pub answer_rows : List (List Span) → Texts → (document offset : ℕ) → Query → Answer
+answer_rows spans ts document offset query = answered spans (alone ts) document offset query

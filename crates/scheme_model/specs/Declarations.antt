@@ -1,15 +1,15 @@
--- What a document holds (R7RS 5.1, 5.6.1): libraries, whose declarations are flattened, and a program.
-use Rattle.std.specs.Prelude.{ℕ, zero, suc, ◌+◌, ◌==◌, nat_le, List, [], ◌∷◌, ◌++◌, map, filter, Bool, true, false, not, ◌&&◌, ◌||◌, Option, Some, None, Result, Ok, Err, codes, if◌then◌else◌}
+-- What stands in a document (R7RS 5.1, 5.6.1): libraries with their declarations, and a program; and the forms of units.
+use Rattle.std.specs.Prelude.{ℕ, zero, suc, ◌+◌, ◌==◌, nat_le, List, [], ◌∷◌, Bool, true, false, ◌&&◌, ◌||◌, Option, Some, None, Result, Ok, Err, codes, if◌then◌else◌}
 use Rattle.std.specs.Option.{is_some}
 use Rattle.std.specs.Str.{bytes_eq, encode_utf8_all}
 use Rattle.scheme_model.specs.declared.Home.{Home}
 use Rattle.scheme_model.specs.declared.Occ.{Occ}
 use Rattle.scheme_model.specs.Kinds.{Leaf, Name, Numeral, Quoted, Character, Truth}
-use Rattle.scheme_model.specs.Data.{Atom, spelled, implied, Datum, atom, list, vector, bytes, Data, none, part, tail, Place, place_of}
+use Rattle.scheme_model.specs.Data.{Atom, spelled, implied, Datum, atom, list, vector, bytes, Data, none, part, tail, place_of}
 use Rattle.scheme_model.specs.DataTrees.{mark_symbol, tree_of}
-use Rattle.scheme_model.specs.Trees.{Tree, Trees, no_trees, tree}
+use Rattle.scheme_model.specs.Trees.{Tree}
 use Rattle.scheme_model.specs.ExpansionFaults.{Fault}
-use Rattle.scheme_model.specs.Requirements.{LibraryName, Known, library_name_of, clause_holds}
+use Rattle.scheme_model.specs.Requirements.{LibraryName, library_name_of}
 
 -- ---- data by their heads
 
@@ -68,12 +68,9 @@ pub record UnitForm : Type 0 where
   pub declared : Bool
   pub home : Option Home
 
--- forms of the unit's own text
+-- a form of the unit's own text
 abbrev pub plain_form : Datum → UnitForm
 plain_form d = record { datum = d; declared = false; home = None }
-
-abbrev pub declared_form : Datum → UnitForm
-declared_form d = record { datum = d; declared = true; home = None }
 
 -- a text that isn't included is at home in its own unit
 abbrev pub home_or : (unit form : ℕ) → Datum → Option Home → Home
@@ -103,18 +100,10 @@ holds_at unit form (f ∷ fs) (suc n) o = holds_at unit (suc form) fs n o
 abbrev pub forms_hold : (unit : ℕ) → List UnitForm → (form : ℕ) → Occ → Bool
 forms_hold unit fs form o = holds_at unit 0 fs form o
 
--- the forms, or the first bad declaration
-abbrev pub Flat : Type 0
-Flat = Result (List UnitForm) Datum
-
-infixl 10 ◌>>=◌
-abbrev pub ◌>>=◌ : {A B : Type 0} → Result A Datum → (A → Result B Datum) → Result B Datum
-(Ok a) >>= f = f a
-(Err e) >>= f = Err e
-
-abbrev pub or_bad : {A B : Type 0} → Datum → Result A (Fault B) → Result A Datum
-or_bad d (Ok a) = Ok a
-or_bad d (Err e) = Err d
+-- one of forms that are numbered from one on holds an occurrence
+abbrev pub one_holds : (unit form : ℕ) → List UnitForm → Occ → Bool
+one_holds unit form [] o = false
+one_holds unit form (f ∷ fs) o = is_token_of (home_of unit form f) f.datum o || one_holds unit (suc form) fs o
 
 abbrev pub all_names : List Datum → Bool
 all_names [] = true
@@ -151,41 +140,6 @@ abbrev pub all_export_parts : List Datum → Bool
 all_export_parts [] = true
 all_export_parts (d ∷ ds) = is_export_part d && all_export_parts ds
 
--- a clause of `cond-expand`: its requirement, and its forms flattened
-pub record Clause : Type 0 where
-  pub requirement : Tree (List ℕ)
-  pub forms : Flat
-
-abbrev pub later_clauses : List Clause → Trees (List ℕ)
-later_clauses [] = no_trees
-later_clauses (c ∷ cs) = tree c.requirement no_trees
-
-abbrev pub picked : Bool → Flat → Flat → Flat
-picked true forms later = forms
-picked false forms later = later
-
--- the forms of the first clause that holds; a clause without its shape makes the whole bad. What stands in a clause that isn't
--- chosen is no declaration
-abbrev pub chosen_clause : Known → Datum → List Clause → Result Flat Datum
-chosen_clause known whole [] = Ok (Ok [])
-chosen_clause known whole (c ∷ cs) =
-    or_bad whole (clause_holds (λ s. s) known c.requirement (later_clauses cs)) >>= λ b. chosen_clause known whole cs >>= λ later. Ok (picked b c.forms later)
-
-abbrev pub flat_of : Result Flat Datum → Flat
-flat_of (Ok forms) = forms
-flat_of (Err d) = Err d
-
-abbrev pub some_clauses : Datum → List Clause → Result (List Clause) Datum
-some_clauses whole [] = Err whole
-some_clauses whole (c ∷ cs) = Ok (c ∷ cs)
-
-abbrev pub both : Flat → Flat → Flat
-both a b = a >>= λ xs. b >>= λ ys. Ok (xs ++ ys)
-
-abbrev pub parts_or : Datum → Option (List Datum) → Result (List Datum) Datum
-parts_or whole None = Err whole
-parts_or whole (Some ds) = Ok ds
-
 -- what a declaration is by the symbol at its head
 pub data Declared : Type 0 where
   Exports : Declared
@@ -207,74 +161,17 @@ declared_by (Some s) =
     else if bytes_eq s (codes "include-library-declarations") then Includes
     else Undeclared
 
--- a declaration whose parts behind the head are these, and whose clauses, were it a choice, are those
-abbrev pub declared_as : Known → Declared → Datum → Option (List Datum) → Result (List Clause) Datum → Flat
-declared_as known Exports d parts clauses = parts_or d parts >>= λ ds. if all_export_parts ds then Ok (declared_form d ∷ []) else Err d
-declared_as known Imports d parts clauses = parts_or d parts >>= λ ds. Ok (declared_form d ∷ [])
-declared_as known Begins d parts clauses = parts_or d parts >>= λ ds. Ok (map plain_form ds)
-declared_as known Chooses d parts clauses = flat_of (clauses >>= some_clauses d >>= chosen_clause known d)
-declared_as known Includes d parts clauses = parts_or d parts >>= λ ds. Ok (declared_form d ∷ [])
-declared_as known Undeclared d parts clauses = Err d
-
--- ends of rows: a proper list alone is a list of clauses or declarations
-abbrev mutual
-  pub declaration : Known → Datum → Flat
-  declaration known (atom p kind) = Err (atom p kind)
-  declaration known (vector p ds) = Err (vector p ds)
-  declaration known (bytes p bs) = Err (bytes p bs)
-  declaration known (list p none) = Err (list p none)
-  declaration known (list p (tail d)) = Err (list p (tail d))
-  declaration known (list p (part d ds)) = declared_as known (declared_by (symbol_in d)) (list p (part d ds)) (proper_parts ds) (clauses known (list p (part d ds)) ds)
-
-  pub declarations : Known → Datum → Data → Flat
-  declarations known whole none = Ok []
-  declarations known whole (part d ds) = both (declaration known d) (declarations known whole ds)
-  declarations known whole (tail d) = Err whole
-
-  pub clauses : Known → Datum → Data → Result (List Clause) Datum
-  clauses known whole none = Ok []
-  clauses known whole (part d ds) = clause_of known whole d >>= λ c. clauses known whole ds >>= λ cs. Ok (c ∷ cs)
-  clauses known whole (tail d) = Err whole
-
-  pub clause_of : Known → Datum → Datum → Result Clause Datum
-  clause_of known whole (atom p kind) = Err whole
-  clause_of known whole (vector p ds) = Err whole
-  clause_of known whole (bytes p bs) = Err whole
-  clause_of known whole (list p none) = Err whole
-  clause_of known whole (list p (tail d)) = Err whole
-  clause_of known whole (list p (part d ds)) = parts_or whole (proper_parts ds) >>= λ rest. Ok (record { requirement = symbol_tree d; forms = declarations known whole ds })
-
 -- ---- units
 
+-- a library, a program, or the program of a text that others include, which is worked on only there
 pub data UnitKind : Type 0 where
   IsLibrary : UnitKind
   IsProgram : UnitKind
-
--- a unit: its library's name, its first token's place, and its forms or the first bad declaration
-pub record UnitSource : Type 0 where
-  pub kind : UnitKind
-  pub name : Option LibraryName
-  pub start : Place
-  pub forms : Flat
+  IsPart : UnitKind
 
 abbrev pub name_or : {B : Type 0} → Result LibraryName (Fault B) → Option LibraryName
 name_or (Ok n) = Some n
 name_or (Err e) = None
-
-abbrev pub no_name : Option LibraryName → Datum → Flat → Flat
-no_name None d forms = Err d
-no_name (Some n) d forms = forms
-
--- a library, by what stands behind `define-library`; without a name the list itself is the bad declaration
-abbrev pub library_with : Known → Datum → Data → UnitSource
-library_with known d none = record { kind = IsLibrary; name = None; start = place_of d; forms = Err d }
-library_with known d (tail e) = record { kind = IsLibrary; name = None; start = place_of d; forms = Err d }
-library_with known d (part n ds) = let name = name_or (library_name_of (λ s. s) (symbol_tree n)) in record {
-  kind = IsLibrary;
-  name = name;
-  start = place_of d;
-  forms = no_name name d (declarations known d ds);
-}
 
 abbrev pub behind_head : Datum → Data
 behind_head (atom p kind) = none
@@ -284,36 +181,25 @@ behind_head (list p (part d ds)) = ds
 behind_head (vector p ds) = none
 behind_head (bytes p bs) = none
 
-abbrev pub library_of : Known → Datum → UnitSource
-library_of known d = library_with known d (behind_head d)
+-- the name behind `define-library`
+abbrev pub library_name_in : Data → Option LibraryName
+library_name_in none = None
+library_name_in (tail d) = None
+library_name_in (part n ds) = name_or (library_name_of (λ s. s) (symbol_tree n))
+
+abbrev pub library_name : Datum → Option LibraryName
+library_name d = library_name_in (behind_head d)
 
 abbrev pub is_library : Datum → Bool
 is_library d = is_headed (codes "define-library") d
 
-abbrev pub libraries_in : Known → List Datum → List UnitSource
-libraries_in known [] = []
-libraries_in known (d ∷ ds) = if is_library d then library_of known d ∷ libraries_in known ds else libraries_in known ds
-
 abbrev pub is_proper : Datum → Bool
 is_proper d = is_some (list_parts d)
-
--- the leading proper lists headed by `import` are a program's imports
-abbrev pub program_forms : List Datum → List UnitForm
-program_forms [] = []
-program_forms (d ∷ ds) = if is_headed (codes "import") d && is_proper d then declared_form d ∷ program_forms ds else map plain_form (d ∷ ds)
-
-abbrev pub program_in : List Datum → List UnitSource
-program_in [] = []
-program_in (d ∷ ds) = record { kind = IsProgram; name = None; start = place_of d; forms = Ok (program_forms (d ∷ ds)) } ∷ []
-
--- the units of a document: its libraries in their order, and then its program, which is all that is no library
-abbrev pub units_in : Known → List Datum → List UnitSource
-units_in known ds = libraries_in known ds ++ program_in (filter (λ d. not (is_library d)) ds)
 
 -- the names of a document's libraries
 abbrev pub library_names : List Datum → List LibraryName
 library_names [] = []
-library_names (d ∷ ds) = if is_library d then named_first (library_of (λ n. false) d).name (library_names ds) else library_names ds
+library_names (d ∷ ds) = if is_library d then named_first (library_name d) (library_names ds) else library_names ds
   where
     named_first : Option LibraryName → List LibraryName → List LibraryName
     named_first None ns = ns

@@ -64,10 +64,12 @@ unit_words =
     (65, codes "exported twice ") ∷
     (66, codes "unit too large") ∷
     (67, codes "too many units") ∷
+    (68, codes "include cycle") ∷
     (101, codes "definition hides import ") ∷
     (102, codes "library not known") ∷
     (103, codes "unbound ") ∷
     (104, codes "no import, (scheme base) is used") ∷
+    (105, codes "included text not usable ") ∷
     []
 
 -- what stands in front of the name, and behind it

@@ -12,7 +12,8 @@ use Rattle.scheme_model.specs.UnitExpansion.{Formed}
 use Rattle.scheme_model.specs.Substitution.{Table}
 use Rattle.scheme_model.specs.Entries.{Entry, entry_at, ImportFault, NotThere, Clash, BadSet, is_below}
 use Rattle.scheme_model.specs.Declarations.{UnitForm, unit_or, forms_hold}
-use Rattle.scheme_model.specs.Program.{Prepared, UnitResult, Program, ImportSpec, ExportSpec, WholeFault, TooMany, BadDeclaration, DefinedTwice, ImportCycle, TooLarge, SetResult, Unknown, Faulty, Gives, ExportFault, NotDefined, SameExport, whole_code, result_at, imports_nothing}
+use Rattle.scheme_model.specs.Included.{LostString}
+use Rattle.scheme_model.specs.Program.{Prepared, UnitResult, Program, ImportSpec, ExportSpec, WholeFault, TooMany, IncludeCycle, BadDeclaration, DefinedTwice, ImportCycle, TooLarge, SetResult, Unknown, Faulty, Gives, ExportFault, NotDefined, SameExport, whole_code, result_at, imports_nothing}
 use Rattle.scheme_model.specs.DiagnosticTexts.{worded}
 use Rattle.scheme_model.specs.Live.{CoreLeaf, Binds, Uses, Assigns, Quotes, Defines, unit_leaves}
 
@@ -156,6 +157,12 @@ export_diagnostics bytes unit [] = []
 export_diagnostics bytes unit (NotDefined x ∷ xs) = at_bytes (export_bytes bytes unit x) 64 x.inner.name ∷ export_diagnostics bytes unit xs
 export_diagnostics bytes unit (SameExport x ∷ xs) = at_bytes (export_bytes bytes unit x) 65 x.outer.name ∷ export_diagnostics bytes unit xs
 
+-- a string that means no text that can be included, where it is written
+abbrev pub lost_diagnostics : List LostString → List Diagnostic
+lost_diagnostics [] = []
+lost_diagnostics (l ∷ ls) =
+    at_bytes (record { document = l.document; span = record { start = l.string.place.start; end = l.string.place.end } }) 105 l.string.characters ∷ lost_diagnostics ls
+
 -- a definition of a symbol that the unit imports
 abbrev pub hides : List Entry → Ident → Bool
 hides es (Inserted i k) = false
@@ -209,6 +216,7 @@ unit_start spans p = record { document = p.placed.document; span = span_at (span
 -- a bad declaration stands in the document of its unit
 abbrev pub whole_bytes : List (List Span) → (document : ℕ → ℕ) → Prepared → WholeFault → Bytes
 whole_bytes spans document p TooMany = unit_start spans p
+whole_bytes spans document p IncludeCycle = unit_start spans p
 whole_bytes spans document p (BadDeclaration unit d) = datum_bytes (document unit) d
 whole_bytes spans document p DefinedTwice = unit_start spans p
 whole_bytes spans document p ImportCycle = unit_start spans p
@@ -219,9 +227,9 @@ whole_fault spans document p f = at_bytes (whole_bytes spans document p f) (whol
 
 abbrev pub inner_diagnostics : List (List Span) → Program → UnitResult → List Diagnostic → List Diagnostic
 inner_diagnostics spans p r sets =
-    sets ++ export_diagnostics (bytes_of spans p.units) r.unit.number r.export_faults ++ form_diagnostics (bytes_of spans p.units) (forms_hold r.unit.number r.unit.forms) r.unit.number r.forms ++
+    sets ++ lost_diagnostics r.unit.placed.source.lost ++ export_diagnostics (bytes_of spans p.units) r.unit.number r.export_faults ++ form_diagnostics (bytes_of spans p.units) (forms_hold r.unit.number r.unit.forms) r.unit.number r.forms ++
     hiding_diagnostics (bytes_of spans p.units) r.unit.number r.forms r.entries p.table ++
-    (if is_empty sets then unbound_diagnostics (bytes_of spans p.units) (unit_leaves r.forms) else []) ++
+    (if is_empty sets && is_empty r.unit.placed.source.lost then unbound_diagnostics (bytes_of spans p.units) (unit_leaves r.forms) else []) ++
     (if imports_nothing r.unit then at_bytes (unit_start spans r.unit) 104 [] ∷ [] else [])
 
 abbrev pub unit_diagnostics : List (List Span) → Program → UnitResult → Option WholeFault → List Diagnostic

@@ -1,5 +1,6 @@
 -- The program of the open documents (R7RS 5): its units in order, what each imports, defines and exports, and what its forms
--- expand to. A document is handed in as its data, where it reads. The units' numbers are their places in the list.
+-- expand to. A document is handed in as its data, where it reads, with what its strings mean. The units' numbers are their places in
+-- the list.
 use Rattle.std.specs.Prelude.{ℕ, zero, suc, ◌==◌, nat_le, nat_lt, List, [], ◌∷◌, ◌++◌, map, length, Bool, true, false, not, ◌&&◌, ◌||◌, Option, Some, None, Result, Ok, Err, codes, if◌then◌else◌, ◌^◌}
 use Rattle.std.specs.List.{list_any}
 use Rattle.std.specs.Str.{bytes_eq}
@@ -19,17 +20,11 @@ use Rattle.scheme_model.specs.UnitExpansion.{Formed, unit}
 use Rattle.scheme_model.specs.Prelude.{PreludeMacro, prelude}
 use Rattle.scheme_model.specs.StandardLibraries.{StandardLibrary, standard_libraries, standard}
 use Rattle.scheme_model.specs.Entries.{StandardName, Entry, entry_at, ImportSet, Library, Only, Except, Prefix, Rename, Bad, set_of, library_in, ImportFault, BadSet, entries_of, gather, place_origin}
-use Rattle.scheme_model.specs.Declarations.{UnitForm, home_of, UnitKind, IsLibrary, IsProgram, UnitSource, units_in, library_names, list_parts, is_headed}
+use Rattle.scheme_model.specs.Declarations.{UnitForm, unit_or, home_of, UnitKind, IsLibrary, IsProgram, IsPart, library_names, list_parts, is_headed}
+use Rattle.scheme_model.specs.Includes.{Document, data_of, max_units}
+use Rattle.scheme_model.specs.IncludedUnits.{EarlyFault, OnCircle, BadAt, TooManyTokens, UnitSource, Placed, included_units}
 
 -- ---- the units of the documents
-
--- a document's data, or nothing where it doesn't read
-abbrev pub Document : Type 0
-Document = Option (List Datum)
-
-abbrev pub data_of : Document → List Datum
-data_of None = []
-data_of (Some ds) = ds
 
 abbrev pub all_names : List Document → List LibraryName
 all_names [] = []
@@ -43,17 +38,8 @@ is_listed (m ∷ ms) n = same_library m n || is_listed ms n
 abbrev pub known_in : List Document → Known
 known_in ds n = is_some (standard n) || is_listed (all_names ds) n
 
--- a unit with its document's place among the documents
-pub record Placed : Type 0 where
-  pub document : ℕ
-  pub source : UnitSource
-
-abbrev pub units_from : Known → ℕ → List Document → List Placed
-units_from known n [] = []
-units_from known n (d ∷ ds) = map (λ u. record { document = n; source = u }) (units_in known (data_of d)) ++ units_from known (suc n) ds
-
 abbrev pub units_of : List Document → List Placed
-units_of ds = units_from (known_in ds) 0 ds
+units_of ds = included_units (known_in ds) ds
 
 -- ---- declarations
 
@@ -155,6 +141,7 @@ exports_from unit form (f ∷ fs) = exports_in unit form f ++ exports_from unit 
 
 pub data WholeFault : Type 0 where
   TooMany : WholeFault
+  IncludeCycle : WholeFault
   BadDeclaration : (unit : ℕ) → Datum → WholeFault
   DefinedTwice : WholeFault
   ImportCycle : WholeFault
@@ -163,22 +150,19 @@ pub data WholeFault : Type 0 where
 -- the code of its diagnostic
 abbrev pub whole_code : WholeFault → ℕ
 whole_code TooMany = 67
+whole_code IncludeCycle = 68
 whole_code (BadDeclaration unit d) = 61
 whole_code DefinedTwice = 63
 whole_code ImportCycle = 62
 whole_code TooLarge = 66
 
--- the most units
-abbrev pub max_units : ℕ
-max_units = 128
-
 -- the name of a library that isn't left out
 abbrev pub name_if : ℕ → UnitSource → Option LibraryName
 name_if place u = if nat_lt place max_units then usable u.forms u.name else None
   where
-    usable : Result (List UnitForm) Datum → Option LibraryName → Option LibraryName
+    usable : Result (List UnitForm) EarlyFault → Option LibraryName → Option LibraryName
     usable (Ok fs) n = n
-    usable (Err d) n = None
+    usable (Err e) n = None
 
 abbrev pub is_named : LibraryName → Option LibraryName → Bool
 is_named n None = false
@@ -197,9 +181,9 @@ abbrev pub unit_named : LibraryName → ℕ → List Placed → Option ℕ
 unit_named n place [] = None
 unit_named n place (u ∷ us) = if is_named n (imported_as place u.source) then Some place else unit_named n (suc place) us
 
-abbrev pub forms_or_none : Result (List UnitForm) Datum → List UnitForm
+abbrev pub forms_or_none : Result (List UnitForm) EarlyFault → List UnitForm
 forms_or_none (Ok fs) = fs
-forms_or_none (Err d) = []
+forms_or_none (Err e) = []
 
 -- the places of the units that a unit imports
 abbrev pub imported_units : List Placed → List ImportSpec → List ℕ
@@ -273,10 +257,15 @@ is_repeated all p = later (name_if p.number p.placed.source)
     later None = false
     later (Some n) = is_some (standard n) || not (is_first (unit_named n 0 all) p.number)
 
--- a bad declaration, in the text of the unit with this number
-abbrev pub declared_fault : (unit : ℕ) → Result (List UnitForm) Datum → Option WholeFault → Option WholeFault
+-- a bad declaration is told with a unit of its document: this one, unless its text is included
+abbrev pub early_fault : (unit : ℕ) → EarlyFault → WholeFault
+early_fault unit OnCircle = IncludeCycle
+early_fault unit (BadAt h) = BadDeclaration (unit_or unit h.home) h.datum
+early_fault unit TooManyTokens = TooLarge
+
+abbrev pub declared_fault : (unit : ℕ) → Result (List UnitForm) EarlyFault → Option WholeFault → Option WholeFault
 declared_fault unit (Ok fs) other = other
-declared_fault unit (Err d) other = Some (BadDeclaration unit d)
+declared_fault unit (Err e) other = Some (early_fault unit e)
 
 -- what breaks a unit before its forms are expanded
 abbrev pub fault_before : List Placed → List Prepared → Prepared → Option WholeFault
@@ -364,6 +353,7 @@ base_entries = map standard_entry (names_or (standard (Symbol (codes "scheme") �
 abbrev pub is_program : UnitKind → Bool
 is_program IsLibrary = false
 is_program IsProgram = true
+is_program IsPart = false
 
 -- a program without an import has `(scheme base)`; `(import)` is one
 abbrev pub imports_nothing : Prepared → Bool
@@ -380,6 +370,15 @@ abbrev pub with_entries : ℕ → List Entry → Entries → Entries
 with_entries n es before u s = if u == n then entry_meaning (entry_at es s) else before u s
 
 -- ---- the forms
+
+-- the forms that are worked on in the unit; a part's are worked on where they are included
+abbrev pub forms_at_work : Prepared → List UnitForm
+forms_at_work p = unless_part p.placed.source.kind
+  where
+    unless_part : UnitKind → List UnitForm
+    unless_part IsLibrary = p.forms
+    unless_part IsProgram = p.forms
+    unless_part IsPart = []
 
 -- the forms that are expanded, which aren't declarations, each by its number and its home
 abbrev pub form_trees : ℕ → ℕ → List UnitForm → List (ℕ × Tree Name)
@@ -474,14 +473,14 @@ abbrev pub unit_result : Prepared → List Entry × List SetResult → Table →
 unit_result p imports table None = broken_result p TooLarge
 unit_result p imports table (Some forms) =
     let exports = export_all (names_of_unit table p.number imports.0) [] p.exports in
-    record { unit = p; fault = None; sets = imports.1; entries = imports.0; forms = with_refused p.number 0 p.forms forms; exports = exports.entries; export_faults = exports.faults }
+    record { unit = p; fault = None; sets = imports.1; entries = imports.0; forms = with_refused p.number 0 (forms_at_work p) forms; exports = exports.entries; export_faults = exports.faults }
 
 abbrev pub unit_over : Known → List (ℕ × Tree Name) → State → Option (List Formed) × State
 unit_over known ts s = unit (model known) enough_turns tt ts s
 
 abbrev pub expanded_unit : List Placed → Known → Prepared → List Entry × List SetResult → Progress → Progress
 expanded_unit all known p imports g =
-    let q = unit_over known (form_trees p.number 0 p.forms) (start_of p g.table g.macros (with_entries p.number imports.0 g.entry)) in
+    let q = unit_over known (form_trees p.number 0 (forms_at_work p)) (start_of p g.table g.macros (with_entries p.number imports.0 g.entry)) in
     record { table = q.1.table; macros = q.1.macros; entry = with_entries p.number imports.0 g.entry; results = unit_result p imports q.1.table q.0 ∷ g.results }
 
 abbrev pub by_fault : List Placed → List Prepared → Known → Prepared → Option WholeFault → Progress → Progress

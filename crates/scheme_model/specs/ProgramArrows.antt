@@ -11,7 +11,8 @@ use Rattle.scheme_model.specs.Substitution.{Table, Defined, defined_in}
 use Rattle.scheme_model.specs.Requirements.{LibraryName}
 use Rattle.scheme_model.specs.Entries.{Entry, ImportSet, library_in, same_occ}
 use Rattle.scheme_model.specs.StandardLibraries.{standard}
-use Rattle.scheme_model.specs.Program.{UnitResult, ImportSpec, Placed, Program, result_at, library_exports, names_of_unit, is_some_fault}
+use Rattle.scheme_model.specs.IncludedUnits.{Placed}
+use Rattle.scheme_model.specs.Program.{UnitResult, ImportSpec, Program, result_at, library_exports, names_of_unit, is_some_fault}
 use Rattle.scheme_model.specs.Live.{CoreLeaf, Binds, Uses, Assigns, Quotes, Defines, unit_leaves, keyword_targets, NameUse, set_uses, all_export_uses}
 
 -- a binder and a use

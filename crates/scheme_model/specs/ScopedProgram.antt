@@ -16,7 +16,9 @@ use Rattle.scheme_model.specs.UnitExpansion.{Formed, unit}
 use Rattle.scheme_model.specs.Prelude.{PreludeMacro, prelude}
 use Rattle.scheme_model.specs.Entries.{Entry}
 use Rattle.scheme_model.specs.Declarations.{UnitForm, home_of}
-use Rattle.scheme_model.specs.Program.{Document, known_in, Placed, units_of, Prepared, prepare, WholeFault, fault_before, SetResult, UnitResult, Progress, is_program, unit_entries, with_entries, enough_turns, broken_result, unit_result, is_ready, first_ready, prelude_unit, prelude_entry, prelude_meaning, prelude_definitions, Program, in_order}
+use Rattle.scheme_model.specs.Includes.{Document}
+use Rattle.scheme_model.specs.IncludedUnits.{Placed}
+use Rattle.scheme_model.specs.Program.{known_in, units_of, Prepared, prepare, WholeFault, fault_before, SetResult, UnitResult, Progress, is_program, unit_entries, with_entries, forms_at_work, enough_turns, broken_result, unit_result, is_ready, first_ready, prelude_unit, prelude_entry, prelude_meaning, prelude_definitions, Program, in_order}
 
 -- what was expanded so far, as the definition that substitutes has it, with scopes in place of what was substituted
 pub record ScopedProgress : Type 0 where
@@ -54,11 +56,11 @@ scoped_start_of p g entry = record {
 }
 
 abbrev pub scoped_unit_over : Known → Prepared → ScopedState → Option (List Formed) × ScopedState
-scoped_unit_over known p s = unit (counted known) enough_turns [] (forms_over (Written p.number) p.number 0 p.forms) s
+scoped_unit_over known p s = unit (counted known) enough_turns [] (forms_over (Written p.number) p.number 0 (forms_at_work p)) s
 
 -- the same where a local is told by its whole number
 abbrev pub numbered_unit_over : Known → Prepared → ScopedState → Option (List Formed) × ScopedState
-numbered_unit_over known p s = unit (scoped known) enough_turns [] (forms_over (Written p.number) p.number 0 p.forms) s
+numbered_unit_over known p s = unit (scoped known) enough_turns [] (forms_over (Written p.number) p.number 0 (forms_at_work p)) s
 
 abbrev pub after_unit : Prepared → List Entry × List SetResult → Entries → List UnitResult → Option (List Formed) × ScopedState → ScopedProgress
 after_unit p imports entry results q = record {

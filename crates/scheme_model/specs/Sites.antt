@@ -25,13 +25,14 @@ abbrev mutual
   name_tokens_all (part d ds) = name_tokens d ++ name_tokens_all ds
   name_tokens_all (tail d) = name_tokens d
 
--- the identifiers of forms, numbered from one on
+-- the identifiers of a form
 abbrev pub names_in_form : (unit form : ℕ) → Datum → List Occ
 names_in_form unit form d = map (λ n. record { unit = unit; form = form; token = n - (place_of d).first }) (name_tokens d)
 
+-- those of forms that are numbered from one on; what is included stands in another text
 abbrev pub names_in_forms : (unit form : ℕ) → List UnitForm → List Occ
 names_in_forms unit form [] = []
-names_in_forms unit form (f ∷ fs) = names_in_form unit form f.datum ++ names_in_forms unit (suc form) fs
+names_in_forms unit form (f ∷ fs) = (if is_some f.home then [] else names_in_form unit form f.datum) ++ names_in_forms unit (suc form) fs
 
 -- those of the units of a document
 abbrev pub names_in_document : (document : ℕ) → List UnitResult → List Occ

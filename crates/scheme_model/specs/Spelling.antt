@@ -10,7 +10,8 @@ use Rattle.scheme_model.specs.Meaning.{Meaning, Local, Global, Standard, Free}
 use Rattle.scheme_model.specs.Cores.{Target, RuleLeaf}
 use Rattle.scheme_model.specs.Substitution.{Table, Defined, defined_in}
 use Rattle.scheme_model.specs.Entries.{Source, At, StandardName, Origin, Entry, entry_at, same_occ, place_origin, ImportSet, Library, Only, Except, Prefix, Rename, Bad, has_bad}
-use Rattle.scheme_model.specs.Program.{Placed, UnitResult, Program, result_at, is_some_fault}
+use Rattle.scheme_model.specs.IncludedUnits.{Placed}
+use Rattle.scheme_model.specs.Program.{UnitResult, Program, result_at, is_some_fault}
 use Rattle.scheme_model.specs.Live.{CoreLeaf, Binds, Uses, Assigns, Quotes, Defines, NameUse}
 use Rattle.scheme_model.specs.ProgramArrows.{Arrow, local_at, core_targets, is_live_at, rule_arrows, program_leaves, program_keywords, program_names, program_table, binders_in, places_at}
 

@@ -16,7 +16,9 @@ ghost use Rattle.scheme_model.specs.Renaming.{Renames, IsRenamed, result_map, fo
 ghost use Rattle.scheme_model.specs.Substitution.{Table, Entries, Clock, meaning, deep, clause_map};
 ghost use Rattle.scheme_model.specs.ScopedExpansion.{Frames, Enter, BodyDefinitions, find, UsePlace, means_inside, means_outside};
 ghost use Rattle.scheme_model.specs.FrameImages.{frame_image};
-ghost use Rattle.scheme_model.specs.Program.{Document, Placed, Prepared, is_ready, work, progress_before, program_of};
+ghost use Rattle.scheme_model.specs.Includes.{Document};
+ghost use Rattle.scheme_model.specs.IncludedUnits.{Placed};
+ghost use Rattle.scheme_model.specs.Program.{Prepared, is_ready, work, progress_before, program_of};
 ghost use Rattle.scheme_model.specs.ScopedProgram.{scoped_work, scoped_before, scoped_program_of, scoped_unit_over, numbered_unit_over, scoped_start_after, imaged};
 ghost use Rattle.scheme_model.specs.Scopes.{Chain, Uses, image, substituted, own_of, means, AreOutside};
 

@@ -1,6 +1,7 @@
 use Rattle.std.proofs.Common.{ℕ, List}
 use Rattle.scheme_model.specs.Requirements.{Known}
-use Rattle.scheme_model.specs.Program.{Placed, Prepared}
+use Rattle.scheme_model.specs.IncludedUnits.{Placed}
+use Rattle.scheme_model.specs.Program.{Prepared}
 use Rattle.expansion_laws.proofs.SearchedPrograms.{unit_law, passed_law, front_passed_law, front_finished_law}
 use Rattle.expansion_laws.proofs.laws.notes_are_searched.Goals as goal
 

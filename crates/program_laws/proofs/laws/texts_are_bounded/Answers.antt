@@ -1,6 +1,6 @@
 use Rattle.std.proofs.Common.{ℕ, List}
 use Rattle.scheme_model.specs.Data.{Datum}
-use Rattle.scheme_model.specs.Program.{Document}
+use Rattle.scheme_model.specs.Includes.{Document}
 use Rattle.datum_reader.specs.Texts.{IsReading}
 use Rattle.program_laws.specs.Turns.{Each}
 use Rattle.program_laws.specs.Texts.{IsOfText}

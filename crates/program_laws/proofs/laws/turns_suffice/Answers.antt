@@ -1,5 +1,5 @@
 use Rattle.std.proofs.Common.{List}
-use Rattle.scheme_model.specs.Program.{Document}
+use Rattle.scheme_model.specs.Includes.{Document}
 use Rattle.scheme_model.specs.Diagnostics.{Span}
 use Rattle.program_laws.specs.Turns.{AreBounded}
 use Rattle.program_laws.proofs.Programs.{program_done}

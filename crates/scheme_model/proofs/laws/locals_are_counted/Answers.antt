@@ -1,6 +1,7 @@
 use Rattle.std.proofs.Common.{ℕ, List}
 use Rattle.scheme_model.specs.Requirements.{Known}
-use Rattle.scheme_model.specs.Program.{Placed, Prepared}
+use Rattle.scheme_model.specs.IncludedUnits.{Placed}
+use Rattle.scheme_model.specs.Program.{Prepared}
 use Rattle.scheme_model.proofs.FramePrograms.{counts_law}
 use Rattle.scheme_model.proofs.laws.locals_are_counted.Goals as goal
 

@@ -2,7 +2,9 @@ use Rattle.std.proofs.Common.{ℕ, List}
 use Rattle.scheme_model.specs.Ident.{Ident}
 use Rattle.scheme_model.specs.ScopedExpansion.{Frames}
 use Rattle.scheme_model.specs.Requirements.{Known}
-use Rattle.scheme_model.specs.Program.{Document, Placed, Prepared}
+use Rattle.scheme_model.specs.Includes.{Document}
+use Rattle.scheme_model.specs.IncludedUnits.{Placed}
+use Rattle.scheme_model.specs.Program.{Prepared}
 use Rattle.scheme_model.proofs.FramePrograms.{program_law, progress_law, means_law}
 use Rattle.scheme_model.proofs.laws.programs_are_substituted.Goals as goal
 
