@@ -6,20 +6,21 @@ use Rattle.std.proofs.lemmas.Bool.{eqb-true}
 use Rattle.std.proofs.lemmas.Bool.Decides.{nat_tests}
 use Rattle.std.proofs.lemmas.Option.{same_Some}
 use Rattle.std.proofs.lemmas.List.{length-map}
-use Rattle.scheme_model.specs.Data.{Datum, Data, none, part, tail, place_of}
+use Rattle.scheme_model.specs.Data.{Datum, Data, none, part, tail, Place, place_of}
 use Rattle.scheme_model.specs.Requirements.{LibraryName, Known}
 use Rattle.scheme_model.specs.Order.{is_some}
 use Rattle.scheme_model.specs.Substitution.{Table}
 use Rattle.scheme_model.specs.StandardLibraries.{standard}
 use Rattle.scheme_model.specs.UnitExpansion.{Formed}
 use Rattle.scheme_model.specs.Entries.{Entry}
-use Rattle.scheme_model.specs.Declarations.{UnitForm, UnitKind, IsLibrary, IsProgram, behind_head, library_with, is_library, program_forms}
-use Rattle.scheme_model.specs.Includes.{Document, data_of, max_units}
-use Rattle.scheme_model.specs.IncludedUnits.{UnitSource, library_of, libraries_in, program_in, units_in, Placed, units_from}
+use Rattle.scheme_model.specs.Declarations.{UnitForm, UnitKind, IsLibrary, IsProgram, IsPart, behind_head, library_name_in, library_name, is_library}
+use Rattle.scheme_model.specs.Includes.{Document, data_of, Naming, naming, is_on_circle, is_part, program_data, max_units}
+use Rattle.scheme_model.specs.Included.{Homed, Listing, Lists, BadAfter, TooLong, Texts, forms_of, declarations, all_texts}
+use Rattle.scheme_model.specs.IncludedUnits.{EarlyFault, OnCircle, BadAt, UnitSource, Placed, source_by, unless_circular, own, if_named, library_listing, library_of, libraries_in, importing, part_of, program_in, units_in, units_from, max_tokens, sources_within}
 use Rattle.scheme_model.specs.Program.{units_of, known_in, Prepared, prepared, prepare, name_if, unit_named, is_repeated, on_circle, WholeFault, TooMany, DefinedTwice, ImportCycle, declared_fault, fault_before, SetResult, UnitResult, result_at, unit_result, is_ready, first_ready}
 use Rattle.scheme_model.specs.ScopedProgram.{ScopedProgress, scoped_by_fault, scoped_worked, scoped_work, scoped_before}
 use Rattle.carried_forms.specs.Paired.{UnitText, is_same_unit, IsAlone, AreTold, AreWithin}
-use Rattle.carried_forms.specs.Worked.{OpenDocument, IsElsewhere, AreOpenOnce, read_documents, uri_at, is_broken, unit_text, unit_texts}
+use Rattle.carried_forms.specs.Worked.{OpenDocument, IsElsewhere, AreOpenOnce, read_documents, uri_at, is_of_library, is_broken, unit_text, unit_texts}
 use Rattle.carried_forms.specs.Carried.{IsIn}
 use Rattle.carried_forms.proofs.UnitLaws.{SameKey, key_told}
 
@@ -109,9 +110,9 @@ unless_many : (b : Bool) (x : Option WholeFault) → cond b (Some TooMany) x ≡
 unless_many true x e = no (sym (ap is_some e))
 unless_many false x e = (refl, e)
 
-unless_bad : (u : ℕ) (r : Result (List UnitForm) Datum) (x : Option WholeFault) → declared_fault u r x ≡ None → ((d : Datum) → r ≡ Err d → ⊥) × (x ≡ None)
-unless_bad u (Ok fs) x e = (λ d k. absurd cc, e)
-unless_bad u (Err d) x e = no (sym (ap is_some e))
+unless_bad : (u : ℕ) (r : Result (List UnitForm) EarlyFault) (x : Option WholeFault) → declared_fault u r x ≡ None → ((f : EarlyFault) → r ≡ Err f → ⊥) × (x ≡ None)
+unless_bad u (Ok fs) x e = (λ f k. absurd cc, e)
+unless_bad u (Err f) x e = no (sym (ap is_some e))
 
 unless_twice : (b : Bool) (x : Option WholeFault) → cond b (Some DefinedTwice) x ≡ None → b ≡ false
 unless_twice true x e = no (sym (ap is_some e))
@@ -119,7 +120,7 @@ unless_twice false x e = refl
 
 record Clean (all : List Placed) (p : Prepared) : Type 0 where
   few : nat_le max_units p.number ≡ false
-  declared : (d : Datum) → p.placed.source.forms ≡ Err d → ⊥
+  declared : (f : EarlyFault) → p.placed.source.forms ≡ Err f → ⊥
   once : is_repeated all p ≡ false
 
 clean_of : (all : List Placed) (ps : List Prepared) (p : Prepared) → fault_before all ps p ≡ None → Clean all p
@@ -146,10 +147,10 @@ first_of_name all p m e h = go (is_some (standard m)) refl (unit_named m 0 all) 
 below_most : (n : ℕ) → nat_le max_units n ≡ false → nat_lt n max_units ≡ true
 below_most n e = grind (arith, nat_tests)
 
-named_if : (p : Prepared) (m : LibraryName) → nat_le max_units p.number ≡ false → ((d : Datum) → p.placed.source.forms ≡ Err d → ⊥) → p.placed.source.name ≡ Some m → name_if p.number p.placed.source ≡ Some m
+named_if : (p : Prepared) (m : LibraryName) → nat_le max_units p.number ≡ false → ((f : EarlyFault) → p.placed.source.forms ≡ Err f → ⊥) → p.placed.source.name ≡ Some m → name_if p.number p.placed.source ≡ Some m
 named_if p m few declared e = go p.placed.source.forms refl
   where
-    go : (r : Result (List UnitForm) Datum) → p.placed.source.forms ≡ r → name_if p.number p.placed.source ≡ Some m
+    go : (r : Result (List UnitForm) EarlyFault) → p.placed.source.forms ≡ r → name_if p.number p.placed.source ≡ Some m
     go (Ok fs) f = let l = below_most p.number few in rw (l, f, e) refl
     go (Err d) f = absurd (declared d f)
 
@@ -171,45 +172,38 @@ each_mapped : {X Y : Type 0} (P : Y → Type 0) (f : X → Y) (xs : List X) → 
 each_mapped P f [] h = tt
 each_mapped P f (x ∷ xs) h = (h.0, each_mapped P f xs h.1)
 
--- a library without a name has a bad declaration
+-- a library without a name has no forms
 abbrev IsNamed : UnitSource → Type 0
-IsNamed u = u.kind ≡ IsLibrary → u.name ≡ None → (d : Datum) × (u.forms ≡ Err d)
+IsNamed u = u.kind ≡ IsLibrary → u.name ≡ None → (f : EarlyFault) × (u.forms ≡ Err f)
+
+abbrev IsOfLibrary : UnitSource → Type 0
+IsOfLibrary u = is_of_library u.kind ≡ true
 
 -- programs of two documents, or not both programs
 abbrev Differ : Placed → Placed → Type 0
-Differ u v = u.source.kind ≡ IsProgram → v.source.kind ≡ IsProgram → u.document ≡ v.document → ⊥
+Differ u v = is_of_library u.source.kind ≡ false → is_of_library v.source.kind ≡ false → u.document ≡ v.document → ⊥
 
 abbrev AllDiffer : List Placed → Type 0
 AllDiffer [] = Unit {0}
 AllDiffer (u ∷ us) = EachOf (Differ u) us × AllDiffer us
 
-no_program : IsLibrary ≡ IsProgram → ⊥
-no_program e = absurd cc
+source_kind : (k : UnitKind) (m : Option LibraryName) (at : Place) (l : Listing) → (source_by k m at l).kind ≡ k
+source_kind k m at (Lists n fs ls) = refl
+source_kind k m at (BadAfter n h) = refl
+source_kind k m at TooLong = refl
 
-library_named : (known : Known) (d : Datum) → IsNamed (library_of known d) × ((library_of known d).kind ≡ IsLibrary)
-library_named known d = go (behind_head d)
-  where
-    go : (ds : Data) → IsNamed (library_with known d ds) × ((library_with known d ds).kind ≡ IsLibrary)
-    go none = (λ k e. (d, refl), refl)
-    go (tail e) = (λ k f. (d, refl), refl)
-    go (part n ds) = (λ k e. (d, rw e refl), refl)
+source_name : (k : UnitKind) (m : Option LibraryName) (at : Place) (l : Listing) → (source_by k m at l).name ≡ m
+source_name k m at (Lists n fs ls) = refl
+source_name k m at (BadAfter n h) = refl
+source_name k m at TooLong = refl
 
-libraries_named : (known : Known) (ds : List Datum) → EachOf (λ (u : UnitSource). IsNamed u × (u.kind ≡ IsLibrary)) (libraries_in known ds)
-libraries_named known [] = tt
-libraries_named known (d ∷ ds) = go (is_library d) (libraries_named known ds)
-  where
-    go : (t : Bool) → EachOf (λ (u : UnitSource). IsNamed u × (u.kind ≡ IsLibrary)) (libraries_in known ds) → EachOf (λ (u : UnitSource). IsNamed u × (u.kind ≡ IsLibrary)) (cond t (library_of known d ∷ libraries_in known ds) (libraries_in known ds))
-    go true h = (library_named known d, h)
-    go false h = h
+circular_kind : (c : Bool) (u : UnitSource) → (unless_circular c u).kind ≡ u.kind
+circular_kind true u = refl
+circular_kind false u = refl
 
-program_named : (ds : List Datum) → EachOf IsNamed (program_in ds)
-program_named [] = tt
-program_named (d ∷ ds) = (λ k e. absurd cc, tt)
-
-units_named : (known : Known) (ds : List Datum) → EachOf IsNamed (units_in known ds)
-units_named known ds =
-    let rest = filter (λ d. not (is_library d)) ds in
-    each_joined IsNamed (libraries_in known ds) (program_in rest) (each_on (λ (u : UnitSource). IsNamed u × (u.kind ≡ IsLibrary)) IsNamed (λ u h. h.0) (libraries_in known ds) (libraries_named known ds)) (program_named rest)
+circular_named : (c : Bool) (u : UnitSource) → IsNamed u → IsNamed (unless_circular c u)
+circular_named true u h = λ k e. (OnCircle, refl)
+circular_named false u h = h
 
 abbrev placed_at : ℕ → UnitSource → Placed
 placed_at n u = record { document = n; source = u }
@@ -218,45 +212,91 @@ every : {X : Type 0} (P : X → Type 0) → ((x : X) → P x) → (xs : List X) 
 every P f [] = tt
 every P f (x ∷ xs) = (f x, every P f xs)
 
--- a document's libraries differ from all
-libraries_differ : (n : ℕ) (us ws : List UnitSource) (vs : List Placed) → EachOf (λ (u : UnitSource). IsNamed u × (u.kind ≡ IsLibrary)) us → AllDiffer (map (placed_at n) ws ++ vs) → AllDiffer (map (placed_at n) (us ++ ws) ++ vs)
-libraries_differ n [] ws vs h k = k
-libraries_differ n (u ∷ us) ws vs h k =
-    (every (Differ (placed_at n u)) (λ w i j e. no_program (sym h.0.1 ∙ i)) (map (placed_at n) (us ++ ws) ++ vs), libraries_differ n us ws vs h.1 k)
+module _ (t : Texts) (known : Known) where
+  library_named : (document : ℕ) (d : Datum) → IsNamed (library_of t known document d)
+  library_named document d = go (behind_head d)
+    where
+      go : (ds : Data) → IsNamed (source_by IsLibrary (library_name_in ds) (place_of d) (library_listing t known (own document d) ds))
+      go none = λ k e. (BadAt (own document d), refl)
+      go (tail x) = λ k e. (BadAt (own document d), refl)
+      go (part n ds) = λ k e.
+          let l = declarations t known (own document d) d ds in
+          let m = library_name_in (part n ds) in
+          let nameless = sym (source_name IsLibrary m (place_of d) (if_named (own document d) m l)) ∙ e in
+          (BadAt (own document d), ap (λ (o : Option LibraryName). (source_by IsLibrary m (place_of d) (if_named (own document d) o l)).forms) nameless)
 
--- its program differs from the units of later documents
-program_differs : (n : ℕ) (ds : List Datum) (vs : List Placed) → AllDiffer vs → EachOf (λ (v : Placed). suc n ≤ v.document) vs → AllDiffer (map (placed_at n) (program_in ds) ++ vs)
-program_differs n [] vs k l = k
-program_differs n (d ∷ ds) vs k l =
-    (each_on (λ (v : Placed). suc n ≤ v.document) (Differ (placed_at n (record { kind = IsProgram; name = None; start = place_of d; forms = Ok (program_forms (d ∷ ds)) }))) (λ v m i j e. omega (arith, m, e)) vs l, k)
+  libraries_named : (document : ℕ) (ds : List Datum) → EachOf (λ (u : UnitSource). IsNamed u × IsOfLibrary u) (libraries_in t known document ds)
+  libraries_named document [] = tt
+  libraries_named document (d ∷ ds) = go (is_library d) (libraries_named document ds)
+    where
+      go : (b : Bool) → EachOf (λ (u : UnitSource). IsNamed u × IsOfLibrary u) (libraries_in t known document ds)
+          → EachOf (λ (u : UnitSource). IsNamed u × IsOfLibrary u) (cond b (library_of t known document d ∷ libraries_in t known document ds) (libraries_in t known document ds))
+      go true h = ((library_named document d, ap is_of_library (source_kind IsLibrary (library_name d) (place_of d) (library_listing t known (own document d) (behind_head d)))), h)
+      go false h = h
 
-module _ (known : Known) where
-  later_documents : (n : ℕ) (ds : List Document) → EachOf (λ (v : Placed). n ≤ v.document) (units_from known n ds)
-  later_documents n [] = tt
-  later_documents n (d ∷ ds) =
-      each_joined (λ (v : Placed). n ≤ v.document) (map (placed_at n) (units_in known (data_of d))) (units_from known (suc n) ds)
-      (each_mapped (λ (v : Placed). n ≤ v.document) (placed_at n) (units_in known (data_of d)) (every (λ u. n ≤ n) (λ u. omega arith) (units_in known (data_of d))))
-      (each_on (λ (v : Placed). suc n ≤ v.document) (λ (v : Placed). n ≤ v.document) (λ v l. omega (arith, l)) (units_from known (suc n) ds) (later_documents (suc n) ds))
+  program_named : (document : ℕ) (b : Bool) (ds : List Datum) → EachOf IsNamed (program_in t document b ds)
+  program_named document b [] = tt
+  program_named document true (d ∷ ds) = (λ k e. absurd cc, tt)
+  program_named document false (d ∷ ds) =
+      (λ k e. let differ = sym (source_kind IsProgram None (place_of d) (importing (forms_of t (map (own document) (d ∷ ds))))) ∙ k in absurd cc, tt)
 
-  documents_below : (n m : ℕ) (ds : List Document) → n + length ds ≤ m → EachOf (λ (v : Placed). v.document < m) (units_from known n ds)
-  documents_below n m [] l = tt
-  documents_below n m (d ∷ ds) l =
-      each_joined (λ (v : Placed). v.document < m) (map (placed_at n) (units_in known (data_of d))) (units_from known (suc n) ds)
-      (each_mapped (λ (v : Placed). v.document < m) (placed_at n) (units_in known (data_of d)) (every (λ u. n < m) (λ u. omega (arith, l)) (units_in known (data_of d))))
-      (documents_below (suc n) m ds (omega (arith, l)))
+  units_named : (all : Naming) (document : ℕ) (ds : List Datum) → EachOf IsNamed (units_in t known all document ds)
+  units_named all document ds =
+      let c = is_on_circle all document in
+      let us = libraries_in t known document ds in
+      let ps = program_in t document (is_part all document) (program_data ds) in
+      each_mapped IsNamed (unless_circular c) (us ++ ps)
+      (each_on IsNamed (λ u. IsNamed (unless_circular c u)) (λ u h. circular_named c u h) (us ++ ps)
+      (each_joined IsNamed us ps (each_on (λ (u : UnitSource). IsNamed u × IsOfLibrary u) IsNamed (λ u h. h.0) us (libraries_named document ds)) (program_named document (is_part all document) (program_data ds))))
 
-  all_named : (n : ℕ) (ds : List Document) → EachOf (λ (v : Placed). IsNamed v.source) (units_from known n ds)
-  all_named n [] = tt
-  all_named n (d ∷ ds) =
-      each_joined (λ (v : Placed). IsNamed v.source) (map (placed_at n) (units_in known (data_of d))) (units_from known (suc n) ds)
-      (each_mapped (λ (v : Placed). IsNamed v.source) (placed_at n) (units_in known (data_of d)) (units_named known (data_of d))) (all_named (suc n) ds)
+  -- a document's libraries differ from all
+  libraries_differ : (c : Bool) (n : ℕ) (us ws : List UnitSource) (vs : List Placed) → EachOf (λ (u : UnitSource). IsNamed u × IsOfLibrary u) us
+      → AllDiffer (map (placed_at n) (map (unless_circular c) ws) ++ vs) → AllDiffer (map (placed_at n) (map (unless_circular c) (us ++ ws)) ++ vs)
+  libraries_differ c n [] ws vs h k = k
+  libraries_differ c n (u ∷ us) ws vs h k =
+      let library = ap is_of_library (circular_kind c u) ∙ h.0.1 in
+      (every (Differ (placed_at n (unless_circular c u))) (λ w i j e. no (sym i ∙ library)) (map (placed_at n) (map (unless_circular c) (us ++ ws)) ++ vs), libraries_differ c n us ws vs h.1 k)
 
-  all_differ : (n : ℕ) (ds : List Document) → AllDiffer (units_from known n ds)
-  all_differ n [] = tt
-  all_differ n (d ∷ ds) =
-      let rest = filter (λ e. not (is_library e)) (data_of d) in
-      libraries_differ n (libraries_in known (data_of d)) (program_in rest) (units_from known (suc n) ds) (libraries_named known (data_of d))
-      (program_differs n rest (units_from known (suc n) ds) (all_differ (suc n) ds) (later_documents (suc n) ds))
+  abbrev program_of : (b : Bool) (document : ℕ) → Datum → List Datum → UnitSource
+  program_of b document d ds = if b then part_of (place_of d) (d ∷ ds) else source_by IsProgram None (place_of d) (importing (forms_of t (map (own document) (d ∷ ds))))
+
+  -- its program differs from the units of later documents
+  program_differs : (c b : Bool) (n : ℕ) (ds : List Datum) (vs : List Placed) → AllDiffer vs → EachOf (λ (v : Placed). suc n ≤ v.document) vs
+      → AllDiffer (map (placed_at n) (map (unless_circular c) (program_in t n b ds)) ++ vs)
+  program_differs c b n [] vs k l = k
+  program_differs c b n (d ∷ ds) vs k l = (each_on (λ (v : Placed). suc n ≤ v.document) (Differ (placed_at n (unless_circular c (program_of b n d ds)))) (λ v m i j e. omega (arith, m, e)) vs l, k)
+
+  module _ (all : Naming) where
+    later_documents : (n : ℕ) (ds : List Document) → EachOf (λ (v : Placed). n ≤ v.document) (units_from t known all n ds)
+    later_documents n [] = tt
+    later_documents n (d ∷ ds) =
+        let us = units_in t known all n (data_of d) in
+        each_joined (λ (v : Placed). n ≤ v.document) (map (placed_at n) us) (units_from t known all (suc n) ds)
+        (each_mapped (λ (v : Placed). n ≤ v.document) (placed_at n) us (every (λ u. n ≤ n) (λ u. omega arith) us))
+        (each_on (λ (v : Placed). suc n ≤ v.document) (λ (v : Placed). n ≤ v.document) (λ v l. omega (arith, l)) (units_from t known all (suc n) ds) (later_documents (suc n) ds))
+
+    documents_below : (n m : ℕ) (ds : List Document) → n + length ds ≤ m → EachOf (λ (v : Placed). v.document < m) (units_from t known all n ds)
+    documents_below n m [] l = tt
+    documents_below n m (d ∷ ds) l =
+        let us = units_in t known all n (data_of d) in
+        each_joined (λ (v : Placed). v.document < m) (map (placed_at n) us) (units_from t known all (suc n) ds)
+        (each_mapped (λ (v : Placed). v.document < m) (placed_at n) us (every (λ u. n < m) (λ u. omega (arith, l)) us))
+        (documents_below (suc n) m ds (omega (arith, l)))
+
+    all_named : (n : ℕ) (ds : List Document) → EachOf (λ (v : Placed). IsNamed v.source) (units_from t known all n ds)
+    all_named n [] = tt
+    all_named n (d ∷ ds) =
+        let us = units_in t known all n (data_of d) in
+        each_joined (λ (v : Placed). IsNamed v.source) (map (placed_at n) us) (units_from t known all (suc n) ds)
+        (each_mapped (λ (v : Placed). IsNamed v.source) (placed_at n) us (units_named all n (data_of d))) (all_named (suc n) ds)
+
+    all_differ : (n : ℕ) (ds : List Document) → AllDiffer (units_from t known all n ds)
+    all_differ n [] = tt
+    all_differ n (d ∷ ds) =
+        let rest = units_from t known all (suc n) ds in
+        let c = is_on_circle all n in
+        libraries_differ c n (libraries_in t known n (data_of d)) (program_in t n (is_part all n) (program_data (data_of d))) rest (libraries_named n (data_of d))
+        (program_differs c (is_part all n) n (program_data (data_of d)) rest (all_differ (suc n) ds) (later_documents (suc n) ds))
 
 -- ---- documents by their uris
 
@@ -326,9 +366,13 @@ module _ (ds : List OpenDocument) (once : AreOpenOnce ds) where
           let same = same_Some p.number q.number (sym first ∙ second) in
           omega (arith, same, l)
 
+      programs : is_of_library p.placed.source.kind ≡ false → ⊥
+      programs e = differ e (sym k.kind ∙ e) (by_uri ds once p.placed.document q.placed.document np.1 nq.1 k.uri)
+
       go : (t : UnitKind) → p.placed.source.kind ≡ t → ⊥
       go IsLibrary e = named e p.placed.source.name refl
-      go IsProgram e = differ e (sym k.kind ∙ e) (by_uri ds once p.placed.document q.placed.document np.1 nq.1 k.uri)
+      go IsProgram e = programs (ap is_of_library e)
+      go IsPart e = programs (ap is_of_library e)
 
   apart_by : (p q : Prepared) → (SameKey (text p) (text q) → ⊥) → is_same_unit (text p) (text q) ≡ false
   apart_by p q f = go (is_same_unit (text p) (text q)) refl
@@ -361,6 +405,8 @@ module _ (ds : List OpenDocument) (once : AreOpenOnce ds) where
 
   pub programs_told : AreTold (unit_texts ds)
   programs_told =
+      let texts = all_texts (sources_within max_tokens (naming docs) (known_in docs) docs) in
       told_from 0 all (λ p h. h)
-      (both_known all (all_named (known_in docs) 0 docs) (documents_below (known_in docs) 0 (length ds) docs (let l = length-map ds (λ (d : OpenDocument). d.data_in) in omega (arith, l))))
-      (all_differ (known_in docs) 0 docs)
+      (both_known all (all_named texts (known_in docs) (naming docs) 0 docs)
+      (documents_below texts (known_in docs) (naming docs) 0 (length ds) docs (let l = length-map ds (λ (d : OpenDocument). d.data_in) in omega (arith, l))))
+      (all_differ texts (known_in docs) (naming docs) 0 docs)

@@ -2,7 +2,7 @@
 use Rattle.std.specs.Prelude.{ℕ, List, [], ◌∷◌, map, filter, Bool, true, false, ◌&&◌, Option, Some, None, if◌then◌else◌}
 use Rattle.std.specs.List.{flat_map}
 use Rattle.scheme_model.specs.Meaning.{same_meaning}
-use Rattle.scheme_model.specs.Includes.{Document}
+use Rattle.scheme_model.specs.Data.{Datum}
 use Rattle.scheme_model.specs.Program.{enough_turns}
 use Rattle.scheme_model.specs.Questions.{Around, Moment, Question, LooksUp, UsesRules, Compares, IsAssigned, Requires, Defines, Answer, Means, answer}
 use Rattle.scheme_model.specs.FormsAlike.{questions_of_pass, questions_of_left}
@@ -11,14 +11,18 @@ use Rattle.carried_forms.specs.Paired.{UnitPair, unit_pairs, renumbering}
 use Rattle.carried_forms.specs.Worked.{WorkedForm, WorkedUnit, OpenDocument, read_documents, units_at_work, unit_texts}
 use Rattle.carried_forms.specs.Carried.{have_same_answers, worked_at, carried, work_beside}
 
-abbrev opened : List (List ℕ × Document) → List OpenDocument
-opened ds = map (λ d. record { uri = d.0; data_in = d.1 }) ds
+-- uris with texts, in which no string means another
+abbrev Texts : Type 0
+Texts = List (List ℕ × Option (List Datum))
+
+abbrev opened : Texts → List OpenDocument
+opened ds = map (λ d. record { uri = d.0; data_in = record { read = d.1; meant = λ s. None } }) ds
 
 abbrev counted_beside : List (ℕ × ℕ) → List OpenDocument → List (ℕ × ℕ) × ℕ
 counted_beside cs ds = (cs, work_beside cs (units_at_work (read_documents ds)))
 
 -- the carried forms and the work
-abbrev pub carried_rows : (before after : List (List ℕ × Document)) → List (ℕ × ℕ) × ℕ
+abbrev pub carried_rows : (before after : Texts) → List (ℕ × ℕ) × ℕ
 carried_rows before after = counted_beside (carried (opened before) (opened after)) (opened after)
 
 -- ---- without questions of a kind
@@ -73,5 +77,5 @@ kept_but k before after =
     flat_map (kept_in k (renumbering ps) (units_at_work (read_documents before)) (units_at_work (read_documents after))) ps
 
 -- the forms that would be carried
-abbrev pub without_rows : Kind → (before after : List (List ℕ × Document)) → List (ℕ × ℕ)
+abbrev pub without_rows : Kind → (before after : Texts) → List (ℕ × ℕ)
 without_rows k before after = kept_but k (opened before) (opened after)

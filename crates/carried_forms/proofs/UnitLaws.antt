@@ -5,10 +5,10 @@ use Rattle.std.specs.Str.{bytes_eq}
 use Rattle.std.proofs.lemmas.Bool.{eqb-true}
 use Rattle.std.proofs.lemmas.Slice.Eq.{bytes_eq-Decides}
 use Rattle.scheme_model.specs.Requirements.{LibraryName, LibraryPart, Symbol, Digits, same_part, same_library}
-use Rattle.scheme_model.specs.Declarations.{UnitKind, IsLibrary, IsProgram}
+use Rattle.scheme_model.specs.Matching.{same_truth}
 use Rattle.scheme_model.specs.Program.{prelude_unit}
 use Rattle.carried_forms.specs.Alike.{same_option}
-use Rattle.carried_forms.specs.Paired.{UnitText, UnitPair, same_kind, is_same_unit, IsAlone, AreTold, AreWithin, with_forms, form_pairs, pair_of, pairs_from, unit_pairs, prelude_pair, unit_after, renumbering}
+use Rattle.carried_forms.specs.Paired.{UnitText, UnitPair, is_same_unit, IsAlone, AreTold, AreWithin, with_forms, form_pairs, pair_of, pairs_from, unit_pairs, prelude_pair, unit_after, renumbering}
 
 -- ---- what tells a unit
 
@@ -53,15 +53,15 @@ name_itself : (n : Option LibraryName) → same_option same_library n n ≡ true
 name_itself None = refl
 name_itself (Some n) = library_itself n
 
-kind_told : (k l : UnitKind) → same_kind k l ≡ true → k ≡ l
-kind_told IsLibrary IsLibrary h = refl
-kind_told IsLibrary IsProgram h = absurd cc
-kind_told IsProgram IsLibrary h = absurd cc
-kind_told IsProgram IsProgram h = refl
+truth_told : (a b : Bool) → same_truth a b ≡ true → a ≡ b
+truth_told true true h = refl
+truth_told true false h = absurd cc
+truth_told false true h = absurd cc
+truth_told false false h = refl
 
-kind_itself : (k : UnitKind) → same_kind k k ≡ true
-kind_itself IsLibrary = refl
-kind_itself IsProgram = refl
+truth_itself : (a : Bool) → same_truth a a ≡ true
+truth_itself true = refl
+truth_itself false = refl
 
 not_true : (b : Bool) → not b ≡ true → b ≡ false
 not_true true h = absurd cc
@@ -71,21 +71,21 @@ pub record SameKey (u v : UnitText) : Type 0 where
   pub here : u.broken ≡ false
   pub there : v.broken ≡ false
   pub uri : u.uri ≡ v.uri
-  pub kind : u.kind ≡ v.kind
+  pub kind : u.is_library ≡ v.is_library
   pub name : u.name ≡ v.name
 
 pub key_told : (u v : UnitText) → is_same_unit u v ≡ true → SameKey u v
 key_told u v h =
-    let a = both (not u.broken) (not v.broken && (bytes_eq u.uri v.uri && (same_kind u.kind v.kind && same_option same_library u.name v.name))) h in
-    let b = both (not v.broken) (bytes_eq u.uri v.uri && (same_kind u.kind v.kind && same_option same_library u.name v.name)) a.1 in
-    let c = both (bytes_eq u.uri v.uri) (same_kind u.kind v.kind && same_option same_library u.name v.name) b.1 in
-    let d = both (same_kind u.kind v.kind) (same_option same_library u.name v.name) c.1 in
-    record { here = not_true u.broken a.0; there = not_true v.broken b.0; uri = bytes_told u.uri v.uri c.0; kind = kind_told u.kind v.kind d.0; name = name_told u.name v.name d.1 }
+    let a = both (not u.broken) (not v.broken && (bytes_eq u.uri v.uri && (same_truth u.is_library v.is_library && same_option same_library u.name v.name))) h in
+    let b = both (not v.broken) (bytes_eq u.uri v.uri && (same_truth u.is_library v.is_library && same_option same_library u.name v.name)) a.1 in
+    let c = both (bytes_eq u.uri v.uri) (same_truth u.is_library v.is_library && same_option same_library u.name v.name) b.1 in
+    let d = both (same_truth u.is_library v.is_library) (same_option same_library u.name v.name) c.1 in
+    record { here = not_true u.broken a.0; there = not_true v.broken b.0; uri = bytes_told u.uri v.uri c.0; kind = truth_told u.is_library v.is_library d.0; name = name_told u.name v.name d.1 }
 
 pub by_key : (u v : UnitText) → SameKey u v → is_same_unit u v ≡ true
 by_key u v k =
-    (λ j. not (k.here j) && (not (k.there j) && (bytes_eq u.uri (sym k.uri j) && (same_kind u.kind (sym k.kind j) && same_option same_library u.name (sym k.name j)))))
-    ∙ (λ j. bytes_itself u.uri j && (kind_itself u.kind j && name_itself u.name j))
+    (λ j. not (k.here j) && (not (k.there j) && (bytes_eq u.uri (sym k.uri j) && (same_truth u.is_library (sym k.kind j) && same_option same_library u.name (sym k.name j)))))
+    ∙ (λ j. bytes_itself u.uri j && (truth_itself u.is_library j && name_itself u.name j))
 
 -- units that are the same as one are the same
 same_as_one : (u v w : UnitText) → is_same_unit u w ≡ true → is_same_unit v w ≡ true → is_same_unit u v ≡ true

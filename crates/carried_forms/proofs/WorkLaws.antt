@@ -7,7 +7,7 @@ use Rattle.scheme_model.specs.Order.{Note}
 use Rattle.scheme_model.specs.Substitution.{Clock}
 use Rattle.scheme_model.specs.ScopedExpansion.{FramedIdent, ScopedState}
 use Rattle.scheme_model.specs.IncludedUnits.{Placed}
-use Rattle.scheme_model.specs.Program.{Prepared, WholeFault, units_of, prepare, known_in, fault_before, is_ready, first_ready, enough_turns}
+use Rattle.scheme_model.specs.Program.{Prepared, WholeFault, units_of, prepare, known_in, fault_before, is_ready, first_ready, enough_turns, forms_at_work}
 use Rattle.scheme_model.specs.ScopedProgram.{ScopedProgress, forms_over, scoped_unit_over, scoped_start_after, scoped_worked, scoped_before}
 use Rattle.scheme_model.specs.FormsAlike.{set_aside, finish}
 use Rattle.macro_uses.specs.MacroUses.{total_of, program_uses}
@@ -58,7 +58,7 @@ joined_work cs (u ∷ us) vs = let rest = joined_work cs us vs in omega (arith, 
 
 module _ (all : List Placed) (ps : List Prepared) (known : Known) where
   abbrev form_trees_of : Prepared → List (ℕ × Tree Ident)
-  form_trees_of p = forms_over (Written p.number) p.number 0 p.forms
+  form_trees_of p = forms_over (Written p.number) p.number 0 (forms_at_work p)
 
   unit_work : (cs : List (ℕ × ℕ)) (p : Prepared) (s : ScopedState) → work_beside cs (worked_unit known p s ∷ []) ≤ scoped_unit_uses known p s
   unit_work cs p s =

@@ -4,7 +4,7 @@ use Rattle.std.specs.List.{list_any}
 use Rattle.std.specs.Str.{bytes_eq}
 use Rattle.scheme_model.specs.Trees.{Tree}
 use Rattle.scheme_model.specs.Requirements.{LibraryName, same_library}
-use Rattle.scheme_model.specs.Declarations.{UnitKind, IsLibrary, IsProgram}
+use Rattle.scheme_model.specs.Matching.{same_truth}
 use Rattle.scheme_model.specs.Program.{prelude_unit}
 use Rattle.carried_forms.specs.Renumbering.{Renumbering}
 use Rattle.carried_forms.specs.Alike.{same_option, same_list, same_tree}
@@ -22,10 +22,10 @@ pub record FormText : Type 0 where
   pub included : Bool
   pub tree : Tree (List ℕ)
 
--- a unit, and whether it is broken as a whole
+-- a unit, whether it is a library, and whether it is broken as a whole
 pub record UnitText : Type 0 where
   pub uri : List ℕ
-  pub kind : UnitKind
+  pub is_library : Bool
   pub name : Option LibraryName
   pub broken : Bool
   pub forms : List FormText
@@ -77,15 +77,9 @@ pub record UnitPair : Type 0 where
   pub size : ℕ
   pub forms : List (ℕ × ℕ)
 
-abbrev pub same_kind : UnitKind → UnitKind → Bool
-same_kind IsLibrary IsLibrary = true
-same_kind IsLibrary IsProgram = false
-same_kind IsProgram IsLibrary = false
-same_kind IsProgram IsProgram = true
-
 -- of one document, kind and name, and neither is broken as a whole
 abbrev pub is_same_unit : UnitText → UnitText → Bool
-is_same_unit u v = not u.broken && (not v.broken && (bytes_eq u.uri v.uri && (same_kind u.kind v.kind && same_option same_library u.name v.name)))
+is_same_unit u v = not u.broken && (not v.broken && (bytes_eq u.uri v.uri && (same_truth u.is_library v.is_library && same_option same_library u.name v.name)))
 
 -- no two units that aren't broken are of one document, kind and name
 abbrev pub IsAlone : UnitText → List UnitText → Type 0

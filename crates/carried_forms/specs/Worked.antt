@@ -1,7 +1,7 @@
 -- The units of a program that are worked on, each form with what is around it at its two turns, and what it counted.
 use Rattle.std.specs.Prelude.{◌≡◌, ℕ, zero, suc, List, [], ◌∷◌, ◌++◌, map, length, Bool, true, false, Option, Some, None, Result}
+use Rattle.scheme_model.specs.declared.Home.{Home}
 use Rattle.scheme_model.specs.Ident.{Ident, Written}
-use Rattle.scheme_model.specs.Data.{place_of}
 use Rattle.scheme_model.specs.DataTrees.{tree_of}
 use Rattle.scheme_model.specs.Trees.{Tree, placed_in}
 use Rattle.scheme_model.specs.Requirements.{Known}
@@ -9,10 +9,11 @@ use Rattle.scheme_model.specs.Order.{Note, Left, is_some}
 use Rattle.scheme_model.specs.Steps.{Broken}
 use Rattle.scheme_model.specs.Substitution.{Clock}
 use Rattle.scheme_model.specs.ScopedExpansion.{FramedIdent, ScopedState}
-use Rattle.scheme_model.specs.Declarations.{UnitForm}
+use Rattle.scheme_model.specs.Declarations.{UnitForm, home_of, UnitKind, IsLibrary, IsProgram, IsPart}
 use Rattle.scheme_model.specs.Includes.{Document}
 use Rattle.scheme_model.specs.IncludedUnits.{Placed}
-use Rattle.scheme_model.specs.Program.{Prepared, UnitResult, WholeFault, known_in, units_of, prepare, fault_before, is_ready, first_ready, result_at, enough_turns}
+use Rattle.scheme_model.specs.Program.{Prepared, UnitResult, WholeFault, known_in, units_of, prepare, fault_before, is_ready, first_ready, result_at, enough_turns, forms_at_work}
+use Rattle.scheme_model.specs.Diagnostics.{document_of}
 use Rattle.scheme_model.specs.ScopedProgram.{ScopedProgress, forms_over, scoped_unit_over, scoped_start_after, scoped_worked, scoped_work, scoped_before}
 use Rattle.scheme_model.specs.Questions.{Around}
 use Rattle.scheme_model.specs.FormsAlike.{set_aside, finish}
@@ -67,7 +68,7 @@ pub record WorkedUnit : Type 0 where
 abbrev pub worked_unit : Known → Prepared → ScopedState → WorkedUnit
 worked_unit known p s = record {
   number = p.number;
-  forms = worked_forms known (forms_over (Written p.number) p.number 0 p.forms) s;
+  forms = worked_forms known (forms_over (Written p.number) p.number 0 (forms_at_work p)) s;
   uses = (scoped_unit_over known p s).1.uses;
 }
 
@@ -88,7 +89,7 @@ worked_units all ps known (suc n) g =
 
 -- ---- programs
 
--- a document by its uri, with its data where it reads
+-- a document by its uri, with its data where it reads, and what its strings mean
 pub record OpenDocument : Type 0 where
   pub uri : List ℕ
   pub data_in : Document
@@ -115,13 +116,22 @@ uri_at [] n = []
 uri_at (d ∷ ds) zero = d.uri
 uri_at (d ∷ ds) (suc n) = uri_at ds n
 
-abbrev pub form_texts : (uri : List ℕ) → (number : ℕ) → List UnitForm → List FormText
-form_texts uri n [] = []
-form_texts uri n (f ∷ fs) = record {
-  home = record { uri = uri; number = n };
-  included = false;
-  tree = tree_of (λ s. s) (placed_in 0 0 (place_of f.datum).first) f.datum;
-} ∷ form_texts uri (suc n) fs
+-- a form with its home, where units have these uris
+abbrev pub form_text : (ℕ → List ℕ) → Home → UnitForm → FormText
+form_text uri_of h f = record {
+  home = record { uri = uri_of h.unit; number = h.form };
+  included = is_some f.home;
+  tree = tree_of (λ s. s) (placed_in 0 0 h.first) f.datum;
+}
+
+abbrev pub form_texts : (ℕ → List ℕ) → (unit form : ℕ) → List UnitForm → List FormText
+form_texts uri_of unit form [] = []
+form_texts uri_of unit form (f ∷ fs) = form_text uri_of (home_of unit form f) f ∷ form_texts uri_of unit (suc form) fs
+
+abbrev pub is_of_library : UnitKind → Bool
+is_of_library IsLibrary = true
+is_of_library IsProgram = false
+is_of_library IsPart = false
 
 -- a unit that came to nothing is broken too
 abbrev pub is_broken : Option UnitResult → Bool
@@ -129,12 +139,12 @@ is_broken None = true
 is_broken (Some r) = is_some r.fault
 
 abbrev pub unit_text : List OpenDocument → List UnitResult → Prepared → UnitText
-unit_text ds rs p = let uri = uri_at ds p.placed.document in record {
-  uri = uri;
-  kind = p.placed.source.kind;
+unit_text ds rs p = record {
+  uri = uri_at ds p.placed.document;
+  is_library = is_of_library p.placed.source.kind;
   name = p.placed.source.name;
   broken = is_broken (result_at rs p.number);
-  forms = form_texts uri 0 p.forms;
+  forms = form_texts (λ n. uri_at ds (document_of rs n)) p.number 0 p.forms;
 }
 
 abbrev pub unit_texts : List OpenDocument → List UnitText

@@ -18,7 +18,7 @@ use Rattle.scheme_model.specs.Questions.{Moment}
 use Rattle.scheme_model.specs.FormsAlike.{bare_state}
 use Rattle.scheme_model.specs.Entries.{Entry}
 use Rattle.scheme_model.specs.IncludedUnits.{Placed}
-use Rattle.scheme_model.specs.Program.{Prepared, WholeFault, fault_before, SetResult, UnitResult, result_at, unit_entries, with_entries, enough_turns, broken_result, unit_result, is_ready, first_ready, is_program}
+use Rattle.scheme_model.specs.Program.{Prepared, WholeFault, fault_before, SetResult, UnitResult, result_at, unit_entries, with_entries, enough_turns, broken_result, unit_result, is_ready, first_ready, is_program, forms_at_work}
 use Rattle.scheme_model.specs.ScopedProgram.{ScopedProgress, forms_over, scoped_start_of, scoped_unit_over, scoped_start_after, scoped_by_fault, scoped_worked, scoped_work, scoped_before}
 use Rattle.scheme_model.proofs.FrameEras.{Era, Worked, Before}
 use Rattle.scheme_model.proofs.FrameAsks.{AllOf, all_of_more}
@@ -145,7 +145,7 @@ module _ (all : List Placed) (ps : List Prepared) (known : Known) where
       let w = coming g.results p.number in
       all_of_more (λ (u : UsePlace). Before w q.1.uses u.use_number) (λ (u : UsePlace). done (r ∷ g.results) u.use_number.unit ≡ true)
       (λ u b. done_more g.results r p.number (result_number p imports q.1.table q.0) u.use_number.unit b.1) q.1.places
-      (unit_placed w known enough_turns (forms_over (Written p.number) p.number 0 p.forms) start (start_placed known g p new (with_entries p.number imports.0 g.entry) h)).1
+      (unit_placed w known enough_turns (forms_over (Written p.number) p.number 0 (forms_at_work p)) start (start_placed known g p new (with_entries p.number imports.0 g.entry) h)).1
 
   abbrev pub OrReady : (Prepared → Bool) → Option Prepared → Type 0
   OrReady f None = Unit {0}
@@ -211,7 +211,7 @@ module _ (all : List Placed) (ps : List Prepared) (known : Known) where
           definitions = d j;
         }
 
-    module _ (new : done g.results p.number ≡ false) (xs : List FormOrKept) (forms : map form_of xs ≡ forms_over (Written p.number) p.number 0 p.forms) (kept : UnitKept known enough_turns xs s) where
+    module _ (new : done g.results p.number ≡ false) (xs : List FormOrKept) (forms : map form_of xs ≡ forms_over (Written p.number) p.number 0 (forms_at_work p)) (kept : UnitKept known enough_turns xs s) where
       abbrev w : Era
       w = coming g.results p.number
 
@@ -232,7 +232,7 @@ module _ (all : List Placed) (ps : List Prepared) (known : Known) where
           held_forms w t xs (subst (AllOf (FormHeld w known t)) (sym forms) (forms_held known g b p new imports (unit_entries_fit NoLocal (λ x. tt) all g.results b.exports p)))
 
       distinct : Distinct of_form xs
-      distinct = distinct_forms xs (subst (Distinct number_of) (sym forms) (forms_distinct (Written p.number) p.number p.forms 0))
+      distinct = distinct_forms xs (subst (Distinct number_of) (sym forms) (forms_distinct (Written p.number) p.number (forms_at_work p) 0))
 
       pub same_unit : SameWork (unit_keeping known enough_turns xs s) (scoped_unit_over known p t)
       same_unit =

@@ -5,7 +5,7 @@ use Rattle.scheme_model.specs.Requirements.{Known}
 use Rattle.scheme_model.specs.Entries.{Entry}
 use Rattle.scheme_model.specs.Includes.{Document}
 use Rattle.scheme_model.specs.IncludedUnits.{Placed}
-use Rattle.scheme_model.specs.Program.{known_in, units_of, Prepared, prepare, WholeFault, fault_before, SetResult, broken_result, unit_entries, with_entries, enough_turns, is_ready, first_ready, Program, in_order}
+use Rattle.scheme_model.specs.Program.{known_in, units_of, Prepared, prepare, WholeFault, fault_before, SetResult, broken_result, unit_entries, with_entries, enough_turns, is_ready, first_ready, Program, in_order, forms_at_work}
 use Rattle.scheme_model.specs.ScopedProgram.{ScopedProgress, forms_over, scoped_start_of, scoped_start_after, after_unit, scoped_before, scoped_unit_over, scoped_worked}
 use Rattle.scheme_model.specs.FormsAlike.{bare_place, bare_kept}
 use Rattle.kept_forms.specs.KeptForms.{FormOrKept, form_of, unit_keeping}
@@ -45,7 +45,7 @@ kept_program_of keep ds = kept_program_with (units_of ds) (prepare (units_of ds)
 -- those of a unit that is expanded: its forms may be kept from its start on
 abbrev pub UnitKeeps : List Placed → Known → Keeping → Prepared → Option WholeFault → ScopedProgress → Type 0
 UnitKeeps all known keep p (Some fault) g = Unit {0}
-UnitKeeps all known keep p None g = (map form_of (keep p.number) ≡ forms_over (Written p.number) p.number 0 p.forms) × UnitKept known enough_turns (keep p.number) (scoped_start_after all p g)
+UnitKeeps all known keep p None g = (map form_of (keep p.number) ≡ forms_over (Written p.number) p.number 0 (forms_at_work p)) × UnitKept known enough_turns (keep p.number) (scoped_start_after all p g)
 
 abbrev pub WorkKeeps : List Placed → List Prepared → Known → Keeping → Option Prepared → ScopedProgress → Type 0
 WorkKeeps all ps known keep None g = Unit {0}

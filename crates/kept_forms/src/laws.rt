@@ -10,7 +10,7 @@ ghost use Rattle.form_laws.specs.Begins.{FormBegins, LeftBegins};
 ghost use Rattle.scheme_model.specs.Requirements.{Known};
 ghost use Rattle.scheme_model.specs.Includes.{Document};
 ghost use Rattle.scheme_model.specs.IncludedUnits.{Placed};
-ghost use Rattle.scheme_model.specs.Program.{known_in, units_of, prepare, program_of, Prepared, is_ready, enough_turns};
+ghost use Rattle.scheme_model.specs.Program.{known_in, units_of, prepare, program_of, Prepared, is_ready, enough_turns, forms_at_work};
 ghost use Rattle.scheme_model.specs.ScopedProgram.{ScopedProgress, scoped_work, scoped_before, forms_over, scoped_unit_over, scoped_start_after};
 ghost use Rattle.kept_forms.specs.KeptForms.{KeptAside, KeptParts, FormOrKept, form_of, put_aside, counts_at, unit_keeping};
 ghost use Rattle.kept_forms.specs.Carried.{kept_aside, kept_parts, kept_form, no_counts, PassKept, RestKept, FormFits, UnitKept, UnitBegins, Onwards, SameWork};
@@ -25,11 +25,11 @@ ghost use Rattle.kept_forms.specs.KeptPrograms.{Keeping, kept_work, kept_program
 pub fn kept_forms_come_to_the_same()
     ensures same { (all : List Placed) (units : List Prepared) (known : Known) (n : ℕ) (h : ScopedProgress) (p : Prepared) (xs : List FormOrKept) →
         let g = scoped_work all units known n scoped_before in let s = scoped_start_after all p h in
-        SameProgress h g → is_ready all units g.results p ≡ true → map form_of xs ≡ forms_over (Written p.number) p.number 0 p.forms → UnitKept known enough_turns xs s →
+        SameProgress h g → is_ready all units g.results p ≡ true → map form_of xs ≡ forms_over (Written p.number) p.number 0 (forms_at_work p) → UnitKept known enough_turns xs s →
         SameWork (unit_keeping known enough_turns xs s) (scoped_unit_over known p (scoped_start_after all p g)) }
     ensures begins { (all : List Placed) (units : List Prepared) (known : Known) (n : ℕ) (h : ScopedProgress) (p : Prepared) (xs : List FormOrKept) →
         let g = scoped_work all units known n scoped_before in let s = scoped_start_after all p h in
-        SameProgress h g → is_ready all units g.results p ≡ true → map form_of xs ≡ forms_over (Written p.number) p.number 0 p.forms → UnitKept known enough_turns xs s →
+        SameProgress h g → is_ready all units g.results p ≡ true → map form_of xs ≡ forms_over (Written p.number) p.number 0 (forms_at_work p) → UnitKept known enough_turns xs s →
         UnitBegins known enough_turns xs s }
 {}
 
@@ -38,11 +38,11 @@ pub fn kept_forms_come_to_the_same()
 pub fn kept_forms_are_not_worked()
     ensures worked { (all : List Placed) (units : List Prepared) (known : Known) (n : ℕ) (h : ScopedProgress) (p : Prepared) (xs : List FormOrKept) →
         let g = scoped_work all units known n scoped_before in let s = scoped_start_after all p h in
-        SameProgress h g → is_ready all units g.results p ≡ true → map form_of xs ≡ forms_over (Written p.number) p.number 0 p.forms → UnitKept known enough_turns xs s →
+        SameProgress h g → is_ready all units g.results p ≡ true → map form_of xs ≡ forms_over (Written p.number) p.number 0 (forms_at_work p) → UnitKept known enough_turns xs s →
         unit_worked known enough_turns xs s ≡ uses_not_kept xs (scoped_unit_over known p (scoped_start_after all p g)).1 }
     ensures told { (all : List Placed) (units : List Prepared) (known : Known) (n : ℕ) (h : ScopedProgress) (p : Prepared) (xs : List FormOrKept) →
         let g = scoped_work all units known n scoped_before in let s = scoped_start_after all p h in
-        SameProgress h g → is_ready all units g.results p ≡ true → map form_of xs ≡ forms_over (Written p.number) p.number 0 p.forms → UnitKept known enough_turns xs s →
+        SameProgress h g → is_ready all units g.results p ≡ true → map form_of xs ≡ forms_over (Written p.number) p.number 0 (forms_at_work p) → UnitKept known enough_turns xs s →
         Onwards (λ rs t. UsesTold rs t) (scoped_unit_over known p (scoped_start_after all p g)) }
 {}
 

@@ -7,7 +7,7 @@ use Rattle.scheme_model.specs.Substitution.{Entries, State, model}
 use Rattle.scheme_model.specs.ScopedExpansion.{ScopedState, scoped}
 use Rattle.scheme_model.specs.UnitExpansion.{Formed, unit}
 use Rattle.scheme_model.specs.Entries.{Entry}
-use Rattle.scheme_model.specs.Program.{Prepared, SetResult, form_trees, start_of, enough_turns, unit_over, with_entries}
+use Rattle.scheme_model.specs.Program.{Prepared, SetResult, form_trees, start_of, enough_turns, unit_over, with_entries, forms_at_work}
 use Rattle.scheme_model.specs.ScopedProgram.{ScopedProgress, forms_over, scoped_start_of, scoped_unit_over, imaged_macro}
 use Rattle.scheme_model.proofs.FrameStates.{names}
 use Rattle.scheme_model.proofs.EntryLaws.{NoLocal, Fits}
@@ -33,10 +33,10 @@ module _ (known : Known) (g : ScopedProgress) (h : Between g) (p : Prepared) (ne
   by_scopes = scoped_unit_over known p start
 
   abbrev by_substitution : Option (List Formed) × State
-  by_substitution = unit_over known (form_trees p.number 0 p.forms) (start_of p g.table (map (imaged_macro g.places g.definitions) g.macros) entry)
+  by_substitution = unit_over known (form_trees p.number 0 (forms_at_work p)) (start_of p g.table (map (imaged_macro g.places g.definitions) g.macros) entry)
 
-  same_numbers : form_numbers p ≡ map (λ t. t.0) (form_trees p.number 0 p.forms)
-  same_numbers = sym (numbers_mapped (names start []) (forms_over (Written p.number) p.number 0 p.forms)) ∙ ap (λ ts. map (λ t. t.0) ts) (forms_seen known g h p new imports fit)
+  same_numbers : form_numbers p ≡ map (λ t. t.0) (form_trees p.number 0 (forms_at_work p))
+  same_numbers = sym (numbers_mapped (names start []) (forms_over (Written p.number) p.number 0 (forms_at_work p))) ∙ ap (λ ts. map (λ t. t.0) ts) (forms_seen known g h p new imports fit)
 
   pub unit_counts : scoped_unit_uses known p start ≡ unit_uses known p (start_of p g.table (map (imaged_macro g.places g.definitions) g.macros) entry)
   unit_counts =

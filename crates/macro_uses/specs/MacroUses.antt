@@ -5,7 +5,7 @@ use Rattle.scheme_model.specs.Requirements.{Known}
 use Rattle.scheme_model.specs.Substitution.{State, Clock}
 use Rattle.scheme_model.specs.Includes.{Document}
 use Rattle.scheme_model.specs.IncludedUnits.{Placed}
-use Rattle.scheme_model.specs.Program.{Prepared, Progress, WholeFault, units_of, prepare, known_in, fault_before, is_ready, first_ready, worked, unit_over, unit_entries, with_entries, form_trees, start_of, progress_before}
+use Rattle.scheme_model.specs.Program.{Prepared, Progress, WholeFault, units_of, prepare, known_in, fault_before, is_ready, first_ready, worked, unit_over, unit_entries, with_entries, form_trees, start_of, progress_before, forms_at_work}
 
 -- what the forms with these numbers have counted
 abbrev pub total_of : Clock → List ℕ → ℕ
@@ -15,7 +15,7 @@ total_of uses (f ∷ fs) = uses f + total_of uses fs
 -- a unit that is expanded from a state
 abbrev pub unit_uses : Known → Prepared → State → ℕ
 unit_uses known p s =
-    let ts = form_trees p.number 0 p.forms in
+    let ts = form_trees p.number 0 (forms_at_work p) in
     total_of (unit_over known ts s).1.uses (map (λ t. t.0) ts)
 
 abbrev pub uses_by_fault : List Placed → Known → Prepared → Option WholeFault → Progress → ℕ

@@ -5,13 +5,13 @@ use Rattle.scheme_model.specs.Requirements.{Known}
 use Rattle.scheme_model.specs.ScopedExpansion.{ScopedState}
 use Rattle.scheme_model.specs.Includes.{Document}
 use Rattle.scheme_model.specs.IncludedUnits.{Placed}
-use Rattle.scheme_model.specs.Program.{Prepared, WholeFault, units_of, prepare, known_in, fault_before, is_ready, first_ready}
+use Rattle.scheme_model.specs.Program.{Prepared, WholeFault, units_of, prepare, known_in, fault_before, is_ready, first_ready, forms_at_work}
 use Rattle.scheme_model.specs.ScopedProgram.{ScopedProgress, forms_over, scoped_unit_over, scoped_start_after, scoped_worked, scoped_before}
 use Rattle.macro_uses.specs.MacroUses.{total_of}
 
 -- the numbers of the forms of a unit that are expanded
 abbrev pub form_numbers : Prepared → List ℕ
-form_numbers p = map (λ t. t.0) (forms_over (Written p.number) p.number 0 p.forms)
+form_numbers p = map (λ t. t.0) (forms_over (Written p.number) p.number 0 (forms_at_work p))
 
 abbrev pub scoped_unit_uses : Known → Prepared → ScopedState → ℕ
 scoped_unit_uses known p s = total_of (scoped_unit_over known p s).1.uses (form_numbers p)

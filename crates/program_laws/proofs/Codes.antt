@@ -12,10 +12,11 @@ use Rattle.scheme_model.specs.UnitExpansion.{Formed}
 use Rattle.scheme_model.specs.Substitution.{Table, Defined}
 use Rattle.scheme_model.specs.Entries.{Entry, ImportFault, NotThere, Clash, BadSet}
 use Rattle.scheme_model.specs.Includes.{Document}
-use Rattle.scheme_model.specs.Program.{Prepared, UnitResult, Program, ImportSpec, WholeFault, TooMany, BadDeclaration, DefinedTwice, ImportCycle, TooLarge, SetResult, Unknown, Faulty, Gives, ExportFault, NotDefined, SameExport, program_of, imports_nothing}
+use Rattle.scheme_model.specs.Included.{LostString}
+use Rattle.scheme_model.specs.Program.{Prepared, UnitResult, Program, ImportSpec, WholeFault, TooMany, IncludeCycle, BadDeclaration, DefinedTwice, ImportCycle, TooLarge, SetResult, Unknown, Faulty, Gives, ExportFault, NotDefined, SameExport, program_of, imports_nothing}
 use Rattle.scheme_model.specs.Live.{CoreLeaf, Binds, Uses, Assigns, Quotes, Defines, unit_leaves}
 use Rattle.scheme_model.specs.Declarations.{forms_hold}
-use Rattle.scheme_model.specs.Diagnostics.{Diagnostic, Span, Bytes, document_of, bytes_of, at_bytes, form_diagnostics, datum_bytes, clash_diagnostics, import_fault, set_diagnostics, export_diagnostics, or_start, hides, is_broken, hiding_diagnostics, unbound_at, unbound_diagnostics, is_empty, unit_start, whole_fault, inner_diagnostics, unit_diagnostics, all_diagnostics, is_before, same_diagnostic, put_in, sorted, diagnostics_of}
+use Rattle.scheme_model.specs.Diagnostics.{Diagnostic, Span, Bytes, document_of, bytes_of, at_bytes, form_diagnostics, datum_bytes, clash_diagnostics, import_fault, set_diagnostics, lost_diagnostics, export_diagnostics, or_start, hides, is_broken, hiding_diagnostics, unbound_at, unbound_diagnostics, is_empty, unit_start, whole_fault, inner_diagnostics, unit_diagnostics, all_diagnostics, is_before, same_diagnostic, put_in, sorted, diagnostics_of}
 use Rattle.program_laws.specs.Turns.{Each, AreBounded}
 use Rattle.program_laws.proofs.Faults.{Any, coded}
 use Rattle.program_laws.proofs.Steps.{Ended}
@@ -54,6 +55,10 @@ sets_have bytes d (s ∷ ss) (Unknown ∷ rs) = (omega arith, sets_have bytes d 
 sets_have bytes d (s ∷ ss) (Faulty f ∷ rs) = (import_has bytes (datum_bytes (d s.unit) s.whole) f, sets_have bytes d ss rs)
 sets_have bytes d (s ∷ ss) (Gives es clashes ∷ rs) = each_both HasCode (clash_diagnostics (datum_bytes (d s.unit) s.whole) clashes) (set_diagnostics bytes d ss rs) (clashes_have (datum_bytes (d s.unit) s.whole) clashes) (sets_have bytes d ss rs)
 
+lost_have : (ls : List LostString) → AllHave (lost_diagnostics ls)
+lost_have [] = tt
+lost_have (l ∷ ls) = (omega arith, lost_have ls)
+
 exports_have : (bytes : Occ → Bytes) (unit : ℕ) (xs : List ExportFault) → AllHave (export_diagnostics bytes unit xs)
 exports_have bytes unit [] = tt
 exports_have bytes unit (NotDefined x ∷ xs) = (omega arith, exports_have bytes unit xs)
@@ -86,6 +91,7 @@ unbound_have bytes (Defines m ∷ ls) = unbound_have bytes ls
 
 whole_has : (spans : List (List Span)) (document : ℕ → ℕ) (p : Prepared) (f : WholeFault) → HasCode (whole_fault spans document p f)
 whole_has spans document p TooMany = omega arith
+whole_has spans document p IncludeCycle = omega arith
 whole_has spans document p (BadDeclaration unit d) = omega arith
 whole_has spans document p DefinedTwice = omega arith
 whole_has spans document p ImportCycle = omega arith
@@ -101,16 +107,20 @@ module _ (spans : List (List Span)) (p : Program) where
   inner_have : (r : UnitResult) (sets : List Diagnostic) → UnitFine r → AllHave sets → AllHave (inner_diagnostics spans p r sets)
   inner_have r sets h k =
       let bytes : Occ → Bytes = bytes_of spans p.units in
+      let strings : List LostString = r.unit.placed.source.lost in
+      let lost : List Diagnostic = lost_diagnostics strings in
       let exports : List Diagnostic = export_diagnostics bytes r.unit.number r.export_faults in
       let forms : List Diagnostic = form_diagnostics bytes (forms_hold r.unit.number r.unit.forms) r.unit.number r.forms in
       let hiding : List Diagnostic = hiding_diagnostics bytes r.unit.number r.forms r.entries p.table in
-      let unbound : List Diagnostic = if is_empty sets then unbound_diagnostics bytes (unit_leaves r.forms) else [] in
+      let silent : Bool = is_empty sets && is_empty strings in
+      let unbound : List Diagnostic = if silent then unbound_diagnostics bytes (unit_leaves r.forms) else [] in
       let empty : List Diagnostic = if imports_nothing r.unit then at_bytes (unit_start spans r.unit) 104 [] ∷ [] else [] in
-      let a = each_both HasCode sets exports k (exports_have bytes r.unit.number r.export_faults) in
-      let b = each_both HasCode (sets ++ exports) forms a (forms_have bytes (forms_hold r.unit.number r.unit.forms) r.unit.number r.forms h) in
-      let c = each_both HasCode (sets ++ exports ++ forms) hiding b (hiding_have bytes r.unit.number r.forms r.entries p.table) in
-      let d = each_both HasCode (sets ++ exports ++ forms ++ hiding) unbound c (one_of_two AllHave (is_empty sets) (unbound_diagnostics bytes (unit_leaves r.forms)) [] (unbound_have bytes (unit_leaves r.forms)) tt) in
-      each_both HasCode (sets ++ exports ++ forms ++ hiding ++ unbound) empty d (nothing_has (imports_nothing r.unit) r)
+      let a = each_both HasCode sets lost k (lost_have strings) in
+      let b = each_both HasCode (sets ++ lost) exports a (exports_have bytes r.unit.number r.export_faults) in
+      let c = each_both HasCode (sets ++ lost ++ exports) forms b (forms_have bytes (forms_hold r.unit.number r.unit.forms) r.unit.number r.forms h) in
+      let d = each_both HasCode (sets ++ lost ++ exports ++ forms) hiding c (hiding_have bytes r.unit.number r.forms r.entries p.table) in
+      let e = each_both HasCode (sets ++ lost ++ exports ++ forms ++ hiding) unbound d (one_of_two AllHave silent (unbound_diagnostics bytes (unit_leaves r.forms)) [] (unbound_have bytes (unit_leaves r.forms)) tt) in
+      each_both HasCode (sets ++ lost ++ exports ++ forms ++ hiding ++ unbound) empty e (nothing_has (imports_nothing r.unit) r)
 
   unit_has : (r : UnitResult) (o : Option WholeFault) → UnitFine r → AllHave (unit_diagnostics spans p r o)
   unit_has r (Some f) h = (whole_has spans (document_of p.units) r.unit f, tt)

@@ -11,17 +11,18 @@ use Rattle.scheme_model.specs.Requirements.{Known}
 use Rattle.scheme_model.specs.UnitExpansion.{Formed}
 use Rattle.scheme_model.specs.Substitution.{State, model}
 use Rattle.scheme_model.specs.Entries.{Entry}
-use Rattle.scheme_model.specs.Declarations.{UnitForm, home_of, Flat}
-use Rattle.scheme_model.specs.Includes.{Document, data_of}
-use Rattle.scheme_model.specs.IncludedUnits.{units_in, Placed, units_from}
-use Rattle.scheme_model.specs.Program.{known_in, units_of, is_include, forms_or_none, Prepared, prepare, WholeFault, fault_before, SetResult, UnitResult, Progress, result_at, unit_entries, form_trees, start_of, enough_turns, by_fault, refused_form, with_refused, unit_result, unit_over, with_entries, is_ready, first_ready, worked, work, progress_before, in_order, program_of}
+use Rattle.scheme_model.specs.Declarations.{UnitForm, is_part_kind, home_of}
+use Rattle.scheme_model.specs.Includes.{Document, data_of, Naming, naming}
+use Rattle.scheme_model.specs.Included.{Sources, all_texts}
+use Rattle.scheme_model.specs.IncludedUnits.{EarlyFault, Placed, units_in, units_from, max_tokens, sources_within}
+use Rattle.scheme_model.specs.Program.{known_in, units_of, is_include, forms_or_none, Prepared, prepare, WholeFault, fault_before, SetResult, UnitResult, Progress, result_at, unit_entries, form_trees, start_of, enough_turns, by_fault, refused_form, with_refused, unit_result, unit_over, with_entries, is_ready, first_ready, worked, work, progress_before, in_order, program_of, forms_at_work}
 use Rattle.program_laws.specs.Turns.{Each, datum_size, AreBounded, IsDone}
 use Rattle.program_laws.proofs.Faults.{Any, not_out}
 use Rattle.program_laws.proofs.Steps.{Ended}
 use Rattle.program_laws.proofs.Units.{Comes, NumberedWithin, unit_comes}
 use Rattle.program_laws.proofs.Model.{model_keeps}
 use Rattle.program_laws.proofs.Lists.{each_of, each_map, each_both, one_of_two, three_ways}
-use Rattle.program_laws.proofs.Declared.{as_large, DatumWithin, FormWithin, FlatWithin, SourceWithin, units_within}
+use Rattle.program_laws.proofs.Declared.{as_large, DatumWithin, FormWithin, FormsWithin, SourceWithin, units_within, DocumentWithin, all_within}
 
 -- the most nodes of a datum
 abbrev most : ℕ
@@ -36,23 +37,24 @@ UnitFine r = Each FormFine r.forms
 -- ---- the units of the documents
 
 abbrev PlacedWithin : Placed → Type 0
-PlacedWithin u = FlatWithin most u.source.forms
+PlacedWithin u = SourceWithin most u.source
 
 abbrev PreparedWithin : Prepared → Type 0
 PreparedWithin p = Each (FormWithin most) p.forms
 
-abbrev DocumentWithin : Document → Type 0
-DocumentWithin d = Each (DatumWithin most) (data_of d)
+placed_within : (o : Sources) → Each (DocumentWithin most) o.documents → (all : Naming) (k : ℕ) (ds : List Document) → Each (DocumentWithin most) ds → Each PlacedWithin (units_from (all_texts o) o.known all k ds)
+placed_within o within all k [] h = tt
+placed_within o within all k (d ∷ ds) h =
+    let us = units_in (all_texts o) o.known all k (data_of d) in
+    each_both PlacedWithin (map (λ u. record { document = k; source = u }) us) (units_from (all_texts o) o.known all (suc k) ds)
+    (each_map (SourceWithin most) PlacedWithin (λ u. record { document = k; source = u }) us (units_within most (all_texts o) (all_within most o within) o.known all k (data_of d) h.0) (λ u x. x)) (placed_within o within all (suc k) ds h.1)
 
-placed_within : (known : Known) (k : ℕ) (ds : List Document) → Each DocumentWithin ds → Each PlacedWithin (units_from known k ds)
-placed_within known k [] h = tt
-placed_within known k (d ∷ ds) h =
-    each_both PlacedWithin (map (λ u. record { document = k; source = u }) (units_in known (data_of d))) (units_from known (suc k) ds)
-    (each_map (SourceWithin most known) PlacedWithin (λ u. record { document = k; source = u }) (units_in known (data_of d)) (units_within most known (data_of d) h.0) (λ u x. x)) (placed_within known (suc k) ds h.1)
-
-forms_within : (r : Flat) → FlatWithin most r → Each (FormWithin most) (forms_or_none r)
+forms_within : (r : Result (List UnitForm) EarlyFault) → FormsWithin most r → Each (FormWithin most) (forms_or_none r)
 forms_within (Ok fs) h = h
-forms_within (Err d) h = tt
+forms_within (Err e) h = tt
+
+work_within : (p : Prepared) → PreparedWithin p → Each (FormWithin most) (forms_at_work p)
+work_within p h = one_of_two (Each (FormWithin most)) (is_part_kind p.placed.source.kind) [] p.forms tt h
 
 prepared_within : (all : List Placed) (k : ℕ) (us : List Placed) → Each PlacedWithin us → Each PreparedWithin (prepare all k us)
 prepared_within all k [] h = tt
@@ -85,7 +87,7 @@ unit_done known ts s h = unit_comes (model known) (model_keeps known) most body_
 
 result_fine : (p : Prepared) (imports : List Entry × List SetResult) (q : Option (List Formed) × State) → Comes (Each FormFine) q → UnitFine (unit_result p imports q.1.table q.0)
 result_fine p imports (None, s) h = tt
-result_fine p imports (Some fs, s) h = refused_fine p.number 0 p.forms fs h
+result_fine p imports (Some fs, s) h = refused_fine p.number 0 (forms_at_work p) fs h
 
 -- ---- one unit after another
 
@@ -98,7 +100,7 @@ module _ (all : List Placed) (units : List Prepared) (known : Known) (within : E
   fault_fine p None g w h =
       let imports : List Entry × List SetResult = unit_entries all g.results p in
       let s : State = start_of p g.table g.macros (with_entries p.number imports.0 g.entry) in
-      (result_fine p imports (unit_over known (form_trees p.number 0 p.forms) s) (unit_done known (form_trees p.number 0 p.forms) s (trees_within p.number 0 p.forms w)), h)
+      (result_fine p imports (unit_over known (form_trees p.number 0 (forms_at_work p)) s) (unit_done known (form_trees p.number 0 (forms_at_work p)) s (trees_within p.number 0 (forms_at_work p) (work_within p w))), h)
 
   abbrev Ready : Option Prepared → Type 0
   Ready None = Unit {0}
@@ -140,8 +142,8 @@ pub program_fine : (ds : List Document) → AreBounded ds → Each UnitFine (pro
 program_fine ds h =
     let us : List Placed = units_of ds in
     let ps : List Prepared = prepare us 0 us in
-    let bounded : Each DocumentWithin ds = each_of (λ (d : Document). Each (λ (x : Datum). datum_size x < 2 ^ 60) (data_of d)) DocumentWithin ds h (λ d x. each_of (λ (y : Datum). datum_size y < 2 ^ 60) (DatumWithin most) (data_of d) x (λ y z. omega arith)) in
-    let within : Each PreparedWithin ps = prepared_within us 0 us (placed_within (known_in ds) 0 ds bounded) in
+    let bounded : Each (DocumentWithin most) ds = each_of (λ (d : Document). Each (λ (x : Datum). datum_size x < 2 ^ 60) (data_of d)) (DocumentWithin most) ds h (λ d x. each_of (λ (y : Datum). datum_size y < 2 ^ 60) (DatumWithin most) (data_of d) x (λ y z. omega arith)) in
+    let within : Each PreparedWithin ps = prepared_within us 0 us (placed_within (sources_within max_tokens (naming ds) (known_in ds) ds) bounded (naming ds) 0 ds bounded) in
     ordered_fine (work us ps (known_in ds) (length ps) progress_before).results 0 (length ps) (work_fine us ps (known_in ds) within (length ps) progress_before tt)
 
 done_of : (r : Result Parts Broken) → Ended Any r → IsDone r

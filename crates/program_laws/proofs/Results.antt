@@ -2,7 +2,6 @@
 use Rattle.std.proofs.Common.{◌≡◌, ◌⊎◌, inl, inr, ⊎_elim, ℕ, zero, suc, ◌+◌, ◌≤◌, ◌<◌, List, [], ◌∷◌, map, length, Bool, true, false, not, Option, Some, None, Result, Ok, Err, refl, sym, ap, ◌∙◌, subst, arith, if◌then◌else◌}
 use Rattle.std.specs.Prelude.{◌==◌, ◌&&◌, ◌||◌, nat_le}
 use Rattle.std.proofs.lemmas.Bool.Decides.{nat_tests}
-use Rattle.scheme_model.specs.Data.{Datum}
 use Rattle.scheme_model.specs.Order.{is_some}
 use Rattle.scheme_model.specs.Requirements.{LibraryName, Known}
 use Rattle.scheme_model.specs.UnitExpansion.{Formed}
@@ -10,7 +9,7 @@ use Rattle.scheme_model.specs.Substitution.{Table}
 use Rattle.scheme_model.specs.Entries.{Entry, library_in}
 use Rattle.scheme_model.specs.Declarations.{UnitForm}
 use Rattle.scheme_model.specs.Includes.{Document, max_units}
-use Rattle.scheme_model.specs.IncludedUnits.{Placed}
+use Rattle.scheme_model.specs.IncludedUnits.{EarlyFault, Placed}
 use Rattle.scheme_model.specs.Program.{known_in, units_of, ImportSpec, is_named, imported_as, unit_named, imported_units, Prepared, prepared, prepare, imports_at, is_in, imports_of_all, joined, reached, on_circle, is_repeated, WholeFault, TooMany, DefinedTwice, ImportCycle, declared_fault, fault_before, SetResult, UnitResult, Progress, result_at, unit_result, by_fault, all_done, is_ready, first_ready, worked, work, progress_before, in_order, program_of}
 use Rattle.program_laws.specs.Circles.{IsClosed}
 use Rattle.program_laws.specs.Turns.{Each}
@@ -237,7 +236,7 @@ none_ready ready (q ∷ ps) n p none e = at (ready q) refl (q.number == n) (λ (
     at false f true rest none e = subst (λ (x : Prepared). ready x ≡ false) (some_same q p e) f
     at false f false rest none e = rest none e
 
-circle_by : (n : ℕ) (a : Bool) (forms : Result (List UnitForm) Datum) (b c : Bool) → is_some (if a then Some TooMany else declared_fault n forms (if b then Some DefinedTwice else if c then Some ImportCycle else None)) ≡ false → c ≡ false
+circle_by : (n : ℕ) (a : Bool) (forms : Result (List UnitForm) EarlyFault) (b c : Bool) → is_some (if a then Some TooMany else declared_fault n forms (if b then Some DefinedTwice else if c then Some ImportCycle else None)) ≡ false → c ≡ false
 circle_by n true forms b c e = never (sym e)
 circle_by n false (Ok fs) true c e = never (sym e)
 circle_by n false (Ok fs) false true e = never (sym e)

@@ -4,7 +4,7 @@ use Rattle.std.specs.Prelude.{◌==◌}
 use Rattle.std.specs.Char.{to_ascii_lowercase}
 use Rattle.scheme_model.specs.Data.{Datum}
 use Rattle.scheme_model.specs.Kinds.{Token as ModelToken}
-use Rattle.scheme_model.specs.Includes.{Document, data_of}
+use Rattle.scheme_model.specs.Includes.{or_none, Document, data_of}
 use Rattle.scheme_tokens.specs.Lexical.{Leaf, Name, Numeral, Quoted, Character, Truth, Quote, Quasi, Unquote, Splice, TokenKind, Paren, VectorParen, BytesParen, Close, Dot, Skip, Marked, Atomic, IsBare, IsNumeral, IsTruth, IsLeaf, IsToken, Token, First, IsSpelledFrom, mark_bytes, behind_mark}
 use Rattle.std.specs.Str.{chars, chars_after, continuation_len, lead_bits}
 use Rattle.std.specs.Option.{option_map}
@@ -13,7 +13,7 @@ use Rattle.scheme_tokens.specs.Stopping.{IsRead}
 use Rattle.scheme_tokens.specs.Faults.{FaultAt}
 use Rattle.datum_reader.specs.Texts.{token_seen, stop_seen, IsReading}
 use Rattle.program_laws.specs.Turns.{Each, datum_size, AreBounded}
-use Rattle.program_laws.specs.Texts.{IsOfText}
+use Rattle.program_laws.specs.Texts.{AreOfText, IsOfText}
 use Rattle.program_laws.proofs.Circles.{never}
 use Rattle.program_laws.proofs.Lists.{each_of}
 use Rattle.program_laws.proofs.Written.{data_within}
@@ -131,12 +131,12 @@ unfolding chars
 chars_fewer [] = omega arith
 chars_fewer (b ∷ bs) = after_fewer (continuation_len b) (lead_bits b) bs
 
-document_bounded : (d : Document) → IsOfText d → Each (λ (x : Datum). datum_size x < 2 ^ 60) (data_of d)
-document_bounded None h = tt
-document_bounded (Some ds) h =
+data_bounded : (d : Option (List Datum)) → AreOfText d → Each (λ (x : Datum). datum_size x < 2 ^ 60) (or_none d)
+data_bounded None h = tt
+data_bounded (Some ds) h =
     let small = h.1 in
     let few = chars_fewer h.0 in
     each_of (λ (x : Datum). datum_size x ≤ 2 * length (chars h.0)) (λ (x : Datum). datum_size x < 2 ^ 60) ds (text_within (chars h.0) ds h.2) (λ x le. omega (arith, le, small, few))
 
 pub texts_bounded : (ds : List Document) → Each IsOfText ds → AreBounded ds
-texts_bounded ds h = each_of IsOfText (λ (d : Document). Each (λ (x : Datum). datum_size x < 2 ^ 60) (data_of d)) ds h (λ d x. document_bounded d x)
+texts_bounded ds h = each_of IsOfText (λ (d : Document). Each (λ (x : Datum). datum_size x < 2 ^ 60) (data_of d)) ds h (λ d x. data_bounded d.read x)

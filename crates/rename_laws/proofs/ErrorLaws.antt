@@ -16,9 +16,10 @@ use Rattle.scheme_model.specs.UnitExpansion.{Formed}
 use Rattle.scheme_model.specs.Substitution.{Table, Defined}
 use Rattle.scheme_model.specs.Entries.{Entry, ImportFault, NotThere, Clash, BadSet}
 use Rattle.scheme_model.specs.Declarations.{UnitForm, forms_hold}
-use Rattle.scheme_model.specs.Program.{UnitResult, Program, ImportSpec, specs_in, specs_from, WholeFault, TooMany, BadDeclaration, DefinedTwice, ImportCycle, TooLarge, SetResult, Unknown, Faulty, Gives, ExportFault, NotDefined, SameExport, imports_nothing, whole_code}
+use Rattle.scheme_model.specs.Included.{LostString}
+use Rattle.scheme_model.specs.Program.{UnitResult, Program, ImportSpec, specs_in, specs_from, WholeFault, TooMany, IncludeCycle, BadDeclaration, DefinedTwice, ImportCycle, TooLarge, SetResult, Unknown, Faulty, Gives, ExportFault, NotDefined, SameExport, imports_nothing, whole_code}
 use Rattle.scheme_model.specs.Live.{CoreLeaf, Binds, Uses, Assigns, Quotes, Defines, unit_leaves}
-use Rattle.scheme_model.specs.Diagnostics.{Diagnostic, Span, Bytes, document_of, bytes_of, at_bytes, form_diagnostics, datum_bytes, import_fault, set_diagnostics, export_diagnostics, or_start, hides, is_broken, hiding_diagnostics, unbound_at, unbound_diagnostics, is_empty, unit_start, inner_diagnostics, unit_diagnostics, is_before, same_diagnostic, put_in, sorted}
+use Rattle.scheme_model.specs.Diagnostics.{Diagnostic, Span, Bytes, document_of, bytes_of, at_bytes, form_diagnostics, datum_bytes, import_fault, set_diagnostics, lost_diagnostics, export_diagnostics, or_start, hides, is_broken, hiding_diagnostics, unbound_at, unbound_diagnostics, is_empty, unit_start, inner_diagnostics, unit_diagnostics, is_before, same_diagnostic, put_in, sorted}
 use Rattle.scheme_model.specs.Entries.{is_below}
 use Rattle.rename_model.specs.SameProgram.{set_forms, set_errors, export_errors, form_errors, errors_of}
 
@@ -233,6 +234,10 @@ target_none bytes (Standard s) i o = tt
 target_none bytes (Free s) i None = tt
 target_none bytes (Free s) i (Some o) = (refl, tt)
 
+lost_none : (ls : List LostString) → NoErrors (lost_diagnostics ls)
+lost_none [] = tt
+lost_none (l ∷ ls) = (refl, lost_none ls)
+
 unbound_none : (bytes : Occ → Bytes) (ls : List CoreLeaf) → NoErrors (unbound_diagnostics bytes ls)
 unbound_none bytes [] = tt
 unbound_none bytes (Binds b ∷ ls) = unbound_none bytes ls
@@ -259,6 +264,7 @@ with_fault r f = record r { fault = f }
 
 whole_error : (f : WholeFault) → nat_lt (whole_code f) 100 ≡ true
 whole_error TooMany = refl
+whole_error IncludeCycle = refl
 whole_error (BadDeclaration unit d) = refl
 whole_error DefinedTwice = refl
 whole_error ImportCycle = refl
@@ -271,6 +277,12 @@ module _ (spans : List (List Span)) (p : Program) (r : UnitResult) (long : lengt
   abbrev sets : List Diagnostic
   sets = set_diagnostics bytes (document_of p.units) r.unit.specs r.sets
 
+  abbrev strings : List LostString
+  strings = r.unit.placed.source.lost
+
+  abbrev lost : List Diagnostic
+  lost = lost_diagnostics strings
+
   abbrev exports : List Diagnostic
   exports = export_diagnostics bytes r.unit.number r.export_faults
 
@@ -281,7 +293,7 @@ module _ (spans : List (List Span)) (p : Program) (r : UnitResult) (long : lengt
   hiding = hiding_diagnostics bytes r.unit.number r.forms r.entries p.table
 
   abbrev unbound : List Diagnostic
-  unbound = if is_empty sets then unbound_diagnostics bytes (unit_leaves r.forms) else []
+  unbound = if is_empty sets && is_empty strings then unbound_diagnostics bytes (unit_leaves r.forms) else []
 
   abbrev without_imports : List Diagnostic
   without_imports = if imports_nothing r.unit then at_bytes (unit_start spans r.unit) 104 [] ∷ [] else []
@@ -291,26 +303,29 @@ module _ (spans : List (List Span)) (p : Program) (r : UnitResult) (long : lengt
 
   inner_from : NoErrors (inner_diagnostics spans p r sets) → (of_sets ++ export_errors r.export_faults) ++ form_errors r.forms ≡ []
   inner_from h =
-      let a = none_in_each ((((sets ++ exports) ++ forms) ++ hiding) ++ unbound) without_imports h in
-      let b = none_in_each (((sets ++ exports) ++ forms) ++ hiding) unbound a.0 in
-      let c = none_in_each ((sets ++ exports) ++ forms) hiding b.0 in
-      let d = none_in_each (sets ++ exports) forms c.0 in
-      let e = none_in_each sets exports d.0 in
-      nothing_joined of_sets (export_errors r.export_faults) (form_errors r.forms) (sets_from bytes (document_of p.units) r.unit.specs (set_forms r.unit.number 0 r.unit.forms) r.sets long e.0)
+      let a = none_in_each (((((sets ++ lost) ++ exports) ++ forms) ++ hiding) ++ unbound) without_imports h in
+      let b = none_in_each ((((sets ++ lost) ++ exports) ++ forms) ++ hiding) unbound a.0 in
+      let c = none_in_each (((sets ++ lost) ++ exports) ++ forms) hiding b.0 in
+      let d = none_in_each ((sets ++ lost) ++ exports) forms c.0 in
+      let e = none_in_each (sets ++ lost) exports d.0 in
+      let f = none_in_each sets lost e.0 in
+      nothing_joined of_sets (export_errors r.export_faults) (form_errors r.forms) (sets_from bytes (document_of p.units) r.unit.specs (set_forms r.unit.number 0 r.unit.forms) r.sets long f.0)
       (exports_from bytes r.unit.number r.export_faults e.1) (forms_from bytes (forms_hold r.unit.number r.unit.forms) r.unit.number r.forms d.1)
 
   inner_to : (of_sets ++ export_errors r.export_faults) ++ form_errors r.forms ≡ [] → NoErrors (inner_diagnostics spans p r sets)
   inner_to e =
       let a = joined_nothing (of_sets ++ export_errors r.export_faults) (form_errors r.forms) e in
       let b = joined_nothing of_sets (export_errors r.export_faults) a.0 in
-      none_in_both ((((sets ++ exports) ++ forms) ++ hiding) ++ unbound) without_imports
-      (none_in_both (((sets ++ exports) ++ forms) ++ hiding) unbound
-      (none_in_both ((sets ++ exports) ++ forms) hiding
-      (none_in_both (sets ++ exports) forms
-      (none_in_both sets exports (sets_to bytes (document_of p.units) r.unit.specs (set_forms r.unit.number 0 r.unit.forms) r.sets long b.0) (exports_to bytes r.unit.number r.export_faults b.1))
+      none_in_both (((((sets ++ lost) ++ exports) ++ forms) ++ hiding) ++ unbound) without_imports
+      (none_in_both ((((sets ++ lost) ++ exports) ++ forms) ++ hiding) unbound
+      (none_in_both (((sets ++ lost) ++ exports) ++ forms) hiding
+      (none_in_both ((sets ++ lost) ++ exports) forms
+      (none_in_both (sets ++ lost) exports
+      (none_in_both sets lost (sets_to bytes (document_of p.units) r.unit.specs (set_forms r.unit.number 0 r.unit.forms) r.sets long b.0) (lost_none strings))
+      (exports_to bytes r.unit.number r.export_faults b.1))
       (forms_to bytes (forms_hold r.unit.number r.unit.forms) r.unit.number r.forms a.1))
       (hiding_none bytes r.unit.number r.forms r.entries p.table))
-      (if_none (is_empty sets) (unbound_diagnostics bytes (unit_leaves r.forms)) (unbound_none bytes (unit_leaves r.forms))))
+      (if_none (is_empty sets && is_empty strings) (unbound_diagnostics bytes (unit_leaves r.forms)) (unbound_none bytes (unit_leaves r.forms))))
       (if_none (imports_nothing r.unit) (at_bytes (unit_start spans r.unit) 104 [] ∷ []) (refl, tt))
 
   from_diagnostics : (f : Option WholeFault) → NoErrors (unit_diagnostics spans p (with_fault r f) f) → errors_of (with_fault r f) ≡ []

@@ -11,7 +11,7 @@ use Rattle.scheme_model.specs.Steps.{Broken}
 use Rattle.scheme_model.specs.UnitExpansion.{Formed}
 use Rattle.scheme_model.specs.Substitution.{Table}
 use Rattle.scheme_model.specs.Entries.{Entry}
-use Rattle.scheme_model.specs.Declarations.{UnitForm, UnitKind, IsLibrary, IsProgram}
+use Rattle.scheme_model.specs.Declarations.{UnitForm, UnitKind, IsLibrary, IsProgram, IsPart}
 use Rattle.scheme_model.specs.IncludedUnits.{Placed}
 use Rattle.scheme_model.specs.Program.{UnitResult, Program, result_at, ExportSpec, WholeFault, SetResult, Unknown, Faulty, Gives, ExportFault, NotDefined, SameExport, specs_in}
 use Rattle.scheme_model.specs.ProgramArrows.{program_leaves, program_keywords, program_names, program_table, is_live_at}
@@ -123,6 +123,7 @@ name_points (Some n) = number (length n) ∷ flat_map part_points n
 abbrev pub kind_number : UnitKind → ℕ
 kind_number IsLibrary = 0
 kind_number IsProgram = 1
+kind_number IsPart = 2
 
 -- document, kind, number of forms and name; nothing where there is no such unit
 abbrev pub listed_points : Option UnitResult → List Point

@@ -10,7 +10,7 @@ use Rattle.scheme_model.specs.DataTrees.{atom_tree, tree_of, parts_of, end_of, f
 use Rattle.scheme_model.specs.Declarations.{UnitForm, home_of, home_or}
 use Rattle.scheme_model.specs.RulesShape.{option_map}
 use Rattle.scheme_model.specs.Ident.{Ident, Written as IdentWritten}
-use Rattle.scheme_model.specs.Program.{Prepared, form_trees}
+use Rattle.scheme_model.specs.Program.{Prepared, form_trees, forms_at_work}
 use Rattle.scheme_model.specs.ScopedProgram.{forms_over}
 use Rattle.renumbering_laws.specs.Moving.{Change, move_tree, move_trees, move_tail}
 use Rattle.renumbering_laws.specs.Renumbering.{Renumbering, occ_at, place, ident, named_as, with_places, numbered_as}
@@ -82,15 +82,15 @@ over_names : (u n : ℕ) (fs : List UnitForm) → form_trees u n fs ≡ forms_ov
 over_names u n [] = refl
 over_names u n (x ∷ xs) = let e = over_names u (suc n) xs in λ j. cond x.declared (e j) ((n, data_form_as u (home_of u n x) x.datum) ∷ e j)
 
-module _ (r : Renumbering) (p q : Prepared) (number : q.number ≡ r.unit p.number) (forms : q.forms ≡ map (form_as r) p.forms) (kept : (n : ℕ) → r.form p.number n ≡ n) where
+module _ (r : Renumbering) (p q : Prepared) (number : q.number ≡ r.unit p.number) (forms : forms_at_work q ≡ map (form_as r) (forms_at_work p)) (kept : (n : ℕ) → r.form p.number n ≡ n) where
   from_start : (m : ℕ) → r.form p.number (0 + m) ≡ 0 + m
   from_start m = let a : 0 + m ≡ m = omega arith in ap (r.form p.number) a ∙ kept m ∙ sym a
 
   pub named_forms_move : FormsMove r p q
   named_forms_move =
-      (λ j. form_trees (number j) 0 (forms j)) ∙ over_names (r.unit p.number) 0 (map (form_as r) p.forms)
-      ∙ forms_moved r Identifier (named_as r) Written (λ u x. refl) p.number 0 0 from_start p.forms
-      ∙ ap (map (numbered_as r p.number (named_as r))) (sym (over_names p.number 0 p.forms))
+      (λ j. form_trees (number j) 0 (forms j)) ∙ over_names (r.unit p.number) 0 (map (form_as r) (forms_at_work p))
+      ∙ forms_moved r Identifier (named_as r) Written (λ u x. refl) p.number 0 0 from_start (forms_at_work p)
+      ∙ ap (map (numbered_as r p.number (named_as r))) (sym (over_names p.number 0 (forms_at_work p)))
 
   pub scoped_forms_move : ScopedFormsMove r p q
-  scoped_forms_move = (λ j. forms_over (IdentWritten (number j)) (number j) 0 (forms j)) ∙ forms_moved r Ident (ident r) IdentWritten (λ u x. refl) p.number 0 0 from_start p.forms
+  scoped_forms_move = (λ j. forms_over (IdentWritten (number j)) (number j) 0 (forms j)) ∙ forms_moved r Ident (ident r) IdentWritten (λ u x. refl) p.number 0 0 from_start (forms_at_work p)

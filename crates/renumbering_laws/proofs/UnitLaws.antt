@@ -6,7 +6,7 @@ use Rattle.scheme_model.specs.Requirements.{Known}
 use Rattle.scheme_model.specs.CountedExpansion.{counted}
 use Rattle.scheme_model.specs.UnitExpansion.{unit}
 use Rattle.scheme_model.specs.Substitution.{Entries}
-use Rattle.scheme_model.specs.Program.{Prepared, Progress, start_of, form_trees, enough_turns, unit_over}
+use Rattle.scheme_model.specs.Program.{Prepared, Progress, start_of, form_trees, enough_turns, unit_over, forms_at_work}
 use Rattle.scheme_model.specs.ScopedProgram.{ScopedProgress, forms_over, scoped_start_of, scoped_unit_over}
 use Rattle.renumbering_laws.specs.Renumbering.{Renumbering, IsOneToOne, formed_as, IsRenumbered}
 use Rattle.renumbering_laws.specs.States.{EntriesMove, StatesRest, StatesGoRest}
@@ -37,10 +37,10 @@ module _ (r : Renumbering) (o : IsOneToOne r) (known : Known) (p q : Prepared) (
     }
 
     pub unit_moved : FormsMove r p q
-        → IsRenumbered (option_map (map (formed_as r p.number))) (StatesGoRest r p.number (start_of p g.table g.macros entry) (start_of q h.table h.macros entry')) (unit_over known (form_trees p.number 0 p.forms) (start_of p g.table g.macros entry)) (unit_over known (form_trees q.number 0 q.forms) (start_of q h.table h.macros entry'))
+        → IsRenumbered (option_map (map (formed_as r p.number))) (StatesGoRest r p.number (start_of p g.table g.macros entry) (start_of q h.table h.macros entry')) (unit_over known (form_trees p.number 0 (forms_at_work p)) (start_of p g.table g.macros entry)) (unit_over known (form_trees q.number 0 (forms_at_work q)) (start_of q h.table h.macros entry'))
     unit_moved forms =
-        subst (λ ts. IsRenumbered (option_map (map (formed_as r p.number))) (StatesGoRest r p.number (start_of p g.table g.macros entry) (start_of q h.table h.macros entry')) (unit_over known (form_trees p.number 0 p.forms) (start_of p g.table g.macros entry)) (unit_over known ts (start_of q h.table h.macros entry'))) (sym forms)
-        (named_unit r o known p.number enough_turns (form_trees p.number 0 p.forms) _ _ begins)
+        subst (λ ts. IsRenumbered (option_map (map (formed_as r p.number))) (StatesGoRest r p.number (start_of p g.table g.macros entry) (start_of q h.table h.macros entry')) (unit_over known (form_trees p.number 0 (forms_at_work p)) (start_of p g.table g.macros entry)) (unit_over known ts (start_of q h.table h.macros entry'))) (sym forms)
+        (named_unit r o known p.number enough_turns (form_trees p.number 0 (forms_at_work p)) _ _ begins)
 
   module _ (w : IsOnto r) (g h : ScopedProgress) (moves : UnitMoves r p q g.table h.table) (so_far : ScopedProgressMoves r w g h) where
     scoped_begins : ScopedRest r w p.number (scoped_start_of p g entry) (scoped_start_of q h entry')
@@ -66,4 +66,4 @@ module _ (r : Renumbering) (o : IsOneToOne r) (known : Known) (p q : Prepared) (
     pub scoped_unit_moved : ScopedFormsMove r p q → IsRenumbered (option_map (map (formed_as r p.number))) (ScopedGoRest r w p.number (scoped_start_of p g entry) (scoped_start_of q h entry')) (scoped_unit_over known p (scoped_start_of p g entry)) (scoped_unit_over known q (scoped_start_of q h entry'))
     scoped_unit_moved forms =
         subst (λ ts. IsRenumbered (option_map (map (formed_as r p.number))) (ScopedGoRest r w p.number (scoped_start_of p g entry) (scoped_start_of q h entry')) (scoped_unit_over known p (scoped_start_of p g entry)) (unit (counted known) enough_turns [] ts (scoped_start_of q h entry'))) (sym forms)
-        (scoped_unit r o w known p.number enough_turns (forms_over (Written p.number) p.number 0 p.forms) _ _ scoped_begins)
+        (scoped_unit r o w known p.number enough_turns (forms_over (Written p.number) p.number 0 (forms_at_work p)) _ _ scoped_begins)

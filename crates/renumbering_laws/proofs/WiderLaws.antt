@@ -27,7 +27,7 @@ nowhere = record { first = 0; last = 0; start = 0; end = 0 }
 
 -- (define-library (a)), without declarations
 abbrev library : UnitSource
-library = record { kind = IsLibrary; name = Some (Symbol (codes "a") ∷ []); start = nowhere; forms = Ok [] }
+library = record { kind = IsLibrary; name = Some (Symbol (codes "a") ∷ []); start = nowhere; forms = Ok []; lost = [] }
 
 abbrev in_document : ℕ → Placed
 in_document n = record { document = n; source = library }

@@ -5,7 +5,7 @@ use Rattle.scheme_model.specs.Ident.{Written}
 use Rattle.scheme_model.specs.Substitution.{definition_count, Table}
 use Rattle.scheme_model.specs.Declarations.{UnitForm}
 use Rattle.scheme_model.specs.RulesShape.{option_map}
-use Rattle.scheme_model.specs.Program.{Prepared, Progress, is_program, form_trees, prelude_unit}
+use Rattle.scheme_model.specs.Program.{Prepared, Progress, is_program, form_trees, prelude_unit, forms_at_work}
 use Rattle.scheme_model.specs.ScopedProgram.{ScopedProgress, forms_over}
 use Rattle.renumbering_laws.specs.Renumbering.{Renumbering, ident, named_as, numbered_as}
 use Rattle.renumbering_laws.specs.States.{TablesMove, EntriesMove, MacrosMove, CountsOn}
@@ -45,7 +45,7 @@ form_as r f = record { datum = f.datum; declared = f.declared; home = option_map
 
 -- it has the same forms, under their new numbers
 abbrev pub FormsMove : Renumbering → Prepared → Prepared → Type 0
-FormsMove r p q = form_trees q.number 0 q.forms ≡ map (numbered_as r p.number (named_as r)) (form_trees p.number 0 p.forms)
+FormsMove r p q = form_trees q.number 0 (forms_at_work q) ≡ map (numbered_as r p.number (named_as r)) (form_trees p.number 0 (forms_at_work p))
 
 abbrev pub ScopedFormsMove : Renumbering → Prepared → Prepared → Type 0
-ScopedFormsMove r p q = forms_over (Written q.number) q.number 0 q.forms ≡ map (numbered_as r p.number (ident r)) (forms_over (Written p.number) p.number 0 p.forms)
+ScopedFormsMove r p q = forms_over (Written q.number) q.number 0 (forms_at_work q) ≡ map (numbered_as r p.number (ident r)) (forms_over (Written p.number) p.number 0 (forms_at_work p))

@@ -14,7 +14,7 @@ ghost use Rattle.scheme_model.specs.UnitExpansion.{unit};
 ghost use Rattle.scheme_model.specs.FormsAlike.{finish_by};
 ghost use Rattle.scheme_model.specs.Live.{NameUse};
 ghost use Rattle.scheme_model.specs.Entries.{Entry};
-ghost use Rattle.scheme_model.specs.Program.{Prepared, Progress, UnitResult, ExportSpec, names_of_unit, export_all, start_of, form_trees, unit_over, prelude_unit, progress_before};
+ghost use Rattle.scheme_model.specs.Program.{Prepared, Progress, UnitResult, ExportSpec, names_of_unit, export_all, start_of, form_trees, unit_over, prelude_unit, progress_before, forms_at_work};
 ghost use Rattle.scheme_model.specs.ScopedProgram.{ScopedProgress, scoped_start_of, scoped_unit_over, scoped_before};
 ghost use Rattle.scheme_model.specs.ProgramArrows.{program_leaves, program_keywords, arrows_with};
 ghost use Rattle.renumbering_laws.specs.Renumbering.{Renumbering, IsOneToOne, ident, named_as, result_as, left_as, parts_as, formed_as, numbered_as, IsRenumbered};
@@ -76,10 +76,10 @@ pub fn units_are_renumbered()
         IsRenumbered (option_map (map (formed_as r p.number))) (ScopedGoRest r w p.number (scoped_start_of p g entry) (scoped_start_of q h entry')) (scoped_unit_over known p (scoped_start_of p g entry)) (scoped_unit_over known q (scoped_start_of q h entry')) }
     ensures substituted { (r : Renumbering) (known : Known) (p q : Prepared) (g h : Progress) (entry entry' : Entries) →
         IsOneToOne r → UnitMoves r p q g.table h.table → FormsMove r p q → ProgressMoves r g h → EntriesMove r entry entry' →
-        IsRenumbered (option_map (map (formed_as r p.number))) (StatesGoRest r p.number (start_of p g.table g.macros entry) (start_of q h.table h.macros entry')) (unit_over known (form_trees p.number 0 p.forms) (start_of p g.table g.macros entry)) (unit_over known (form_trees q.number 0 q.forms) (start_of q h.table h.macros entry')) }
+        IsRenumbered (option_map (map (formed_as r p.number))) (StatesGoRest r p.number (start_of p g.table g.macros entry) (start_of q h.table h.macros entry')) (unit_over known (form_trees p.number 0 (forms_at_work p)) (start_of p g.table g.macros entry)) (unit_over known (form_trees q.number 0 (forms_at_work q)) (start_of q h.table h.macros entry')) }
     ensures prelude { (r : Renumbering) (w : IsOnto r) → IsOneToOne r → KeepsPrelude r → ScopedProgressMoves r w scoped_before scoped_before }
     ensures substituted_prelude { (r : Renumbering) → IsOneToOne r → KeepsPrelude r → ProgressMoves r progress_before progress_before }
-    ensures same_forms { (r : Renumbering) (p q : Prepared) → q.number ≡ r.unit p.number → q.forms ≡ map (form_as r) p.forms → ((n : ℕ) → r.form p.number n ≡ n) → FormsMove r p q × ScopedFormsMove r p q }
+    ensures same_forms { (r : Renumbering) (p q : Prepared) → q.number ≡ r.unit p.number → forms_at_work q ≡ map (form_as r) (forms_at_work p) → ((n : ℕ) → r.form p.number n ≡ n) → FormsMove r p q × ScopedFormsMove r p q }
 {}
 
 /// What a unit exports, and the faults of its exports, are the same, renumbered, where what it imports and what units define are (R7RS 5.6).

@@ -25,7 +25,7 @@ use Rattle.scheme_model.specs.Entries.{Entry}
 use Rattle.scheme_model.specs.Declarations.{UnitForm, home_of}
 use Rattle.scheme_model.specs.Includes.{Document}
 use Rattle.scheme_model.specs.IncludedUnits.{Placed}
-use Rattle.scheme_model.specs.Program.{known_in, units_of, prepare, Prepared, WholeFault, fault_before, SetResult, UnitResult, Progress, result_at, unit_entries, with_entries, form_trees, start_of, enough_turns, broken_result, unit_result, expanded_unit, by_fault, is_ready, first_ready, worked, work, written_rules, is_standard, prelude_unit, prelude_entry, prelude_meaning, prelude_macro, prelude_definitions, progress_before, in_order, program_of}
+use Rattle.scheme_model.specs.Program.{known_in, units_of, prepare, Prepared, WholeFault, fault_before, SetResult, UnitResult, Progress, result_at, unit_entries, with_entries, form_trees, start_of, enough_turns, broken_result, unit_result, expanded_unit, by_fault, is_ready, first_ready, worked, work, written_rules, is_standard, prelude_unit, prelude_entry, prelude_meaning, prelude_macro, prelude_definitions, progress_before, in_order, program_of, forms_at_work}
 use Rattle.scheme_model.specs.ScopedProgram.{ScopedProgress, forms_over, scoped_start_of, scoped_unit_over, numbered_unit_over, scoped_start_after, scoped_expanded, scoped_by_fault, scoped_worked, scoped_work, prelude_rules, scoped_prelude_macro, scoped_before, scoped_program_of, imaged_macro, imaged}
 use Rattle.scheme_model.proofs.RenamingLaws.{map_after}
 use Rattle.scheme_model.proofs.IdentKinds.{rules_kind, rules_fused}
@@ -195,27 +195,27 @@ module _ (known : Known) (g : ScopedProgress) (h : Between g) (p : Prepared) (ne
     pub start_unit : UnitState w known start
     start_unit = record { fine = start_fine; entries = entries_fit }
 
-    pub forms_held : AllOf (FormHeld w known start) (forms_over (Written p.number) p.number 0 p.forms)
-    forms_held = forms_all (UnitLeaf w known start) p.number (λ s. (tt, tt)) p.forms 0
+    pub forms_held : AllOf (FormHeld w known start) (forms_over (Written p.number) p.number 0 (forms_at_work p))
+    forms_held = forms_all (UnitLeaf w known start) p.number (λ s. (tt, tt)) (forms_at_work p) 0
 
-    pub forms_seen : map (form_seen (names start [])) (forms_over (Written p.number) p.number 0 p.forms) ≡ form_trees p.number 0 p.forms
-    forms_seen = forms_mapped (names start []) (Written p.number) p.number 0 p.forms ∙ forms_same p.number 0 p.forms
+    pub forms_seen : map (form_seen (names start [])) (forms_over (Written p.number) p.number 0 (forms_at_work p)) ≡ form_trees p.number 0 (forms_at_work p)
+    forms_seen = forms_mapped (names start []) (Written p.number) p.number 0 (forms_at_work p) ∙ forms_same p.number 0 (forms_at_work p)
 
     abbrev by_substitution : Option (List Formed) × State
-    by_substitution = unit (model known) enough_turns tt (form_trees p.number 0 p.forms) (start_of p g.table (map (imaged_macro g.places g.definitions) g.macros) entry)
+    by_substitution = unit (model known) enough_turns tt (form_trees p.number 0 (forms_at_work p)) (start_of p g.table (map (imaged_macro g.places g.definitions) g.macros) entry)
 
     -- by counts and by whole numbers alike
-    told_same : UnitSame w known enough_turns (forms_over (Written p.number) p.number 0 p.forms) start
-    told_same = counted_same w known enough_turns (forms_over (Written p.number) p.number 0 p.forms) start start_unit h.formed (locals_none w start g.macros (h.fine p.number new).macros) forms_held
+    told_same : UnitSame w known enough_turns (forms_over (Written p.number) p.number 0 (forms_at_work p)) start
+    told_same = counted_same w known enough_turns (forms_over (Written p.number) p.number 0 (forms_at_work p)) start start_unit h.formed (locals_none w start g.macros (h.fine p.number new).macros) forms_held
 
     abbrev by_numbers : Option (List Formed) × ScopedState
-    by_numbers = unit (scoped known) enough_turns [] (forms_over (Written p.number) p.number 0 p.forms) start
+    by_numbers = unit (scoped known) enough_turns [] (forms_over (Written p.number) p.number 0 (forms_at_work p)) start
 
     pub unit_same : AllFormed w known by_scopes by_substitution
     unit_same =
         subst (λ (q : Option (List Formed) × ScopedState). AllFormed w known q by_substitution) (sym told_same.same)
         (subst (AllFormed w known by_numbers) (ap (λ ts. unit (model known) enough_turns tt ts (start_of p g.table (map (imaged_macro g.places g.definitions) g.macros) entry)) forms_seen)
-        (unit_law w known enough_turns (forms_over (Written p.number) p.number 0 p.forms) start false [] start_unit forms_held))
+        (unit_law w known enough_turns (forms_over (Written p.number) p.number 0 (forms_at_work p)) start false [] start_unit forms_held))
 
     abbrev built : Option (List Formed) → State → Progress
     built forms s = record { table = s.table; macros = s.macros; entry = entry; results = unit_result p imports s.table forms ∷ g.results }

@@ -102,9 +102,12 @@ listed_rows limit ms ds = rows_of (listed_within limit (documents_from ms 0 ds))
 
 -- ---- whole programs
 
--- the diagnostics with these codes
-abbrev pub told_rows : (codes : List ℕ) → List (List Span) → List (ℕ × List ℕ × ℕ) → List (Option (List Datum)) → List Diagnostic
-told_rows cs spans ms ds = filter (λ (d : Diagnostic). list_any (λ c. c == d.code) cs) (diagnostics_of spans (program_of (documents_from ms 0 ds)))
+abbrev is_early : Diagnostic → Bool
+is_early d = list_any (λ c. c == d.code) (61 ∷ 66 ∷ 67 ∷ 68 ∷ 105 ∷ [])
+
+-- the diagnostics that are told before names are looked at
+abbrev pub told_early : List (List Span) → List (ℕ × List ℕ × ℕ) → List (Option (List Datum)) → List Diagnostic
+told_early spans ms ds = filter is_early (diagnostics_of spans (program_of (documents_from ms 0 ds)))
 
 abbrev pub told_diagnostics : List (List Span) → List (ℕ × List ℕ × ℕ) → List (Option (List Datum)) → List Diagnostic
 told_diagnostics spans ms ds = diagnostics_of spans (program_of (documents_from ms 0 ds))

@@ -169,6 +169,11 @@ pub data UnitKind : Type 0 where
   IsProgram : UnitKind
   IsPart : UnitKind
 
+abbrev pub is_part_kind : UnitKind → Bool
+is_part_kind IsLibrary = false
+is_part_kind IsProgram = false
+is_part_kind IsPart = true
+
 abbrev pub name_or : {B : Type 0} → Result LibraryName (Fault B) → Option LibraryName
 name_or (Ok n) = Some n
 name_or (Err e) = None

@@ -20,7 +20,7 @@ use Rattle.scheme_model.specs.UnitExpansion.{Formed, unit}
 use Rattle.scheme_model.specs.Prelude.{PreludeMacro, prelude}
 use Rattle.scheme_model.specs.StandardLibraries.{StandardLibrary, standard_libraries, standard}
 use Rattle.scheme_model.specs.Entries.{StandardName, Entry, entry_at, ImportSet, Library, Only, Except, Prefix, Rename, Bad, set_of, library_in, ImportFault, BadSet, entries_of, gather, place_origin}
-use Rattle.scheme_model.specs.Declarations.{UnitForm, unit_or, home_of, UnitKind, IsLibrary, IsProgram, IsPart, library_names, list_parts, is_headed}
+use Rattle.scheme_model.specs.Declarations.{UnitForm, unit_or, home_of, UnitKind, IsLibrary, IsProgram, IsPart, is_part_kind, library_names, list_parts, is_headed}
 use Rattle.scheme_model.specs.Includes.{Document, data_of, max_units}
 use Rattle.scheme_model.specs.IncludedUnits.{EarlyFault, OnCircle, BadAt, TooManyTokens, UnitSource, Placed, included_units}
 
@@ -373,12 +373,7 @@ with_entries n es before u s = if u == n then entry_meaning (entry_at es s) else
 
 -- the forms that are worked on in the unit; a part's are worked on where they are included
 abbrev pub forms_at_work : Prepared → List UnitForm
-forms_at_work p = unless_part p.placed.source.kind
-  where
-    unless_part : UnitKind → List UnitForm
-    unless_part IsLibrary = p.forms
-    unless_part IsProgram = p.forms
-    unless_part IsPart = []
+forms_at_work p = if is_part_kind p.placed.source.kind then [] else p.forms
 
 -- the forms that are expanded, which aren't declarations, each by its number and its home
 abbrev pub form_trees : ℕ → ℕ → List UnitForm → List (ℕ × Tree Name)
