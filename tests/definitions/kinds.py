@@ -648,7 +648,7 @@ class Answers(Arrows):
     head = head[:head.index("abbrev a :")].replace("\n\nabbrev s :", "\nuse Rattle.scheme_model.specs.Session.{Definition, References, Highlights, Prepare, Arrows}\nuse Rattle.scheme_model.specs.Answers.{Answer, Nothing, Places, Lit, Prepared, Drawn}\nuse Rattle.std.specs.Prelude.{true, false}\n\nabbrev s :", 1)
 
     def fits(self, row):
-        return "query" in row
+        return "query" in row and "answer" in row
 
     def lemma(self, row):
         data, spans = document_terms(row)
