@@ -12,7 +12,9 @@ use Rattle.scheme_model.specs.Substitution.{Defined, Table}
 use Rattle.scheme_model.specs.Requirements.{LibraryName}
 use Rattle.scheme_model.specs.Entries.{Entry, ImportFault, NotThere, Clash, BadSet}
 use Rattle.scheme_model.specs.Declarations.{UnitForm, UnitKind, IsLibrary, IsProgram}
-use Rattle.scheme_model.specs.Program.{Placed, Prepared, ExportSpec, WholeFault, whole_code, SetResult, Unknown, Faulty, Gives, ExportFault, NotDefined, SameExport, UnitResult, Program, specs_in, has_name, names_of_unit, max_units}
+use Rattle.scheme_model.specs.Includes.{max_units}
+use Rattle.scheme_model.specs.IncludedUnits.{Placed}
+use Rattle.scheme_model.specs.Program.{Prepared, ExportSpec, WholeFault, whole_code, SetResult, Unknown, Faulty, Gives, ExportFault, NotDefined, SameExport, UnitResult, Program, specs_in, has_name, names_of_unit}
 use Rattle.scheme_model.specs.Live.{NameUse}
 use Rattle.scheme_model.specs.Spelling.{second_places}
 use Rattle.scheme_model.specs.ProgramArrows.{program_table, unit_names}

@@ -12,3 +12,9 @@ pub mod AnswerRows
 pub mod UnitDiagnosticRows
 pub mod UnitArrowRows
 pub mod UnitRows
+pub mod IncludedRows
+pub mod EarlyRows
+pub mod ToldRows
+pub mod ToldArrowRows
+pub mod ToldClassRows
+pub mod ToldAnswerRows

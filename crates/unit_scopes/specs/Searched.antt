@@ -14,7 +14,7 @@ use Rattle.scheme_model.specs.UnitExpansion.{Formed, ◌then◌, LeftOf, passes,
 use Rattle.scheme_model.specs.Substitution.{any, unchanged}
 use Rattle.scheme_model.specs.ScopedExpansion.{Frames, FramedIdent, ScopedState, body_around, definition_added, meaning_next, is_defined}
 use Rattle.scheme_model.specs.CountedExpansion.{refused_here, counted}
-use Rattle.scheme_model.specs.Program.{Prepared, enough_turns}
+use Rattle.scheme_model.specs.Program.{Prepared, forms_at_work, enough_turns}
 use Rattle.scheme_model.specs.ScopedProgram.{forms_over}
 use Rattle.unit_scopes.specs.Asks.{is_inside}
 
@@ -36,7 +36,7 @@ searched known = record (counted known) { define = λ n r fs p s. define_searche
 
 -- the forms of a unit that are expanded, with their numbers
 abbrev pub forms_of : Prepared → List (ℕ × Tree Ident)
-forms_of p = forms_over (Written p.number) p.number 0 p.forms
+forms_of p = forms_over (Written p.number) p.number 0 (forms_at_work p)
 
 abbrev pub searched_unit_over : Known → Prepared → ScopedState → Option (List Formed) × ScopedState
 searched_unit_over known p s = unit (searched known) enough_turns [] (forms_of p) s
