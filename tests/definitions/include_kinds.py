@@ -233,7 +233,7 @@ class Held(Told):
     module = "HeldRows"
     says = "Documents that include one another, and which units hold an occurrence, from outside."
     unfolding = kinds.Workspaces.unfolding
-    head = kinds.Workspaces.head.replace("Rattle.scheme_model.proofs.Shown.{hole, FaultRow, FormRow, UnitRow, unit_rows}", "Rattle.rename_model.proofs.SameShown.{held_rows}")
+    head = rename_kinds.HEAD.replace("CALLED", "held_rows")
 
     def fits(self, row):
         return "held" in row
