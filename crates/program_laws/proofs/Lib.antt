@@ -9,9 +9,10 @@ pub mod Runs  -- The forms of a body or a unit are gone through within the turns
 pub mod Expressions  -- Expressions are expanded within the turns
 pub mod Units  -- The forms of a unit are gone through and expanded within the turns
 pub mod Model  -- The operations that substitute count macro uses alone, and keep trees as large as they are
-pub mod Declared  -- The forms of a unit are no larger than the data of its document
+pub mod Declared  -- The forms of a unit are no larger than the data of the documents
 pub mod Programs  -- The forms of a program's units come to their ends within the turns
 pub mod Codes  -- No diagnostic has the code of a fault that comes of the turns alone
 pub mod Results  -- Each unit has a result
 pub mod Written  -- A datum that was read from a text has at most two nodes for each token of the text
 pub mod Texts  -- A text has at most as many tokens as characters, so its data are no larger than twice the text
+mod Parts  -- Nothing comes of the program of a text that others include but its forms, and nothing is told of it

@@ -8,6 +8,7 @@ ghost use Rattle.scheme_model.specs.Diagnostics.{Diagnostic, Span, diagnostics_o
 ghost use Rattle.datum_reader.specs.Texts.{IsReading};
 ghost use Rattle.program_laws.specs.Circles.{IsClosed};
 ghost use Rattle.program_laws.specs.Texts.{IsOfText};
+ghost use Rattle.program_laws.specs.Parts.{TellsNothing};
 ghost use Rattle.program_laws.specs.Turns.{Each, datum_size, AreBounded, IsDone};
 
 /// What units import, directly or not, is closed (R7RS 5.6): a unit that one of them imports is one of them.
@@ -34,4 +35,10 @@ pub fn texts_are_bounded()
 pub fn turns_suffice()
     ensures forms { (ds : List Document) → AreBounded ds → Each (λ (u : UnitResult). Each (λ (f : Formed). IsDone f.result) u.forms) (program_of ds).units }
     ensures codes { (spans : List (List Span)) (ds : List Document) → AreBounded ds → Each (λ (d : Diagnostic). d.code ≡ 0 → ⊥) (diagnostics_of spans (program_of ds)) }
+{}
+
+/// Nothing comes of the program of a text that others include but its forms (R7RS 4.1.7), whatever the documents are: no import, definition
+/// or export, and nothing is told of it unless it is broken as a whole. What its forms come to is the units' that include it.
+pub fn parts_tell_nothing()
+    ensures { (spans : List (List Span)) (ds : List Document) → Each (TellsNothing spans (program_of ds)) (program_of ds).units }
 {}

@@ -62,5 +62,5 @@ pub mod CountedUnits  -- A unit expanded by counts is the unit expanded by whole
 pub mod FramePrograms  -- The law of programs
 pub mod Shown  -- Forms in the notation of rows
 pub mod IncludeLaws  -- An included text stands in the place of the list that includes it
-pub mod ShownIncludes  -- Units that include texts in the notation of rows
+pub mod ShownIncludes  -- Programs of texts that include others in the notation of rows
 pub mod rows  -- The definitions on worked rows

@@ -41,7 +41,7 @@ pub mod OwnAnswers  -- What a form answers itself
 pub mod Questions  -- What the expansion of a form asks of what is around it, each question at its moment
 pub mod FormsAlike  -- What a form of a unit comes to, and what it asks
 pub mod Entries  -- Import sets, and the names that they give (R7RS 5.2, 5.6)
-pub mod Declarations  -- What a document holds (R7RS 5.1, 5.6.1)
+pub mod Declarations  -- What stands in a document (R7RS 5.1, 5.6.1)
 pub mod Includes  -- Lists that include other texts (R7RS 4.1.7, 5.6.1), which documents name which, and which of them are parts of others
 pub mod Included  -- What texts give where they are included (R7RS 4.1.7, 5.6.1)
 pub mod IncludedUnits  -- The units of documents that include texts (R7RS 4.1.7, 5.1, 5.6.1)
