@@ -1,23 +1,23 @@
 -- The class that a rename takes in open documents is by links alone.
-use Rattle.std.proofs.Common.{◌≡◌, ℕ, List, [], map, true, false, sym, subst}
+use Rattle.std.proofs.Common.{◌≡◌, ℕ, List, [], true, false, sym, subst}
 use Rattle.scheme_model.specs.declared.Occ.{Occ}
 use Rattle.scheme_model.specs.Spelling.{is_joined, is_member, class_of}
 use Rattle.scheme_model.proofs.FrameAsks.{AllOf}
 use Rattle.arrow_index.proofs.ClassLaws.{member_in}
 use Rattle.text_edits.specs.Members.{is_part}
-use Rattle.rename_conditions.specs.Readers.{Reader, document_in}
-use Rattle.rename_conditions.specs.Opened.{Opened, opened, class_in}
+use Rattle.rename_conditions.specs.Readers.{Reader}
+use Rattle.rename_conditions.specs.Opened.{Opened, documents_read, opened, class_in}
 use Rattle.class_laws.specs.Joined.{AreJoined}
 use Rattle.class_laws.proofs.LinkOrigins.{IsTarget, LinkHas, origins_lead}
 use Rattle.class_laws.proofs.ClassMembers.{joined_member, all_joined, of_filter, parts_are_joined, class_whole, class_none}
 use Rattle.class_laws.proofs.ProgramSpelled.{program_spelled}
 
-module _ (r : Reader) (texts : List (List ℕ)) where
+module _ (r : Reader) (uris texts : List (List ℕ)) where
   abbrev w : Opened
-  w = opened r texts
+  w = opened r uris texts
 
   lead : AllOf (LinkHas (IsTarget w.links)) w.links
-  lead = origins_lead w.units w.program (program_spelled (map document_in (map r.read texts)))
+  lead = origins_lead w.units w.program (program_spelled (documents_read r uris texts))
 
   pub opened_prefixed : (o : Occ) → is_part w.links o ≡ is_joined w.links o
   opened_prefixed o = parts_are_joined w.links lead o

@@ -205,7 +205,7 @@ accepted r w at new es h =
       apart = apart_told w.links (place_of w) (class_in w o) (ordered_none bytes_before _ (first_none (clashes w o) (unless_told (first_of (clashes w o)) PrefixClash f.1)));
       whole = first_none (errors_in_reach w o) (unless_told (first_of (errors_in_reach w o)) broken g.1);
       fit = fit_told 0 (edited_in w o whole) (subst (λ (q : List ℕ). first_too_long 0 (edited_in w o q) ≡ None) stem.is (unless_told (first_too_long 0 (edited_in w o e.0)) TooLong i.1));
-      same = (none_is_same w.units w.program (program_read r (edited_in w o whole)) (plan_in w o whole) (reach_in w o)).0
+      same = (none_is_same w.units w.program (program_read r w.uris (edited_in w o whole)) (plan_in w o whole) (reach_in w o)).0
           (subst (λ (q : List ℕ). difference_by r w o q ≡ None) stem.is (unless_told (difference_by r w o e.0) Differs j.1));
       edits = subst (λ (q : List ℕ). es ≡ told_edits (edits_in w o q)) stem.is (ok_same es (told_edits (edits_in w o e.0)) j.2);
     }
@@ -232,7 +232,7 @@ accepts r w at new es h =
     (then_ok (unless (first_too_long 0 (edited_in w o stem)) TooLong) tt _ es
     (told_unless (first_too_long 0 (edited_in w o stem)) TooLong (told_fit 0 (edited_in w o stem) h.fit))
     (then_ok (unless (difference_by r w o stem) Differs) tt _ es
-    (told_unless (difference_by r w o stem) Differs ((none_is_same w.units w.program (program_read r (edited_in w o stem)) (plan_in w o stem) (reach_in w o)).1 h.same))
+    (told_unless (difference_by r w o stem) Differs ((none_is_same w.units w.program (program_read r w.uris (edited_in w o stem)) (plan_in w o stem) (reach_in w o)).1 h.same))
     (ap (λ (q : List DocEdits). Ok q) (sym h.edits))))))))))
 
 pub accepted_exactly : (r : Reader) (w : Opened) (at : Option Occ) (new : List ℕ) (es : List DocEdits) → rename_in r w at new ≡ Ok es ↔ IsAccepted r w at new es

@@ -11,6 +11,7 @@ use Rattle.scheme_tokens.proofs.NameLaws.{names}
 use Rattle.scheme_tokens.proofs.Same.Reading.{identifier_told, identifier_read}
 use Rattle.datum_reader.proofs.ReadLaws.{one_reading}
 use Rattle.datum_reader.proofs.TokensSeen.{text_once}
+use Rattle.included_documents.specs.Meant.{meant}
 use Rattle.text_edits.specs.NewNames.{span_of}
 use Rattle.text_edits.proofs.SymbolLaws.{one_symbol}
 use Rattle.rename_conditions.specs.Readers.{Reading, Reader, ReadsAs, IsSymbolOf, IsReader}
@@ -68,8 +69,8 @@ symbol_told text (Some cs) e = by (all_scalars cs) refl
 
 pub reader_is_there : (r : Reader) × IsReader r
 reader_is_there = (
-  record { read = read.texts_are_read.0; symbol = symbol_in },
-  record { reads = read.texts_are_read.1; names = λ text. symbol_told text (name_read (token (chars text))) refl },
+  record { read = read.texts_are_read.0; symbol = symbol_in; meant = meant },
+  record { reads = read.texts_are_read.1; names = λ text. symbol_told text (name_read (token (chars text))) refl; means = λ uris document string. refl },
 )
 
 -- ---- one at most
@@ -93,4 +94,5 @@ pub readers_are_one : (r s : Reader) → IsReader r → IsReader s → r ≡ s
 readers_are_one r s h k = λ i. record {
   read = λ text. same_read text (r.read text) (s.read text) (h.reads text) (k.reads text) i;
   symbol = λ text. same_symbol text (r.symbol text) (s.symbol text) (h.names text) (k.names text) i;
+  meant = λ uris document string. (h.means uris document string ∙ sym (k.means uris document string)) i;
 }

@@ -112,12 +112,12 @@ read_among [] text = None
 read_among (p ∷ ps) text = if bytes_eq p.0 text then Some p.1 else read_among ps text
 
 abbrev reader : List (List ℕ × Reading) → Option (List ℕ) → Reader
-reader readings symbol = record { read = read_among readings; symbol = λ name. symbol }
+reader readings symbol = record { read = read_among readings; symbol = λ name. symbol; meant = λ uris document string. None }
 
 -- a rename to a name that is this symbol, where texts read so
 abbrev pub rename_rows : List (List ℕ × Reading) → Option (List ℕ) → List (List ℕ) → (document offset : ℕ) → List ℕ → Told
 rename_rows readings symbol texts document offset new =
-    let w = opened (reader readings symbol) texts in
+    let w = opened (reader readings symbol) [] texts in
     let at = name_in w.readings w document offset in
     told (place_of w) (rename_in (reader (readings ++ edited_readings w at symbol) symbol) w at new)
   where

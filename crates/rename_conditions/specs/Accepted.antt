@@ -26,5 +26,5 @@ pub record IsAccepted (r : Reader) (w : Opened) (at : Option Occ) (new : List �
   pub apart : (n : ℕ) (o : Occ) → slice_get (class_in w occ) n ≡ Some o → length (prefixes_of w.links o []) ≤ 1
   pub whole : errors_in_reach w occ ≡ []
   pub fit : (n : ℕ) (text : List ℕ) → slice_get (edited_in w occ (first ∷ rest)) n ≡ Some text → length text ≤ max_text
-  pub same : IsSame w.units w.program (program_read r (edited_in w occ (first ∷ rest))) (plan_in w occ (first ∷ rest)).exports (reach_in w occ)
+  pub same : IsSame w.units w.program (program_read r w.uris (edited_in w occ (first ∷ rest))) (plan_in w occ (first ∷ rest)).exports (reach_in w occ)
   pub edits : es ≡ told_edits (edits_in w occ (first ∷ rest))

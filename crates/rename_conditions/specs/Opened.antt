@@ -5,33 +5,44 @@ use Rattle.std.specs.List.{flat_map}
 use Rattle.scheme_model.specs.declared.Occ.{Occ}
 use Rattle.scheme_model.specs.Diagnostics.{Bytes, Span, bytes_of}
 use Rattle.scheme_model.specs.Entries.{Entry}
-use Rattle.scheme_model.specs.Program.{Placed, UnitResult, Program, program_of, units_of}
+use Rattle.scheme_model.specs.Includes.{Document}
+use Rattle.scheme_model.specs.IncludedUnits.{Placed}
+use Rattle.scheme_model.specs.Program.{UnitResult, Program, program_of, units_of}
 use Rattle.scheme_model.specs.Spelling.{Link, links_of, class_of, is_member}
 use Rattle.rename_model.specs.Reach.{in_reach}
 use Rattle.rename_model.specs.SameProgram.{ExportChange, Plan, external_occ}
 use Rattle.text_edits.specs.Edits.{Edit, edited}
 use Rattle.text_edits.specs.Members.{class_edits, is_part, member_of}
-use Rattle.rename_conditions.specs.Readers.{Reading, Reader, document_in, spans_in}
+use Rattle.rename_conditions.specs.Readers.{Reading, Reader, data_in, spans_in}
 
--- the texts in the order of their documents, how each reads, and their program with its links
+-- the uris and the texts of documents in their order, how each reads, and their program with its links
 pub record Opened : Type 0 where
+  pub uris : List (List ℕ)
   pub texts : List (List ℕ)
   pub readings : List (Option Reading)
   pub units : List Placed
   pub program : Program
   pub links : List Link
 
-abbrev pub program_read : Reader → List (List ℕ) → Program
-program_read r texts = program_of (map (λ text. document_in (r.read text)) texts)
+-- documents from a number on, by what strings mean in each
+abbrev pub documents_from : (ℕ → List ℕ → Option ℕ) → ℕ → List (Option Reading) → List Document
+documents_from meant n [] = []
+documents_from meant n (r ∷ rs) = record { read = data_in r; meant = meant n } ∷ documents_from meant (suc n) rs
 
-abbrev pub opened : Reader → List (List ℕ) → Opened
-opened r texts =
-    let readings = map r.read texts in
-    let documents = map document_in readings in
+abbrev pub documents_read : Reader → (uris : List (List ℕ)) → List (List ℕ) → List Document
+documents_read r uris texts = documents_from (r.meant uris) 0 (map r.read texts)
+
+abbrev pub program_read : Reader → (uris : List (List ℕ)) → List (List ℕ) → Program
+program_read r uris texts = program_of (documents_read r uris texts)
+
+abbrev pub opened : Reader → (uris : List (List ℕ)) → List (List ℕ) → Opened
+opened r uris texts =
+    let documents = documents_read r uris texts in
     let units = units_of documents in
     let program = program_of documents in record {
+      uris = uris;
       texts = texts;
-      readings = readings;
+      readings = map r.read texts;
       units = units;
       program = program;
       links = links_of units program;

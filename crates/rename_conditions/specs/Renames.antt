@@ -79,7 +79,7 @@ first_too_long n (text ∷ texts) = if nat_lt max_text (length text) then Some n
 
 -- the first difference of the program that the edited texts are
 abbrev pub difference_by : Reader → Opened → Occ → (stem : List ℕ) → Option Difference
-difference_by r w o stem = first_difference w.units w.program (program_read r (edited_in w o stem)) (plan_in w o stem)
+difference_by r w o stem = first_difference w.units w.program (program_read r w.uris (edited_in w o stem)) (plan_in w o stem)
 
 -- ---- in their order
 
@@ -111,6 +111,6 @@ rename_in r w at new =
     Ok (told_edits (edits_in w o stem))
 
 -- a rename of the identifier at an offset of a document
-abbrev pub rename : Reader → List (List ℕ) → (document offset : ℕ) → (new : List ℕ) → Result (List DocEdits) Refusal
-rename r texts document offset new =
-    let w = opened r texts in rename_in r w (name_at (map spans_in w.readings) w.program.units document offset) new
+abbrev pub rename : Reader → (uris : List (List ℕ)) → List (List ℕ) → (document offset : ℕ) → (new : List ℕ) → Result (List DocEdits) Refusal
+rename r uris texts document offset new =
+    let w = opened r uris texts in rename_in r w (name_at (map spans_in w.readings) w.program.units document offset) new
