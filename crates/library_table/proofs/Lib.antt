@@ -17,7 +17,6 @@ mod RequirementRows  -- Requirements as they are read
 mod FlatRows  -- Declarations as they are flattened
 mod ClauseRows  -- The clauses of `cond-expand` as they are read
 mod ChoiceRows  -- The clauses of a `cond-expand` one after another
-mod HomeLaws  -- The form with a number of a unit holds what the form at that place does
 mod LibraryRows  -- The library that a datum is, by its parts
 mod PlaceLaws  -- The turns of any graph are its places, each of them once; and so are the places of names that stand twice
 mod ProperNames  -- Names that are read are proper

@@ -1,13 +1,12 @@
 //! Units as they are read from texts (R7RS 5.1, 5.6.1), before anything is expanded.
 ghost use Rattle.std.specs.Prelude.{◌≡◌};
-ghost use Rattle.scheme_model.specs.Declarations.{forms_hold, home_of, is_token_of};
-ghost use Rattle.datum_reader.specs.Views.{datum_of};
-ghost use Rattle.library_table.specs.UnitsRead.{form_of, forms_of};
+ghost use Rattle.scheme_model.specs.Declarations.{home_of};
+ghost use Rattle.library_table.specs.UnitsRead.{form_of};
 
 use datum_reader::Datum;
 use import_sets::{ImportSet, SetName};
 use ls_base::{Items, Span, Text};
-use scheme_model::{Home, Occ};
+use scheme_model::Home;
 use syntax_tree::units::UnitKind;
 
 /// An import set, with a unit of the document where it stands, and the bytes of the set, of the set inside its outermost modifier,
@@ -51,27 +50,6 @@ impl UnitForm {
                 first: self.datum.first,
             },
         }
-    }
-
-    /// Whether an occurrence is that of a token of the form, which has this number in a unit.
-    fn holds(&self, unit: u32, number: u32, occ: Occ) -> bool
-        ensures { result ≡ is_token_of (home_of unit number (form_of self.now)) (datum_of self.now.datum) occ }
-    {
-        let home = self.home_in(unit, number);
-        let token = home.first as usize + occ.token as usize;
-        home.unit == occ.unit
-            && (home.form == occ.form
-                && (self.datum.first as usize <= token && token <= self.datum.last as usize))
-    }
-}
-
-/// Whether an occurrence is that of a token of the form with this number of a unit with these forms.
-pub fn form_holds(unit: u32, forms: &[UnitForm], number: u32, occ: Occ) -> bool
-    ensures { result ≡ forms_hold unit (forms_of forms.now) number occ }
-{
-    match forms.get(number as usize) {
-        Some(form) => form.holds(unit, number, occ),
-        None => false,
     }
 }
 

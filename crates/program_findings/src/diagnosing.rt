@@ -24,6 +24,7 @@ ghost use Rattle.document_units.specs.Places.{AreFoundIn, ArePlaces, CanPlace, s
 ghost use Rattle.program_findings.specs.StandIn.{StandIn};
 ghost use Rattle.program_findings.specs.Unbound.{IsUnbound};
 
+use crate::homes::form_holds;
 use crate::unbound::unbound;
 use core_tree::cores::Target;
 use core_tree::traces::FormFault;
@@ -35,7 +36,6 @@ use document_units::listing::WholeFault;
 use document_units::places::Places;
 use document_units::wording::message;
 use library_table::UnitForm as SourceForm;
-use library_table::units::form_holds;
 use ls_base::Mem;
 use scheme_model::Occ;
 use std::alloc::Global;

@@ -2,5 +2,6 @@
 #![tactic(auto)]
 
 pub mod diagnosing;
+mod homes;
 pub mod sorted_findings;
 mod unbound;

@@ -1,7 +1,7 @@
 -- The form at the number's place, if there is one.
 use Rattle.std.proofs.Common.{sym, ◌∙◌}
-use Rattle.library_table.proofs.HomeLaws.{form_there, no_form}
-use Rattle.library_table.proofs.units.form_holds.Goals as goal
+use Rattle.program_findings.proofs.HomeLaws.{form_there, no_form}
+use Rattle.program_findings.proofs.homes.form_holds.Goals as goal
 
 pub returns-in-Some : goal.returns-in-Some
 returns-in-Some c = c.holds.ensures ∙ form_there c.args.unit c.args.forms.now c.args.number c.in-Some.form.now c.args.occ (sym c.in-Some.ensures.lookup.0) c.in-Some.ensures.lookup.1
