@@ -301,7 +301,7 @@ What is open is what the others are about, so all are asked for again."
     (scheme-ls-arrows-mode (if (eglot-managed-p) 1 -1))
     (unless (eglot-managed-p) (scheme-ls--settle-all))))
 
-;;;; Which libraries a text names
+;;;; Which libraries and texts a text names
 
 (defun scheme-ls--skip-block ()
   "Move behind the comment between #| and |# at point.  Such comments nest."
@@ -327,11 +327,11 @@ What is open is what the others are about, so all are asked for again."
 
 (defun scheme-ls--token ()
   "Move behind the token at point.
-Answer `(' for lists and vectors, a quotation mark for strings, the name for
+Answer `(' for lists and vectors, a string without its last mark, the name for
 names, and else what is written."
   (let ((start (point)))
     (cond ((looking-at "#[[:alnum:]]*(") (goto-char (match-end 0)) "(")
-          ((looking-at "\"") (scheme-ls--skip-quoted) "\"")
+          ((looking-at "\"") (scheme-ls--skip-quoted) (buffer-substring-no-properties start (1- (point))))
           ((looking-at "|") (scheme-ls--skip-quoted) (buffer-substring-no-properties (1+ start) (1- (point))))
           ((looking-at "#;\\|[()'`,]") (goto-char (match-end 0)) (match-string-no-properties 0))
           (t (goto-char (min (point-max) (+ start (if (looking-at "#\\\\") 3 1))))
@@ -367,15 +367,16 @@ It is nil where no file has that name, and for (scheme ..)."
        (string-join (cdr set) "/")))
 
 (defun scheme-ls--scan ()
-  "The libraries that the text imports and defines, as (IMPORTS . DEFINES).
-It is nil where an import has no end.  Every list that is headed by `import' or
-`define-library' counts, wherever it stands, but those in comments, in strings
-and behind `#;' don't."
+  "What the text imports, includes and defines, as (IMPORTS INCLUDES . DEFINES).
+Imports and definitions are libraries, what is included are strings.  It is nil
+where one of these lists has no end.  Every list that is headed by `import',
+`define-library', `include' or `include-library-declarations' counts, wherever
+it stands, but those in comments, in strings and behind `#;' don't."
   (save-excursion
     (save-restriction
       (widen)
       (goto-char (point-min))
-      (let ((case-fold-search nil) imports defines)
+      (let ((case-fold-search nil) imports includes defines)
         (catch 'unfinished
           (while (re-search-forward "[(\";|]\\|#[|;\\\\]" nil t)
             (goto-char (match-beginning 0))
@@ -385,16 +386,21 @@ and behind `#;' don't."
                    (let ((start (point)) word)
                      (forward-char)
                      (scheme-ls--skip)
-                     (when (looking-at "import\\|define-library")
+                     (when (looking-at "import\\|define-library\\|include")
                        (setq word (scheme-ls--token)))
                      (cond ((equal word "import")
                             (goto-char start)
                             (dolist (set (nthcdr 2 (or (scheme-ls--read) (throw 'unfinished nil))))
                               (push (scheme-ls--library set) imports)))
+                           ((member word '("include" "include-library-declarations"))
+                            (goto-char start)
+                            (dolist (name (nthcdr 2 (or (scheme-ls--read) (throw 'unfinished nil))))
+                              (when (and (stringp name) (string-prefix-p "\"" name))
+                                (push (substring name 1) includes))))
                            ((equal word "define-library")
                             (push (scheme-ls--library (scheme-ls--read)) defines)))))
                   (t (scheme-ls--token))))
-          (cons (delq nil (nreverse imports)) (delq nil defines)))))))
+          (cons (delq nil (nreverse imports)) (cons (nreverse includes) (delq nil defines))))))))
 
 ;;;; What the server has open
 
@@ -504,12 +510,12 @@ would end it."
   (when (eql type 1)
     (display-warning 'scheme-ls message :error)))
 
-;;;; The files of libraries
+;;;; The files of libraries and of texts that are included
 
-(cl-defstruct scheme-ls--file stamp taken imports)
+(cl-defstruct scheme-ls--file stamp taken imports includes)
 
 (defvar scheme-ls--files (make-hash-table :test #'equal)
-  "By path when a file was read, whether the server takes it, and its imports.")
+  "By path when a file was read, whether the server takes it, and what it names.")
 
 (defun scheme-ls--find (library folder roots)
   "The file of LIBRARY, looked for upwards from FOLDER and then in ROOTS."
@@ -524,13 +530,27 @@ would end it."
                  for path = (expand-file-name name root)
                  when (file-regular-p path) return path))))
 
+(defun scheme-ls--included (name folder)
+  "The file that the string NAME means in a text of FOLDER, if there is one.
+The server joins it to the text's uri."
+  (unless (string-match-p "[\\?#\0]\\|\\`//" name)
+    (let ((path (cond ((string-prefix-p "file:///" name) (substring name 7))
+                      ((string-match-p "\\`[[:alpha:]][-+.[:alnum:]]*:" name) nil)
+                      (t name))))
+      (when path
+        (when (string-search "%" path)
+          (setq path (decode-coding-string (url-unhex-string (encode-coding-string path 'utf-8)) 'utf-8)))
+        (setq path (expand-file-name path folder))
+        (and (file-regular-p path) path)))))
+
 (defun scheme-ls--read-file (path)
-  "The text of the file PATH and its imports, if it is one that the server takes."
+  "The text of the file PATH and what it names, as (TEXT IMPORTS INCLUDES ..).
+It is nil unless the server takes the file."
   (ignore-errors
     (with-temp-buffer
       (insert-file-contents path)
       (unless (or (scheme-ls--long-p) (re-search-forward "[\x3fff80-\x3fffff]" nil t))
-        (cons (buffer-string) (car (scheme-ls--scan)))))))
+        (cons (buffer-string) (scheme-ls--scan))))))
 
 (defun scheme-ls--look-into (path)
   "What is known of the file PATH, read anew where it has changed."
@@ -540,56 +560,63 @@ would end it."
     (unless (and file (equal stamp (scheme-ls--file-stamp file)))
       (let ((read (and (<= (nth 1 stamp) (* 2 scheme-ls--limit)) (scheme-ls--read-file path))))
         (unless read (scheme-ls--tell "%s isn't opened: it is longer than 1 MiB, or isn't UTF-8" path))
-        (setq file (make-scheme-ls--file :stamp stamp :taken (and read t) :imports (cdr read)))
+        (setq file (make-scheme-ls--file :stamp stamp :taken (and read t) :imports (nth 1 read) :includes (nth 2 read)))
         (puthash path file scheme-ls--files)))
     file))
 
 (defun scheme-ls--look-at ()
-  "Look at this buffer for imports, where it has changed.
-Answer whether they are others than they were."
+  "Look at this buffer for what it names, where it has changed.
+Answer whether that is other than it was."
   (let ((tick (buffer-chars-modified-tick)) (old (cdr scheme-ls--known)))
     (unless (eql tick (car scheme-ls--known))
       (setq scheme-ls--known (cons tick (or (scheme-ls--scan) old)))
       (not (equal old (cdr scheme-ls--known))))))
 
 (defun scheme-ls--beginnings (server found)
-  "The folders and imports of the buffers that SERVER has open.
+  "The buffers that SERVER has open, each as (FOLDER IMPORTS . INCLUDES).
 What they define, and their uris, are put into the table FOUND."
   (let (beginnings)
     (maphash (lambda (uri document)
                (when (bufferp document)
                  (puthash uri t found)
                  (with-current-buffer document
-                   (dolist (library (cddr scheme-ls--known)) (puthash library t found))
+                   (dolist (library (nthcdr 3 scheme-ls--known)) (puthash library t found))
                    (push (cons (file-name-directory buffer-file-name)
-                               (unless (file-remote-p buffer-file-name) (cadr scheme-ls--known)))
+                               (unless (file-remote-p buffer-file-name)
+                                 (cons (nth 1 scheme-ls--known) (nth 2 scheme-ls--known))))
                          beginnings))))
              (scheme-ls--documents server))
     (nreverse beginnings)))
 
 (defun scheme-ls--wanted (server)
   "The files that SERVER has to have open, as (FULL (URI . PATH)..), as found.
-They are those of the libraries that its buffers import, and of those that
-these import, as many as there is room for; FULL is whether there were more.
-Of each library it is one file, and none where a buffer has the library."
+They are those of the libraries that its buffers import, those that they
+include, and what these import and include, as many as there is room for; FULL
+is whether there were more.  Of each library it is one file, and none where a
+buffer has the library."
   (let* ((found (make-hash-table :test #'equal))
          (queue (scheme-ls--beginnings server found))
          (room (- scheme-ls--most (length queue)))
          (project (eglot--project server))
          (roots (append (unless (eq (car-safe project) 'scheme-ls) (list (project-root project))) scheme-ls-roots))
          full wanted)
-    (while queue
-      (pcase-let ((`(,folder . ,imports) (pop queue)))
-        (dolist (library imports)
-          (when-let* ((path (and (not (gethash library found)) (scheme-ls--find library folder roots)))
-                      (uri (eglot--path-to-uri path)))
-            (puthash library t found)
-            (let ((file (unless (gethash uri found) (scheme-ls--look-into path))))
-              (puthash uri t found)
-              (cond ((not (and file (scheme-ls--file-taken file))))
-                    ((>= (length wanted) room) (setq full t))
-                    (t (push (cons uri path) wanted)
-                       (setq queue (append queue (list (cons (file-name-directory path) (scheme-ls--file-imports file))))))))))))
+    (cl-flet ((take (path)
+                (let* ((uri (eglot--path-to-uri path))
+                       (file (unless (gethash uri found) (scheme-ls--look-into path))))
+                  (puthash uri t found)
+                  (cond ((not (and file (scheme-ls--file-taken file))))
+                        ((>= (length wanted) room) (setq full t))
+                        (t (push (cons uri path) wanted)
+                           (setq queue (append queue (list `(,(file-name-directory path) ,(scheme-ls--file-imports file)
+                                                             . ,(scheme-ls--file-includes file))))))))))
+      (while queue
+        (pcase-let ((`(,folder ,imports . ,includes) (pop queue)))
+          (dolist (name includes)
+            (when-let* ((path (scheme-ls--included name folder))) (take path)))
+          (dolist (library imports)
+            (when-let* ((path (and (not (gethash library found)) (scheme-ls--find library folder roots))))
+              (puthash library t found)
+              (take path))))))
     (cons full (nreverse wanted))))
 
 (defun scheme-ls--open-file (server uri path)
@@ -621,7 +648,7 @@ Answer whether anything was sent."
       (when (scheme-ls--open-file server uri path) (setq changed t)))
     (setf (scheme-ls--libraries server) (nreverse (mapcar #'car wanted)))
     (when (and full (not (scheme-ls--full server)))
-      (scheme-ls--tell "not all libraries that are imported are open: the server takes %d files" scheme-ls--most))
+      (scheme-ls--tell "not all that is imported and included is open: the server takes %d files" scheme-ls--most))
     (setf (scheme-ls--full server) full)
     (when changed
       (scheme-ls--after-change)

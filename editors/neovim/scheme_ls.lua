@@ -1,4 +1,4 @@
--- Scheme in Neovim by scheme_ls: starts the server for Scheme files, opens the libraries that they import, and draws the arrows of the
+-- Scheme in Neovim by scheme_ls: starts the server for Scheme files, opens what they import and include, and draws the arrows of the
 -- name at the cursor.
 --
 -- Copy this file to ~/.config/nvim/plugin/scheme_ls.lua. Of a user's own it reads, where they are set before it is loaded:
@@ -360,7 +360,7 @@ local function set_gates(client)
   end
 end
 
--- ---- which libraries a text names
+-- ---- which libraries and texts a text names
 
 -- What is behind the comment between `#|` and `|#` that begins at a place. Such comments nest.
 local function behind_block(text, i)
@@ -399,11 +399,15 @@ local function behind_space(text, i)
   end
 end
 
--- The token at a place, and the place behind it: `(` of lists and vectors, `"` of strings, the name of names, else what is written.
+-- The token at a place, and the place behind it: `(` of lists and vectors, a string without its last mark, the name of names, else what
+-- is written.
 local function token(text, i)
   local first = text:sub(i, i)
   if text:match('^#%w*%(', i) then return '(', text:find('(', i, true) + 1 end
-  if first == '"' then return '"', behind_quoted(text, i) end
+  if first == '"' then
+    local stop = behind_quoted(text, i)
+    return text:sub(i, stop - 2), stop
+  end
   if first == '|' then
     local stop = behind_quoted(text, i)
     return text:sub(i + 1, stop - 2), stop
@@ -458,13 +462,16 @@ local function library(set)
   return table.concat(set, '/')
 end
 
--- The libraries that a text imports, in their order, and those that it defines; nothing where an import has no end. Every list that is
--- headed by `import` or `define-library` counts, wherever it stands, but those in comments, in strings and behind `#;` don't.
+local including = { include = true, ['include-library-declarations'] = true }
+
+-- The libraries that a text imports, in their order, those that it defines, and the strings that it includes; nothing where one of these
+-- lists has no end. Every list that is headed by `import`, `define-library`, `include` or `include-library-declarations` counts, wherever
+-- it stands, but those in comments, in strings and behind `#;` don't.
 local function scan(text)
-  local imports, defines, i = {}, {}, 1
+  local imports, defines, includes, i = {}, {}, {}, 1
   while true do
     i = text:find('[(";|#]', i)
-    if not i then return imports, defines end
+    if not i then return imports, defines, includes end
     local first, two = text:sub(i, i), text:sub(i, i + 1)
     local inside = first == '(' and behind_space(text, i + 1)
     local word = inside and text:match('^[^%s()";|]+', inside)
@@ -481,6 +488,13 @@ local function scan(text)
       for n = 2, #list do
         table.insert(imports, library(list[n]))
       end
+    elseif including[word] then
+      local list
+      list, i = read(text, i)
+      if not list then return nil end
+      for n = 2, #list do
+        if type(list[n]) == 'string' and list[n]:sub(1, 1) == '"' then table.insert(includes, list[n]:sub(2)) end
+      end
     elseif word == 'define-library' then
       local name
       name, i = read(text, inside + #word)
@@ -491,10 +505,10 @@ local function scan(text)
   end
 end
 
--- ---- the files of libraries
+-- ---- the files of libraries and of texts that are included
 
-local known = {} -- by buffer: the imports and definitions of its text
-local files = {} -- by path: when a file was read, its imports, and its text until it is sent
+local known = {} -- by buffer: what its text imports, defines and includes
+local files = {} -- by path: when a file was read, what it imports and includes, and its text until it is sent
 
 -- The file of a library: looked for upwards from a folder, and then in the roots.
 local function find(library_path, folder, roots)
@@ -515,6 +529,21 @@ local function find(library_path, folder, roots)
   end
 end
 
+-- The file that a string means in a text of a folder, as the server joins it to the text's uri.
+local function included(name, folder)
+  if name:match('[\\?#%z]') or name:match('^//') then return nil end
+  local uri = name
+  if name:match('^/') then
+    uri = 'file://' .. name
+  elseif not name:match('^%a[%w+.-]*:') then
+    uri = vim.uri_from_fname(folder .. '/') .. name
+  end
+  if not uri:match('^file:///') then return nil end
+  local path = vim.fn.simplify(vim.uri_to_fname(uri))
+  local stat = vim.loop.fs_stat(path)
+  if stat and stat.type == 'file' then return path, stat end
+end
+
 -- The text of a file, if it is one that the server takes.
 local function text_in(path)
   local file = io.open(path, 'rb')
@@ -530,18 +559,20 @@ local function look_into(path, stat)
   if not files[path] or files[path].stamp ~= stamp then
     local text = stat.size <= largest + 3 and text_in(path) or nil
     if not text then tell(path .. " isn't opened: it is longer than 1 MiB, or isn't UTF-8") end
-    files[path] = { stamp = stamp, text = text, taken = text ~= nil, imports = text and scan(text) or {} }
+    local imports, _, includes = scan(text or '')
+    files[path] = { stamp = stamp, text = text, taken = text ~= nil, imports = imports or {}, includes = includes or {} }
   end
   return files[path]
 end
 
--- Looks at a buffer for imports, where it has changed. Answers whether they are others than they were.
+-- Looks at a buffer for what it imports, defines and includes, where it has changed. Answers whether that is other than it was.
 local function look_at(buffer)
-  local tick, old = vim.api.nvim_buf_get_changedtick(buffer), known[buffer] or { imports = {}, defines = {} }
+  local tick, old = vim.api.nvim_buf_get_changedtick(buffer), known[buffer] or { imports = {}, defines = {}, includes = {} }
   if tick == old.tick then return false end
-  local imports, defines = scan(text_of(buffer))
-  known[buffer] = { tick = tick, imports = imports or old.imports, defines = defines or old.defines }
-  return not (vim.deep_equal(known[buffer].imports, old.imports) and vim.deep_equal(known[buffer].defines, old.defines))
+  local imports, defines, includes = scan(text_of(buffer))
+  local new = imports and { imports = imports, defines = defines, includes = includes } or old
+  known[buffer] = vim.tbl_extend('force', new, { tick = tick })
+  return not vim.deep_equal(vim.tbl_extend('force', new, { tick = 0 }), vim.tbl_extend('force', old, { tick = 0 }))
 end
 
 -- The buffers that are open, as where to begin with looking for libraries.
@@ -554,13 +585,13 @@ local function beginnings()
     for _, defined in ipairs(known[buffer].defines) do
       found[defined] = true
     end
-    table.insert(queue, { folder = vim.fn.fnamemodify(name, ':h'), imports = known[buffer].imports })
+    table.insert(queue, { folder = vim.fn.fnamemodify(name, ':h'), imports = known[buffer].imports, includes = known[buffer].includes })
   end
   return queue, found, seen
 end
 
--- The files that have to be open: those of the libraries that the buffers import, and of those that these import, as many as there
--- is room for. Of each library it is one file, and none where a buffer has the library.
+-- The files that have to be open: those of the libraries that the buffers import, those that they include, and what these import and
+-- include, as many as there is room for. Of each library it is one file, and none where a buffer has the library.
 local function wanted()
   local list, full = {}, false
   local queue, found, seen = beginnings()
@@ -575,10 +606,14 @@ local function wanted()
       return
     end
     table.insert(list, path)
-    table.insert(queue, { folder = vim.fn.fnamemodify(path, ':h'), imports = file.imports })
+    table.insert(queue, { folder = vim.fn.fnamemodify(path, ':h'), imports = file.imports, includes = file.includes })
   end
   local at = 1
   while queue[at] do
+    for _, name in ipairs(queue[at].includes) do
+      local path, stat = included(name, queue[at].folder)
+      if path then take(path, stat) end
+    end
     for _, name in ipairs(queue[at].imports) do
       local path, stat
       if not found[name] then path, stat = find(name, queue[at].folder, roots) end
@@ -592,7 +627,7 @@ local function wanted()
   return list, full
 end
 
--- Opens the file of a library, or sends its text anew where it has changed.
+-- Opens such a file, or sends its text anew where it has changed.
 local function open_file(path)
   local uri, file = vim.uri_from_fname(path), files[path]
   local doc = docs[uri]
@@ -627,7 +662,7 @@ local function follow()
     changed = open_file(path) or changed
   end
   behind = uris
-  if full and not said_full then tell('not all libraries that are imported are open: the server takes ' .. most .. ' files') end
+  if full and not said_full then tell('not all that is imported and included is open: the server takes ' .. most .. ' files') end
   said_full = full
   if changed then turn = turn + 1 end
 end

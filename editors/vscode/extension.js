@@ -1,4 +1,4 @@
-// Scheme in Visual Studio Code by scheme_ls: starts the server for Scheme files, and opens the libraries that they import.
+// Scheme in Visual Studio Code by scheme_ls: starts the server for Scheme files, and opens what they import and include.
 "use strict";
 const fs = require("fs");
 const path = require("path");
@@ -7,18 +7,18 @@ const { LanguageClient, State } = require("vscode-languageclient/node");
 
 const MOST = 64; // documents; the server refuses further ones
 const LARGEST = 1048576; // bytes; the server refuses longer texts
-const QUIET = 300; // milliseconds without a change before a document is looked at for imports
+const QUIET = 300; // milliseconds without a change before a document is looked at for what it names
 
 let client;
 let documents = new Map(); // by uri, what the server has open: { document } of the editor, or { stamp, version } of a library's file
 let libraries = []; // the uris of these files, in the order in which they were found
 let full = false; // whether there were more of them than there is room for
 const refused = new Set(); // the uris of documents that aren't given to the server, once that was said
-const files = new Map(); // by path: when a file was read, whether the server takes it, and its imports
+const files = new Map(); // by path: when a file was read, whether the server takes it, and what it imports and includes
 const looking = new Map(); // by uri: the timer behind which a document is looked at
 let following; // the timer behind which files are opened and closed
 
-// ---- which libraries a text names
+// ---- which libraries and texts a text names
 
 // What is behind the comment between `#|` and `|#` that begins at a place. Such comments nest.
 function behindBlock(text, at) {
@@ -58,12 +58,16 @@ function behindSpace(text, at) {
   }
 }
 
-// The token at a place, and the place behind it: `(` of lists and vectors, `"` of strings, the name of names, else what is written.
+// The token at a place, and the place behind it: `(` of lists and vectors, a string without its last mark, the name of names, else what
+// is written.
 function token(text, at) {
   const list = /#\w*\(/y;
   list.lastIndex = at;
   if (list.test(text)) return ["(", list.lastIndex];
-  if (text[at] === '"') return ['"', behindQuoted(text, at)];
+  if (text[at] === '"') {
+    const stop = behindQuoted(text, at);
+    return [text.slice(at, stop - 1), stop];
+  }
   if (text[at] === "|") {
     const stop = behindQuoted(text, at);
     return [text.slice(at + 1, stop - 1), stop];
@@ -103,10 +107,12 @@ function library(set) {
   return set.join("/");
 }
 
-// The libraries that a text imports and defines; nothing where an import has no end. Every list that is headed by `import` or
-// `define-library` counts, wherever it stands, but those in comments, in strings and behind `#;` don't.
+// The libraries that a text imports and defines, and the strings that it includes; nothing where one of these lists has no end. Every
+// list that is headed by `import`, `define-library`, `include` or `include-library-declarations` counts, wherever it stands, but those in
+// comments, in strings and behind `#;` don't.
 function scan(text) {
   const imports = [];
+  const includes = [];
   const defines = [];
   const mark = /[(";|]|#[|;\\]/g;
   for (let at = search(mark, text, 0); at < text.length; at = search(mark, text, at)) {
@@ -117,6 +123,10 @@ function scan(text) {
       [datum, at] = read(text, at);
       if (!datum) return undefined;
       imports.push(...datum.slice(1).map(library));
+    } else if (word === "include" || word === "include-library-declarations") {
+      [datum, at] = read(text, at);
+      if (!datum) return undefined;
+      includes.push(...datum.slice(1).filter((it) => typeof it === "string" && it.startsWith('"')).map((it) => it.slice(1)));
     } else if (word === "define-library") {
       [datum, at] = read(text, inside + word.length);
       defines.push(library(datum));
@@ -125,7 +135,7 @@ function scan(text) {
     else if (text.startsWith("#;", at)) at = read(text, at + 2)[1];
     else at = token(text, at)[1];
   }
-  return { imports: imports.filter(Boolean), defines: defines.filter(Boolean) };
+  return { imports: imports.filter(Boolean), includes, defines: defines.filter(Boolean) };
 }
 
 // ---- what the server has open
@@ -214,7 +224,7 @@ const middleware = {
   },
 };
 
-// ---- the files of libraries
+// ---- the files of libraries and of texts that are included
 
 function isFile(at) {
   try {
@@ -236,6 +246,18 @@ function find(name, folder, further) {
   return [...above, ...further].map((it) => path.join(it, `${name}.sld`)).find(isFile);
 }
 
+// The file that a string means in a text of a folder, as the server joins it to the text's uri.
+function included(name, folder) {
+  if (folder === undefined || /[\\?#\0]|^\/\//.test(name)) return undefined;
+  try {
+    const url = new URL(name, `${vscode.Uri.file(folder)}/`);
+    const file = url.protocol === "file:" ? vscode.Uri.parse(url.href).fsPath : undefined;
+    return file !== undefined && isFile(file) ? file : undefined;
+  } catch {
+    return undefined;
+  }
+}
+
 // The text of a file, if it is one that the server takes.
 function textIn(file) {
   try {
@@ -255,7 +277,7 @@ function lookInto(file) {
     if (text === undefined) {
       vscode.window.showWarningMessage(`scheme_ls: ${file} isn't opened: it is longer than 1 MiB, or isn't UTF-8`);
     }
-    files.set(file, { stamp, taken: text !== undefined, imports: scan(text ?? "")?.imports ?? [] });
+    files.set(file, { stamp, taken: text !== undefined, ...(scan(text ?? "") ?? { imports: [], includes: [] }) });
   }
   return files.get(file);
 }
@@ -273,35 +295,43 @@ function roots() {
   return [...folders, ...vscode.workspace.getConfiguration("schemeLs").get("roots", [])];
 }
 
-// The files that have to be open: those of the libraries that the documents of the editor import, and of those that these import, as
-// many as there is room for. Of each library it is one file, and none where a document of the editor has the library.
+// The files that have to be open: those of the libraries that the documents of the editor import, those that they include, and what
+// these import and include, as many as there is room for. Of each library it is one file, and none where a document of the editor has
+// the library.
 function wanted() {
   const beginnings = [...documents.values()].filter((it) => it.document);
   const room = MOST - beginnings.length;
   const further = roots();
   const found = new Set(beginnings.flatMap((it) => it.defines ?? []));
   const seen = new Set(beginnings.map((it) => realPath(it.document.uri.fsPath)));
-  const queue = beginnings.map((it) => ({ folder: folderOf(it.document), imports: it.imports ?? [] }));
+  const queue = beginnings.map((it) => ({ folder: folderOf(it.document), imports: it.imports ?? [], includes: it.includes ?? [] }));
   const list = [];
   let more = false;
+  function take(file) {
+    if (seen.has(realPath(file))) return;
+    seen.add(realPath(file));
+    const known = lookInto(file);
+    if (known.taken && list.length < room) {
+      list.push(file);
+      queue.push({ folder: path.dirname(file), imports: known.imports, includes: known.includes });
+    } else more = more || known.taken;
+  }
   for (let at = 0; at < queue.length; at++) {
+    for (const name of queue[at].includes) {
+      const file = included(name, queue[at].folder);
+      if (file !== undefined) take(file);
+    }
     for (const name of queue[at].imports) {
       const file = found.has(name) ? undefined : find(name, queue[at].folder, further);
       if (file === undefined) continue;
       found.add(name);
-      if (seen.has(realPath(file))) continue;
-      seen.add(realPath(file));
-      const known = lookInto(file);
-      if (known.taken && list.length < room) {
-        list.push(file);
-        queue.push({ folder: path.dirname(file), imports: known.imports });
-      } else more = more || known.taken;
+      take(file);
     }
   }
   return { list, more };
 }
 
-// Opens the file of a library, or sends its text anew where it has changed.
+// Opens such a file, or sends its text anew where it has changed.
 function openFile(file) {
   const uri = vscode.Uri.file(file).toString();
   const { stamp } = files.get(file);
@@ -329,7 +359,7 @@ function follow() {
   list.forEach(openFile);
   libraries = uris;
   if (more && !full) {
-    vscode.window.showWarningMessage(`scheme_ls: not all libraries that are imported are open: the server takes ${MOST} files`);
+    vscode.window.showWarningMessage(`scheme_ls: not all that is imported and included is open: the server takes ${MOST} files`);
   }
   full = more;
 }
@@ -349,7 +379,8 @@ function lookSoon(document) {
       looking.delete(uri);
       const known = documents.get(uri);
       const found = known?.document && scan(document.getText());
-      if (refused.has(uri) || (found && JSON.stringify(found) !== JSON.stringify({ imports: known.imports, defines: known.defines }))) {
+      const { imports, includes, defines } = known ?? {};
+      if (refused.has(uri) || (found && JSON.stringify(found) !== JSON.stringify({ imports, includes, defines }))) {
         Object.assign(known ?? {}, found);
         follow();
       }
