@@ -11,7 +11,7 @@ use Rattle.scheme_model.specs.UnitExpansion.{Formed}
 use Rattle.scheme_model.specs.Substitution.{Defined, Table}
 use Rattle.scheme_model.specs.Requirements.{LibraryName}
 use Rattle.scheme_model.specs.Entries.{Entry, ImportFault, NotThere, Clash, BadSet}
-use Rattle.scheme_model.specs.Declarations.{UnitForm, UnitKind, IsLibrary, IsProgram}
+use Rattle.scheme_model.specs.Declarations.{UnitForm, UnitKind, IsLibrary, IsProgram, IsPart}
 use Rattle.scheme_model.specs.Includes.{max_units}
 use Rattle.scheme_model.specs.IncludedUnits.{Placed}
 use Rattle.scheme_model.specs.Program.{Prepared, ExportSpec, WholeFault, whole_code, SetResult, Unknown, Faulty, Gives, ExportFault, NotDefined, SameExport, UnitResult, Program, specs_in, has_name, names_of_unit}
@@ -184,6 +184,7 @@ error_as e = (e.code, e.form)
 abbrev pub kind_as : code_kind.UnitKind → UnitKind
 kind_as kinds.Library = IsLibrary
 kind_as kinds.Program = IsProgram
+kind_as kinds.Part = IsPart
 
 abbrev pub text_of : (LibraryName → List ℕ) → Option LibraryName → Option (List ℕ)
 text_of text None = None

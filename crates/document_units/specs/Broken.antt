@@ -20,6 +20,7 @@ use Rattle.document_units.specs.Changed.{Changes}
 -- a bad declaration is told by its unit and its bytes
 abbrev pub told : model.WholeFault → WholeFault
 told model.TooMany = fault.TooMany
+told model.IncludeCycle = fault.IncludeCycle
 told (model.BadDeclaration n d) = fault.BadDeclaration n (bytes_of d)
 told model.DefinedTwice = fault.DefinedTwice
 told model.ImportCycle = fault.ImportCycle

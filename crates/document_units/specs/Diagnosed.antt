@@ -61,44 +61,46 @@ unbound_found bytes t = free_found bytes t.meaning t.occ
 
 -- ---- units
 
--- why a unit is broken as a whole, as the definition says it
-abbrev pub IsWhole : WholeFault → model.WholeFault → Type 0
-IsWhole code.TooMany model.TooMany = Unit {0}
-IsWhole (code.BadDeclaration unit s) (model.BadDeclaration n d) = (unit ≡ n) × (s.start ≡ (place_of d).start) × (s.end ≡ (place_of d).end)
-IsWhole code.DefinedTwice model.DefinedTwice = Unit {0}
-IsWhole code.ImportCycle model.ImportCycle = Unit {0}
-IsWhole code.TooLarge model.TooLarge = Unit {0}
-IsWhole code.TooMany (model.BadDeclaration n d) = ⊥
-IsWhole code.TooMany model.DefinedTwice = ⊥
-IsWhole code.TooMany model.ImportCycle = ⊥
-IsWhole code.TooMany model.TooLarge = ⊥
-IsWhole (code.BadDeclaration unit s) model.TooMany = ⊥
-IsWhole (code.BadDeclaration unit s) model.DefinedTwice = ⊥
-IsWhole (code.BadDeclaration unit s) model.ImportCycle = ⊥
-IsWhole (code.BadDeclaration unit s) model.TooLarge = ⊥
-IsWhole code.DefinedTwice model.TooMany = ⊥
-IsWhole code.DefinedTwice (model.BadDeclaration n d) = ⊥
-IsWhole code.DefinedTwice model.ImportCycle = ⊥
-IsWhole code.DefinedTwice model.TooLarge = ⊥
-IsWhole code.ImportCycle model.TooMany = ⊥
-IsWhole code.ImportCycle (model.BadDeclaration n d) = ⊥
-IsWhole code.ImportCycle model.DefinedTwice = ⊥
-IsWhole code.ImportCycle model.TooLarge = ⊥
-IsWhole code.TooLarge model.TooMany = ⊥
-IsWhole code.TooLarge (model.BadDeclaration n d) = ⊥
-IsWhole code.TooLarge model.DefinedTwice = ⊥
-IsWhole code.TooLarge model.ImportCycle = ⊥
-
+-- its code
 abbrev pub whole_number : WholeFault → ℕ
 whole_number code.TooMany = 67
+whole_number code.IncludeCycle = 68
 whole_number (code.BadDeclaration unit s) = 61
 whole_number code.DefinedTwice = 63
 whole_number code.ImportCycle = 62
 whole_number code.TooLarge = 66
 
+-- the unit and the bytes of a bad declaration
+pub record DeclaredAt : Type 0 where
+  pub unit : ℕ
+  pub start : ℕ
+  pub end : ℕ
+
+abbrev pub declaration_found : WholeFault → Option DeclaredAt
+declaration_found code.TooMany = None
+declaration_found code.IncludeCycle = None
+declaration_found (code.BadDeclaration unit s) = Some (record { unit = unit; start = s.start; end = s.end })
+declaration_found code.DefinedTwice = None
+declaration_found code.ImportCycle = None
+declaration_found code.TooLarge = None
+
+abbrev pub bad_declaration : model.WholeFault → Option DeclaredAt
+bad_declaration model.TooMany = None
+bad_declaration model.IncludeCycle = None
+bad_declaration (model.BadDeclaration n d) = Some (record { unit = n; start = (place_of d).start; end = (place_of d).end })
+bad_declaration model.DefinedTwice = None
+bad_declaration model.ImportCycle = None
+bad_declaration model.TooLarge = None
+
+-- why a unit is broken as a whole, as the definition says it
+pub record IsWhole (c : WholeFault) (m : model.WholeFault) : Type 0 where
+  pub code : whole_number c ≡ model.whole_code m
+  pub place : declaration_found c ≡ bad_declaration m
+
 -- a unit of the document where it stands
 abbrev pub text_unit : ℕ → WholeFault → ℕ
 text_unit unit code.TooMany = unit
+text_unit unit code.IncludeCycle = unit
 text_unit unit (code.BadDeclaration n s) = n
 text_unit unit code.DefinedTwice = unit
 text_unit unit code.ImportCycle = unit
@@ -107,6 +109,7 @@ text_unit unit code.TooLarge = unit
 -- a declaration that is bad is told, and else the unit's start
 abbrev pub whole_at : At → WholeFault → At
 whole_at start code.TooMany = start
+whole_at start code.IncludeCycle = start
 whole_at start (code.BadDeclaration unit s) = record { document = start.document; span = s }
 whole_at start code.DefinedTwice = start
 whole_at start code.ImportCycle = start

@@ -4,7 +4,7 @@ ghost use Rattle.std.specs.Option.{is_some};
 ghost use Rattle.scheme_model.specs.Data.{spelled};
 ghost use Rattle.scheme_model.specs.Declarations.{atom_symbol};
 ghost use Rattle.datum_reader.specs.Views.{data_of, datum_of, leaf_of};
-ghost use Rattle.library_table.specs.UnitsRead.{forms_of};
+ghost use Rattle.library_table.specs.UnitsRead.{form_of, forms_of};
 ghost use Rattle.document_units.specs.Identifiers.{all_names, end_names, occ_in, occs_in};
 ghost use Rattle.scheme_model.specs.Sites as sites;
 
@@ -35,7 +35,7 @@ impl FormAt {
     }
 }
 
-/// The identifiers of a unit's forms, in order. More forms than a number can tell are answered as want of memory.
+/// The identifiers of the forms of a unit's own text, in order. More forms than a number can tell are answered as want of memory.
 pub fn names_of(alloc: Global, unit: u32, forms: &[UnitForm]) -> Mem<Vec<Occ>>
     ensures { IfOk result (λ names. names.items ≡ sites.names_in_forms unit 0 (forms_of forms.now)) }
 {
@@ -44,14 +44,24 @@ pub fn names_of(alloc: Global, unit: u32, forms: &[UnitForm]) -> Mem<Vec<Occ>>
     }
     let mut names = Vec::new(alloc);
     for (number, form) in forms.iter().enumerate() {
-        let at = FormAt {
-            unit,
-            form: number as u32,
-            first: form.datum.first,
-        };
-        add_datum(&mut names, at, &form.datum)?;
+        add_form(&mut names, unit, number as u32, form)?;
     }
     Ok(names)
+}
+
+/// Adds the identifiers of the form with this number, unless its text is included.
+fn add_form(names: &mut Vec<Occ>, unit: u32, number: u32, form: &UnitForm) -> Mem<()>
+    ensures { OnOk result (names.new.items ≡ names.old.items ++ sites.names_in_forms unit number (form_of form.now ∷ [])) }
+{
+    if form.home.is_some() {
+        return Ok(());
+    }
+    let at = FormAt {
+        unit,
+        form: number,
+        first: form.datum.first,
+    };
+    add_datum(names, at, &form.datum)
 }
 
 /// Adds the identifiers of a part of a form.

@@ -30,6 +30,7 @@ use syntax_tree::units::UnitKind;
 #[derive(Clone, Copy, Debug, PartialEq, Eq)]
 pub enum WholeFault {
     TooMany,
+    IncludeCycle,
     BadDeclaration { unit: u32, span: Span },
     DefinedTwice,
     ImportCycle,

@@ -100,10 +100,12 @@ fn unit(code: u32) -> &'static str
         65 => "exported twice ",
         66 => "unit too large",
         67 => "too many units",
+        68 => "include cycle",
         101 => "definition hides import ",
         102 => "library not known",
         103 => "unbound ",
         104 => "no import, (scheme base) is used",
+        105 => "included text not usable ",
         _ => "",
     }
 }

@@ -5,7 +5,7 @@ use Rattle.scheme_model.specs.Data.{Datum}
 use Rattle.scheme_model.specs.Trees.{Tree, name, atom as atom_tree, list as list_tree, vector as vector_tree}
 use Rattle.scheme_model.specs.ExpansionFaults.{Named}
 use Rattle.scheme_model.specs.Program.{ImportSpec, ExportSpec, specs_from, exports_from}
-use Rattle.scheme_model.specs.Declarations.{UnitForm, UnitKind, IsLibrary, IsProgram, UnitSource, is_headed, is_proper, is_library, program_forms, plain_form, program_in}
+use Rattle.scheme_model.specs.Declarations.{UnitForm, UnitKind, IsLibrary, IsProgram, IsPart, UnitSource, is_headed, is_proper, is_library, program_forms, plain_form, program_in}
 use Rattle.syntax_tree.specs.declared.units.UnitKind as code_kind
 use Rattle.syntax_tree.specs.declared.units.UnitKind.TheVariants as kinds
 use Rattle.import_sets.specs.Sets.{named}
@@ -76,6 +76,7 @@ AddsExports old new xs = Adds IsExportRead old new xs
 abbrev pub kind_of : code_kind.UnitKind → UnitKind
 kind_of kinds.Library = IsLibrary
 kind_of kinds.Program = IsProgram
+kind_of kinds.Part = IsPart
 
 -- a unit with this number, whose first datum is this one: its forms, and all that they import and export
 pub record IsSource (unit : ℕ) (c : code.UnitSource) (u : UnitSource) (d : Datum) : Type 0 where

@@ -45,20 +45,22 @@ fn is_same_name(old: &Option<Text>, new: &Option<Text>) -> bool
     }
 }
 
+/// The number by which a kind of units is told from the others.
+fn kind_number(kind: UnitKind) -> u8
+    ensures { result ≡ kind_number (kind_as kind) }
+{
+    match kind {
+        UnitKind::Library => 0,
+        UnitKind::Program => 1,
+        UnitKind::Part => 2,
+    }
+}
+
 /// Whether two kinds of units are the same.
 fn is_same_kind(old: UnitKind, new: UnitKind) -> bool
     ensures { result ≡ (kind_number (kind_as old) == kind_number (kind_as new)) }
 {
-    match old {
-        UnitKind::Library => match new {
-            UnitKind::Library => true,
-            UnitKind::Program => false,
-        },
-        UnitKind::Program => match new {
-            UnitKind::Library => false,
-            UnitKind::Program => true,
-        },
-    }
+    kind_number(old) == kind_number(new)
 }
 
 /// Whether two units are the same in their lists: document, kind, number of forms and name.

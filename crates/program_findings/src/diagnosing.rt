@@ -211,6 +211,7 @@ fn text_unit(unit: u32, fault: WholeFault) -> u32
 {
     match fault {
         WholeFault::BadDeclaration { unit, .. } => unit,
+        WholeFault::IncludeCycle => unit,
         WholeFault::ImportCycle => unit,
         WholeFault::DefinedTwice => unit,
         WholeFault::TooLarge => unit,
@@ -224,6 +225,7 @@ fn whole_at(start: At, fault: WholeFault) -> At
 {
     match fault {
         WholeFault::BadDeclaration { span, .. } => At::new(start.document, span),
+        WholeFault::IncludeCycle => start,
         WholeFault::ImportCycle => start,
         WholeFault::DefinedTwice => start,
         WholeFault::TooLarge => start,
@@ -241,6 +243,7 @@ fn whole_number(fault: WholeFault) -> u32
         WholeFault::DefinedTwice => 63,
         WholeFault::TooLarge => 66,
         WholeFault::TooMany => 67,
+        WholeFault::IncludeCycle => 68,
     }
 }
 

@@ -241,6 +241,7 @@ fn show_unit(out: &mut Shown, unit: &UnitSource) {
     out.string(match unit.kind {
         UnitKind::Library => "library",
         UnitKind::Program => "program",
+        UnitKind::Part => "part",
     });
     match &unit.name {
         Some(name) => out.string(name.as_str()),

@@ -3,11 +3,12 @@ use crate::meaning::Meaning;
 use ls_base::{Items, Text};
 use scheme_model::Occ;
 
-/// A library, or a program.
+/// A library, a program, or the program of a text that others include, which is worked on only there.
 #[derive(Clone, Copy, Debug, PartialEq, Eq)]
 pub enum UnitKind {
     Library,
     Program,
+    Part,
 }
 
 /// What spells a name, behind a prefix: an occurrence, or where there is none the standard name that the entry means.

@@ -151,6 +151,7 @@ pub record FormStands (names : Names) (f : code_form.FormAtWork) (s : ScopedStat
 abbrev pub is_program : code_kind.UnitKind → Bool
 is_program kind.Library = false
 is_program kind.Program = true
+is_program kind.Part = false
 
 pub record Stands (work : Work) (scope : code.UnitScope) (ls : List Frames) (s : ScopedState) : Type 0 where
   pub unit : scope.unit ≡ s.unit

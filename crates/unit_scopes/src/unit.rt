@@ -167,6 +167,7 @@ impl UnitScope {
         match self.kind {
             UnitKind::Program => true,
             UnitKind::Library => false,
+            UnitKind::Part => false,
         }
     }
 }
