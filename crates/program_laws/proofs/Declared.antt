@@ -309,8 +309,8 @@ module _ (n : ℕ) where
 
   included_within : (ds : List Document) (m : ℕ) → Each DocumentWithin ds → Each HomedWithin (included_data ds m)
   included_within ds m h =
-      let data = data_of (document_at ds m) in
-      homed_within m (program_number ds m) 0 (program_data data) (each_filtered DatumWithin (λ d. not (is_library d)) data (document_within ds m h))
+      let all = data_of (document_at ds m) in
+      homed_within m (program_number ds m) 0 (program_data all) (each_filtered DatumWithin (λ d. not (is_library d)) all (document_within ds m h))
 
   abbrev GivenWithin : Given → Type 0
   GivenWithin g = Within g.forms × Within g.declarations
@@ -334,8 +334,8 @@ module _ (n : ℕ) where
     from_within : (t : Texts) → TextsWithin t → (m : ℕ) (ds : List Document) → Each GivenWithin (given_from o t m ds)
     from_within t g m [] = tt
     from_within t g m (d ∷ ds) =
-        let data = included_within o.documents m within in
-        ((forms_within t g (included_data o.documents m) data, homed_declarations t g o.known (included_data o.documents m) data), from_within t g (suc m) ds)
+        let small = included_within o.documents m within in
+        ((forms_within t g (included_data o.documents m) small, homed_declarations t g o.known (included_data o.documents m) small), from_within t g (suc m) ds)
 
     given_within : (depth : ℕ) → Each GivenWithin (given o depth)
     given_within zero = tt
