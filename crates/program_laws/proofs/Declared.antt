@@ -149,7 +149,7 @@ module _ (n : ℕ) where
 
       chosen_by : (c : Clause) (cs : List Clause) (r : Result Bool (Fault (List ℕ))) (later : Option Listing) → clause_holds (λ s. s) known c.requirement (later_clauses cs) ≡ r → chosen known cs ≡ later → ClauseWithin c → ChosenWithin later
           → ChosenWithin (chosen known (c ∷ cs))
-      chosen_by c cs (Err e) later i j h k = rw (i, j) tt
+      chosen_by c cs (Err e) later i j h k = rw i tt
       chosen_by c cs (Ok true) None i j h k = rw (i, j) tt
       chosen_by c cs (Ok true) (Some l) i j h k = rw (i, j) h
       chosen_by c cs (Ok false) later i j h k = rw (i, j) k

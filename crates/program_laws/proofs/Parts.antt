@@ -1,6 +1,6 @@
 -- Nothing comes of the program of a text that others include but its forms, and nothing is told of it.
 use Rattle.std.proofs.Common.{◌≡◌, ℕ, zero, suc, List, [], ◌∷◌, ◌++◌, map, length, Bool, true, false, cond, Option, Some, None, Result, Ok, Err, refl, sym, ap, ◌∙◌}
-use Rattle.std.specs.Prelude.{not, ◌==◌, ◌&&◌}
+use Rattle.std.specs.Prelude.{not, ◌==◌, ◌&&◌, if◌then◌else◌}
 use Rattle.std.specs.List.{list_any}
 use Rattle.scheme_model.specs.declared.Occ.{Occ}
 use Rattle.scheme_model.specs.Ident.{Ident, Written, Inserted, symbol_of}
@@ -119,7 +119,7 @@ nothing_of p = record { unit = p; fault = None; sets = []; entries = []; forms =
 
 result_is : (known : Known) (p : Prepared) (i : List Entry × List SetResult) (s : State) → forms_at_work p ≡ [] → p.exports ≡ [] → i ≡ ([], []) →
     (let q = unit_over known (form_trees p.number 0 (forms_at_work p)) s in unit_result p i q.1.table q.0) ≡ nothing_of p
-result_is known p i s e x j = rw (e, x, j) refl
+result_is known p i s e x j = rw (e, e, x, j) refl
 
 module _ (all : List Placed) (ps : List Prepared) (known : Known) (alone : Each IsAlone ps) where
   abbrev AllNothing : Progress → Type 0
