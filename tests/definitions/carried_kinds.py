@@ -69,10 +69,12 @@ class Paired(Carried):
 
     module = "PairedRows"
     says = "Open documents that include texts before and after an event, and the units and forms that are paired, from outside."
-    unfolding = "encode_utf8"
     head = """
 use Rattle.std.specs.Prelude.{◌≡◌, ℕ, Bool, true, false, List, [], ◌∷◌, Option, Some, None, codes, refl}
 use Rattle.std.specs.Char.{encode_utf8}
+use Rattle.scheme_model.specs.StandardNames.{base_names}
+use Rattle.scheme_model.specs.StandardLibraries.{standard_libraries}
+use Rattle.scheme_model.specs.Prelude.{prelude}
 use Rattle.scheme_model.specs.Kinds as k
 use Rattle.scheme_model.specs.Data as g
 use Rattle.carried_forms.proofs.ShownPairs.{Texts, pair_rows}

@@ -149,7 +149,7 @@ module _ (n : ℕ) where
 
       chosen_by : (c : Clause) (cs : List Clause) (r : Result Bool (Fault (List ℕ))) (later : Option Listing) → clause_holds (λ s. s) known c.requirement (later_clauses cs) ≡ r → chosen known cs ≡ later → ClauseWithin c → ChosenWithin later
           → ChosenWithin (chosen known (c ∷ cs))
-      chosen_by c cs (Err e) later i j h k = rw (i, j) tt
+      chosen_by c cs (Err e) later i j h k = rw i tt
       chosen_by c cs (Ok true) None i j h k = rw (i, j) tt
       chosen_by c cs (Ok true) (Some l) i j h k = rw (i, j) h
       chosen_by c cs (Ok false) later i j h k = rw (i, j) k
@@ -309,8 +309,8 @@ module _ (n : ℕ) where
 
   included_within : (ds : List Document) (m : ℕ) → Each DocumentWithin ds → Each HomedWithin (included_data ds m)
   included_within ds m h =
-      let data = data_of (document_at ds m) in
-      homed_within m (program_number ds m) 0 (program_data data) (each_filtered DatumWithin (λ d. not (is_library d)) data (document_within ds m h))
+      let all = data_of (document_at ds m) in
+      homed_within m (program_number ds m) 0 (program_data all) (each_filtered DatumWithin (λ d. not (is_library d)) all (document_within ds m h))
 
   abbrev GivenWithin : Given → Type 0
   GivenWithin g = Within g.forms × Within g.declarations
@@ -334,8 +334,8 @@ module _ (n : ℕ) where
     from_within : (t : Texts) → TextsWithin t → (m : ℕ) (ds : List Document) → Each GivenWithin (given_from o t m ds)
     from_within t g m [] = tt
     from_within t g m (d ∷ ds) =
-        let data = included_within o.documents m within in
-        ((forms_within t g (included_data o.documents m) data, homed_declarations t g o.known (included_data o.documents m) data), from_within t g (suc m) ds)
+        let small = included_within o.documents m within in
+        ((forms_within t g (included_data o.documents m) small, homed_declarations t g o.known (included_data o.documents m) small), from_within t g (suc m) ds)
 
     given_within : (depth : ℕ) → Each GivenWithin (given o depth)
     given_within zero = tt

@@ -1,6 +1,6 @@
 -- Nothing comes of the program of a text that others include but its forms, and nothing is told of it.
 use Rattle.std.proofs.Common.{◌≡◌, ℕ, zero, suc, List, [], ◌∷◌, ◌++◌, map, length, Bool, true, false, cond, Option, Some, None, Result, Ok, Err, refl, sym, ap, ◌∙◌}
-use Rattle.std.specs.Prelude.{not, ◌==◌, ◌&&◌}
+use Rattle.std.specs.Prelude.{not, ◌==◌, ◌&&◌, if◌then◌else◌}
 use Rattle.std.specs.List.{list_any}
 use Rattle.scheme_model.specs.declared.Occ.{Occ}
 use Rattle.scheme_model.specs.Ident.{Ident, Written, Inserted, symbol_of}
@@ -119,46 +119,50 @@ nothing_of p = record { unit = p; fault = None; sets = []; entries = []; forms =
 
 result_is : (known : Known) (p : Prepared) (i : List Entry × List SetResult) (s : State) → forms_at_work p ≡ [] → p.exports ≡ [] → i ≡ ([], []) →
     (let q = unit_over known (form_trees p.number 0 (forms_at_work p)) s in unit_result p i q.1.table q.0) ≡ nothing_of p
-result_is known p i s e x j = rw (e, x, j) refl
+result_is known p i s e x j = rw (e, e, x, j) refl
 
 module _ (all : List Placed) (ps : List Prepared) (known : Known) (alone : Each IsAlone ps) where
   abbrev AllNothing : Progress → Type 0
   AllNothing g = Each ComesToNothing g.results
 
-  fault_nothing : (p : Prepared) (f : Option WholeFault) (g : Progress) → IsAlone p → AllNothing g → AllNothing (by_fault all ps known p f g)
-  fault_nothing p (Some f) g a h = (λ e. (record { sets = refl; entries = refl; forms = refl; exports = refl; export_faults = refl }, (a e).lost), h)
-  fault_nothing p None g a h = (λ e. by (a' e) e, h)
-    where
-      abbrev imports : List Entry × List SetResult
-      imports = unit_entries all g.results p
+  module _ (p : Prepared) (g : Progress) (a : IsAlone p) where
+    abbrev imports : List Entry × List SetResult
+    imports = unit_entries all g.results p
 
-      abbrev q : Option (List Formed) × State
-      q = unit_over known (form_trees p.number 0 (forms_at_work p)) (start_of p g.table g.macros (with_entries p.number imports.0 g.entry))
+    abbrev start : State
+    start = start_of p g.table g.macros (with_entries p.number imports.0 g.entry)
 
-      abbrev result : UnitResult
-      result = unit_result p imports q.1.table q.0
+    abbrev came : Option (List Formed) × State
+    came = unit_over known (form_trees p.number 0 (forms_at_work p)) start
 
-      own_unit : (o : Option (List Formed)) (t : Table) → (unit_result p imports t o).unit ≡ p
-      own_unit None t = refl
-      own_unit (Some fs) t = refl
+    abbrev result : UnitResult
+    result = unit_result p imports came.1.table came.0
 
-      a' : is_part_kind result.unit.placed.source.kind ≡ true → is_part_kind p.placed.source.kind ≡ true
-      a' e = ap (λ (x : Prepared). is_part_kind x.placed.source.kind) (sym (own_unit q.0 q.1.table)) ∙ e
+    own_unit : (o : Option (List Formed)) (t : Table) → (unit_result p imports t o).unit ≡ p
+    own_unit None t = refl
+    own_unit (Some fs) t = refl
 
-      by : is_part_kind p.placed.source.kind ≡ true → is_part_kind result.unit.placed.source.kind ≡ true → IsNothing result × (result.unit.placed.source.lost ≡ [])
-      by e k =
-          let b = a e in
-          let is : result ≡ nothing_of p = result_is known p imports (start_of p g.table g.macros (with_entries p.number imports.0 g.entry)) (no_work p e) b.exports (no_entries all g.results p e b) in
-          (
-            record {
-              sets = ap (λ (r : UnitResult). r.sets) is;
-              entries = ap (λ (r : UnitResult). r.entries) is;
-              forms = ap (λ (r : UnitResult). r.forms) is;
-              exports = ap (λ (r : UnitResult). r.exports) is;
-              export_faults = ap (λ (r : UnitResult). r.export_faults) is;
-            },
-            ap (λ (r : UnitResult). r.unit.placed.source.lost) is ∙ b.lost,
-          )
+    is_part_of : is_part_kind result.unit.placed.source.kind ≡ true → is_part_kind p.placed.source.kind ≡ true
+    is_part_of e = ap (λ (x : Prepared). is_part_kind x.placed.source.kind) (sym (own_unit came.0 came.1.table)) ∙ e
+
+    comes_of : is_part_kind p.placed.source.kind ≡ true → IsNothing result × (result.unit.placed.source.lost ≡ [])
+    comes_of e =
+        let b = a e in
+        let is : result ≡ nothing_of p = result_is known p imports start (no_work p e) b.exports (no_entries all g.results p e b) in
+        (
+          record {
+            sets = ap (λ (r : UnitResult). r.sets) is;
+            entries = ap (λ (r : UnitResult). r.entries) is;
+            forms = ap (λ (r : UnitResult). r.forms) is;
+            exports = ap (λ (r : UnitResult). r.exports) is;
+            export_faults = ap (λ (r : UnitResult). r.export_faults) is;
+          },
+          ap (λ (r : UnitResult). r.unit.placed.source.lost) is ∙ b.lost,
+        )
+
+    fault_nothing : (f : Option WholeFault) → AllNothing g → AllNothing (by_fault all ps known p f g)
+    fault_nothing (Some f) h = (λ e. (record { sets = refl; entries = refl; forms = refl; exports = refl; export_faults = refl }, (a e).lost), h)
+    fault_nothing None h = (λ e. comes_of (is_part_of e), h)
 
   abbrev OrAlone : Option Prepared → Type 0
   OrAlone None = Unit {0}
@@ -170,7 +174,7 @@ module _ (all : List Placed) (ps : List Prepared) (known : Known) (alone : Each 
 
   worked_nothing : (o : Option Prepared) (g : Progress) → OrAlone o → AllNothing g → AllNothing (worked all ps known o g)
   worked_nothing None g a h = h
-  worked_nothing (Some p) g a h = fault_nothing p (fault_before all ps p) g a h
+  worked_nothing (Some p) g a h = fault_nothing p g a (fault_before all ps p) h
 
   work_nothing : (n : ℕ) (g : Progress) → AllNothing g → AllNothing (work all ps known n g)
   work_nothing zero g h = h

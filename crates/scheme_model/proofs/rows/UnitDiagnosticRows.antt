@@ -11,6 +11,7 @@ use Rattle.scheme_model.specs.Meaning as m
 use Rattle.scheme_model.specs.Cores as c
 use Rattle.scheme_model.specs.Expression.{no_rules}
 use Rattle.scheme_model.proofs.Shown.{ArrowRow, arrow_rows, diagnostic_rows}
+
 use Rattle.std.specs.Char.{encode_utf8}
 use Rattle.scheme_model.specs.StandardLibraries.{standard_libraries}
 use Rattle.scheme_model.specs.Prelude.{prelude}
@@ -61,7 +62,7 @@ pub fault-hides-for-uses : diagnostic_rows (((s 0 1) ∷ (s 1 7) ∷ (s 8 9) ∷
 unfolding base_names standard_libraries prelude encode_utf8
 fault-hides-for-uses = refl
 
-pub include-declared : diagnostic_rows (((s 0 1) ∷ (s 1 15) ∷ (s 16 17) ∷ (s 17 18) ∷ (s 18 19) ∷ (s 20 21) ∷ (s 21 27) ∷ (s 28 31) ∷ (s 31 32) ∷ (s 33 34) ∷ (s 34 40) ∷ (s 41 42) ∷ (s 42 48) ∷ (s 49 53) ∷ (s 53 54) ∷ (s 54 55) ∷ (s 56 57) ∷ (s 57 64) ∷ (s 65 72) ∷ (s 72 73) ∷ (s 73 74) ∷ []) ∷ []) ((Some (((g.list (p 0 20 0 74) (g.part (g.atom (p 1 1 1 15) (g.spelled (k.Name (codes "define-library") false))) (g.part (g.list (p 2 4 16 19) (g.part (g.atom (p 3 3 17 18) (g.spelled (k.Name (codes "l") false))) g.none)) (g.part (g.list (p 5 8 20 32) (g.part (g.atom (p 6 6 21 27) (g.spelled (k.Name (codes "export") false))) (g.part (g.atom (p 7 7 28 31) (g.spelled (k.Name (codes "fun") false))) g.none))) (g.part (g.list (p 9 15 33 55) (g.part (g.atom (p 10 10 34 40) (g.spelled (k.Name (codes "import") false))) (g.part (g.list (p 11 14 41 54) (g.part (g.atom (p 12 12 42 48) (g.spelled (k.Name (codes "scheme") false))) (g.part (g.atom (p 13 13 49 53) (g.spelled (k.Name (codes "base") false))) g.none))) g.none))) (g.part (g.list (p 16 19 56 73) (g.part (g.atom (p 17 17 57 64) (g.spelled (k.Name (codes "include") false))) (g.part (g.atom (p 18 18 65 72) (g.spelled (k.Quoted (codes "a.scm")))) g.none))) g.none))))))) ∷ [])) ∷ []) ≡ ((q 0 28 31 64 (codes "not defined fun")) ∷ (q 0 56 57 48 (codes "include is refused")) ∷ [])
+pub include-declared : diagnostic_rows (((s 0 1) ∷ (s 1 15) ∷ (s 16 17) ∷ (s 17 18) ∷ (s 18 19) ∷ (s 20 21) ∷ (s 21 27) ∷ (s 28 31) ∷ (s 31 32) ∷ (s 33 34) ∷ (s 34 40) ∷ (s 41 42) ∷ (s 42 48) ∷ (s 49 53) ∷ (s 53 54) ∷ (s 54 55) ∷ (s 56 57) ∷ (s 57 64) ∷ (s 65 72) ∷ (s 72 73) ∷ (s 73 74) ∷ []) ∷ []) ((Some (((g.list (p 0 20 0 74) (g.part (g.atom (p 1 1 1 15) (g.spelled (k.Name (codes "define-library") false))) (g.part (g.list (p 2 4 16 19) (g.part (g.atom (p 3 3 17 18) (g.spelled (k.Name (codes "l") false))) g.none)) (g.part (g.list (p 5 8 20 32) (g.part (g.atom (p 6 6 21 27) (g.spelled (k.Name (codes "export") false))) (g.part (g.atom (p 7 7 28 31) (g.spelled (k.Name (codes "fun") false))) g.none))) (g.part (g.list (p 9 15 33 55) (g.part (g.atom (p 10 10 34 40) (g.spelled (k.Name (codes "import") false))) (g.part (g.list (p 11 14 41 54) (g.part (g.atom (p 12 12 42 48) (g.spelled (k.Name (codes "scheme") false))) (g.part (g.atom (p 13 13 49 53) (g.spelled (k.Name (codes "base") false))) g.none))) g.none))) (g.part (g.list (p 16 19 56 73) (g.part (g.atom (p 17 17 57 64) (g.spelled (k.Name (codes "include") false))) (g.part (g.atom (p 18 18 65 72) (g.spelled (k.Quoted (codes "a.scm")))) g.none))) g.none))))))) ∷ [])) ∷ []) ≡ ((q 0 28 31 64 (codes "not defined fun")) ∷ (q 0 65 72 105 (codes "included text not usable a.scm")) ∷ [])
 unfolding base_names standard_libraries prelude encode_utf8
 include-declared = refl
 
@@ -69,23 +70,23 @@ pub include-ci-declared : diagnostic_rows (((s 0 1) ∷ (s 1 15) ∷ (s 16 17) �
 unfolding base_names standard_libraries prelude encode_utf8
 include-ci-declared = refl
 
-pub include-declarations-declared : diagnostic_rows (((s 0 1) ∷ (s 1 15) ∷ (s 16 17) ∷ (s 17 18) ∷ (s 18 19) ∷ (s 20 21) ∷ (s 21 27) ∷ (s 28 31) ∷ (s 31 32) ∷ (s 33 34) ∷ (s 34 40) ∷ (s 41 42) ∷ (s 42 48) ∷ (s 49 53) ∷ (s 53 54) ∷ (s 54 55) ∷ (s 56 57) ∷ (s 57 85) ∷ (s 86 93) ∷ (s 94 101) ∷ (s 101 102) ∷ (s 103 104) ∷ (s 104 109) ∷ (s 110 111) ∷ (s 111 117) ∷ (s 118 121) ∷ (s 122 123) ∷ (s 123 124) ∷ (s 124 125) ∷ (s 125 126) ∷ []) ∷ []) ((Some (((g.list (p 0 29 0 126) (g.part (g.atom (p 1 1 1 15) (g.spelled (k.Name (codes "define-library") false))) (g.part (g.list (p 2 4 16 19) (g.part (g.atom (p 3 3 17 18) (g.spelled (k.Name (codes "l") false))) g.none)) (g.part (g.list (p 5 8 20 32) (g.part (g.atom (p 6 6 21 27) (g.spelled (k.Name (codes "export") false))) (g.part (g.atom (p 7 7 28 31) (g.spelled (k.Name (codes "fun") false))) g.none))) (g.part (g.list (p 9 15 33 55) (g.part (g.atom (p 10 10 34 40) (g.spelled (k.Name (codes "import") false))) (g.part (g.list (p 11 14 41 54) (g.part (g.atom (p 12 12 42 48) (g.spelled (k.Name (codes "scheme") false))) (g.part (g.atom (p 13 13 49 53) (g.spelled (k.Name (codes "base") false))) g.none))) g.none))) (g.part (g.list (p 16 20 56 102) (g.part (g.atom (p 17 17 57 85) (g.spelled (k.Name (codes "include-library-declarations") false))) (g.part (g.atom (p 18 18 86 93) (g.spelled (k.Quoted (codes "a.scm")))) (g.part (g.atom (p 19 19 94 101) (g.spelled (k.Quoted (codes "b.scm")))) g.none)))) (g.part (g.list (p 21 28 103 125) (g.part (g.atom (p 22 22 104 109) (g.spelled (k.Name (codes "begin") false))) (g.part (g.list (p 23 27 110 124) (g.part (g.atom (p 24 24 111 117) (g.spelled (k.Name (codes "define") false))) (g.part (g.atom (p 25 25 118 121) (g.spelled (k.Name (codes "fun") false))) (g.part (g.atom (p 26 26 122 123) (g.spelled (k.Numeral (codes "1")))) g.none)))) g.none))) g.none)))))))) ∷ [])) ∷ []) ≡ ((q 0 56 57 48 (codes "include is refused")) ∷ [])
+pub include-declarations-declared : diagnostic_rows (((s 0 1) ∷ (s 1 15) ∷ (s 16 17) ∷ (s 17 18) ∷ (s 18 19) ∷ (s 20 21) ∷ (s 21 27) ∷ (s 28 31) ∷ (s 31 32) ∷ (s 33 34) ∷ (s 34 40) ∷ (s 41 42) ∷ (s 42 48) ∷ (s 49 53) ∷ (s 53 54) ∷ (s 54 55) ∷ (s 56 57) ∷ (s 57 85) ∷ (s 86 93) ∷ (s 94 101) ∷ (s 101 102) ∷ (s 103 104) ∷ (s 104 109) ∷ (s 110 111) ∷ (s 111 117) ∷ (s 118 121) ∷ (s 122 123) ∷ (s 123 124) ∷ (s 124 125) ∷ (s 125 126) ∷ []) ∷ []) ((Some (((g.list (p 0 29 0 126) (g.part (g.atom (p 1 1 1 15) (g.spelled (k.Name (codes "define-library") false))) (g.part (g.list (p 2 4 16 19) (g.part (g.atom (p 3 3 17 18) (g.spelled (k.Name (codes "l") false))) g.none)) (g.part (g.list (p 5 8 20 32) (g.part (g.atom (p 6 6 21 27) (g.spelled (k.Name (codes "export") false))) (g.part (g.atom (p 7 7 28 31) (g.spelled (k.Name (codes "fun") false))) g.none))) (g.part (g.list (p 9 15 33 55) (g.part (g.atom (p 10 10 34 40) (g.spelled (k.Name (codes "import") false))) (g.part (g.list (p 11 14 41 54) (g.part (g.atom (p 12 12 42 48) (g.spelled (k.Name (codes "scheme") false))) (g.part (g.atom (p 13 13 49 53) (g.spelled (k.Name (codes "base") false))) g.none))) g.none))) (g.part (g.list (p 16 20 56 102) (g.part (g.atom (p 17 17 57 85) (g.spelled (k.Name (codes "include-library-declarations") false))) (g.part (g.atom (p 18 18 86 93) (g.spelled (k.Quoted (codes "a.scm")))) (g.part (g.atom (p 19 19 94 101) (g.spelled (k.Quoted (codes "b.scm")))) g.none)))) (g.part (g.list (p 21 28 103 125) (g.part (g.atom (p 22 22 104 109) (g.spelled (k.Name (codes "begin") false))) (g.part (g.list (p 23 27 110 124) (g.part (g.atom (p 24 24 111 117) (g.spelled (k.Name (codes "define") false))) (g.part (g.atom (p 25 25 118 121) (g.spelled (k.Name (codes "fun") false))) (g.part (g.atom (p 26 26 122 123) (g.spelled (k.Numeral (codes "1")))) g.none)))) g.none))) g.none)))))))) ∷ [])) ∷ []) ≡ ((q 0 86 93 105 (codes "included text not usable a.scm")) ∷ (q 0 94 101 105 (codes "included text not usable b.scm")) ∷ [])
 unfolding base_names standard_libraries prelude encode_utf8
 include-declarations-declared = refl
 
-pub include-of-nothing : diagnostic_rows (((s 0 1) ∷ (s 1 15) ∷ (s 16 17) ∷ (s 17 18) ∷ (s 18 19) ∷ (s 20 21) ∷ (s 21 27) ∷ (s 28 31) ∷ (s 31 32) ∷ (s 33 34) ∷ (s 34 40) ∷ (s 41 42) ∷ (s 42 48) ∷ (s 49 53) ∷ (s 53 54) ∷ (s 54 55) ∷ (s 56 57) ∷ (s 57 64) ∷ (s 64 65) ∷ (s 66 67) ∷ (s 67 72) ∷ (s 73 74) ∷ (s 74 80) ∷ (s 81 84) ∷ (s 85 86) ∷ (s 86 87) ∷ (s 87 88) ∷ (s 88 89) ∷ []) ∷ []) ((Some (((g.list (p 0 27 0 89) (g.part (g.atom (p 1 1 1 15) (g.spelled (k.Name (codes "define-library") false))) (g.part (g.list (p 2 4 16 19) (g.part (g.atom (p 3 3 17 18) (g.spelled (k.Name (codes "l") false))) g.none)) (g.part (g.list (p 5 8 20 32) (g.part (g.atom (p 6 6 21 27) (g.spelled (k.Name (codes "export") false))) (g.part (g.atom (p 7 7 28 31) (g.spelled (k.Name (codes "fun") false))) g.none))) (g.part (g.list (p 9 15 33 55) (g.part (g.atom (p 10 10 34 40) (g.spelled (k.Name (codes "import") false))) (g.part (g.list (p 11 14 41 54) (g.part (g.atom (p 12 12 42 48) (g.spelled (k.Name (codes "scheme") false))) (g.part (g.atom (p 13 13 49 53) (g.spelled (k.Name (codes "base") false))) g.none))) g.none))) (g.part (g.list (p 16 18 56 65) (g.part (g.atom (p 17 17 57 64) (g.spelled (k.Name (codes "include") false))) g.none)) (g.part (g.list (p 19 26 66 88) (g.part (g.atom (p 20 20 67 72) (g.spelled (k.Name (codes "begin") false))) (g.part (g.list (p 21 25 73 87) (g.part (g.atom (p 22 22 74 80) (g.spelled (k.Name (codes "define") false))) (g.part (g.atom (p 23 23 81 84) (g.spelled (k.Name (codes "fun") false))) (g.part (g.atom (p 24 24 85 86) (g.spelled (k.Numeral (codes "1")))) g.none)))) g.none))) g.none)))))))) ∷ [])) ∷ []) ≡ ((q 0 56 57 48 (codes "include is refused")) ∷ [])
+pub include-of-nothing : diagnostic_rows (((s 0 1) ∷ (s 1 15) ∷ (s 16 17) ∷ (s 17 18) ∷ (s 18 19) ∷ (s 20 21) ∷ (s 21 27) ∷ (s 28 31) ∷ (s 31 32) ∷ (s 33 34) ∷ (s 34 40) ∷ (s 41 42) ∷ (s 42 48) ∷ (s 49 53) ∷ (s 53 54) ∷ (s 54 55) ∷ (s 56 57) ∷ (s 57 64) ∷ (s 64 65) ∷ (s 66 67) ∷ (s 67 72) ∷ (s 73 74) ∷ (s 74 80) ∷ (s 81 84) ∷ (s 85 86) ∷ (s 86 87) ∷ (s 87 88) ∷ (s 88 89) ∷ []) ∷ []) ((Some (((g.list (p 0 27 0 89) (g.part (g.atom (p 1 1 1 15) (g.spelled (k.Name (codes "define-library") false))) (g.part (g.list (p 2 4 16 19) (g.part (g.atom (p 3 3 17 18) (g.spelled (k.Name (codes "l") false))) g.none)) (g.part (g.list (p 5 8 20 32) (g.part (g.atom (p 6 6 21 27) (g.spelled (k.Name (codes "export") false))) (g.part (g.atom (p 7 7 28 31) (g.spelled (k.Name (codes "fun") false))) g.none))) (g.part (g.list (p 9 15 33 55) (g.part (g.atom (p 10 10 34 40) (g.spelled (k.Name (codes "import") false))) (g.part (g.list (p 11 14 41 54) (g.part (g.atom (p 12 12 42 48) (g.spelled (k.Name (codes "scheme") false))) (g.part (g.atom (p 13 13 49 53) (g.spelled (k.Name (codes "base") false))) g.none))) g.none))) (g.part (g.list (p 16 18 56 65) (g.part (g.atom (p 17 17 57 64) (g.spelled (k.Name (codes "include") false))) g.none)) (g.part (g.list (p 19 26 66 88) (g.part (g.atom (p 20 20 67 72) (g.spelled (k.Name (codes "begin") false))) (g.part (g.list (p 21 25 73 87) (g.part (g.atom (p 22 22 74 80) (g.spelled (k.Name (codes "define") false))) (g.part (g.atom (p 23 23 81 84) (g.spelled (k.Name (codes "fun") false))) (g.part (g.atom (p 24 24 85 86) (g.spelled (k.Numeral (codes "1")))) g.none)))) g.none))) g.none)))))))) ∷ [])) ∷ []) ≡ ((q 0 56 65 61 (codes "bad declaration")) ∷ [])
 unfolding base_names standard_libraries prelude encode_utf8
 include-of-nothing = refl
 
-pub include-twice : diagnostic_rows (((s 0 1) ∷ (s 1 15) ∷ (s 16 17) ∷ (s 17 18) ∷ (s 18 19) ∷ (s 20 21) ∷ (s 21 27) ∷ (s 28 31) ∷ (s 31 32) ∷ (s 33 34) ∷ (s 34 40) ∷ (s 41 42) ∷ (s 42 48) ∷ (s 49 53) ∷ (s 53 54) ∷ (s 54 55) ∷ (s 56 57) ∷ (s 57 64) ∷ (s 65 68) ∷ (s 68 69) ∷ (s 70 71) ∷ (s 71 76) ∷ (s 77 78) ∷ (s 78 84) ∷ (s 85 88) ∷ (s 89 90) ∷ (s 90 91) ∷ (s 91 92) ∷ (s 93 94) ∷ (s 94 101) ∷ (s 102 105) ∷ (s 105 106) ∷ (s 106 107) ∷ []) ∷ []) ((Some (((g.list (p 0 32 0 107) (g.part (g.atom (p 1 1 1 15) (g.spelled (k.Name (codes "define-library") false))) (g.part (g.list (p 2 4 16 19) (g.part (g.atom (p 3 3 17 18) (g.spelled (k.Name (codes "l") false))) g.none)) (g.part (g.list (p 5 8 20 32) (g.part (g.atom (p 6 6 21 27) (g.spelled (k.Name (codes "export") false))) (g.part (g.atom (p 7 7 28 31) (g.spelled (k.Name (codes "fun") false))) g.none))) (g.part (g.list (p 9 15 33 55) (g.part (g.atom (p 10 10 34 40) (g.spelled (k.Name (codes "import") false))) (g.part (g.list (p 11 14 41 54) (g.part (g.atom (p 12 12 42 48) (g.spelled (k.Name (codes "scheme") false))) (g.part (g.atom (p 13 13 49 53) (g.spelled (k.Name (codes "base") false))) g.none))) g.none))) (g.part (g.list (p 16 19 56 69) (g.part (g.atom (p 17 17 57 64) (g.spelled (k.Name (codes "include") false))) (g.part (g.atom (p 18 18 65 68) (g.spelled (k.Quoted (codes "a")))) g.none))) (g.part (g.list (p 20 27 70 92) (g.part (g.atom (p 21 21 71 76) (g.spelled (k.Name (codes "begin") false))) (g.part (g.list (p 22 26 77 91) (g.part (g.atom (p 23 23 78 84) (g.spelled (k.Name (codes "define") false))) (g.part (g.atom (p 24 24 85 88) (g.spelled (k.Name (codes "fun") false))) (g.part (g.atom (p 25 25 89 90) (g.spelled (k.Numeral (codes "1")))) g.none)))) g.none))) (g.part (g.list (p 28 31 93 106) (g.part (g.atom (p 29 29 94 101) (g.spelled (k.Name (codes "include") false))) (g.part (g.atom (p 30 30 102 105) (g.spelled (k.Quoted (codes "b")))) g.none))) g.none))))))))) ∷ [])) ∷ []) ≡ ((q 0 56 57 48 (codes "include is refused")) ∷ (q 0 93 94 48 (codes "include is refused")) ∷ [])
+pub include-twice : diagnostic_rows (((s 0 1) ∷ (s 1 15) ∷ (s 16 17) ∷ (s 17 18) ∷ (s 18 19) ∷ (s 20 21) ∷ (s 21 27) ∷ (s 28 31) ∷ (s 31 32) ∷ (s 33 34) ∷ (s 34 40) ∷ (s 41 42) ∷ (s 42 48) ∷ (s 49 53) ∷ (s 53 54) ∷ (s 54 55) ∷ (s 56 57) ∷ (s 57 64) ∷ (s 65 68) ∷ (s 68 69) ∷ (s 70 71) ∷ (s 71 76) ∷ (s 77 78) ∷ (s 78 84) ∷ (s 85 88) ∷ (s 89 90) ∷ (s 90 91) ∷ (s 91 92) ∷ (s 93 94) ∷ (s 94 101) ∷ (s 102 105) ∷ (s 105 106) ∷ (s 106 107) ∷ []) ∷ []) ((Some (((g.list (p 0 32 0 107) (g.part (g.atom (p 1 1 1 15) (g.spelled (k.Name (codes "define-library") false))) (g.part (g.list (p 2 4 16 19) (g.part (g.atom (p 3 3 17 18) (g.spelled (k.Name (codes "l") false))) g.none)) (g.part (g.list (p 5 8 20 32) (g.part (g.atom (p 6 6 21 27) (g.spelled (k.Name (codes "export") false))) (g.part (g.atom (p 7 7 28 31) (g.spelled (k.Name (codes "fun") false))) g.none))) (g.part (g.list (p 9 15 33 55) (g.part (g.atom (p 10 10 34 40) (g.spelled (k.Name (codes "import") false))) (g.part (g.list (p 11 14 41 54) (g.part (g.atom (p 12 12 42 48) (g.spelled (k.Name (codes "scheme") false))) (g.part (g.atom (p 13 13 49 53) (g.spelled (k.Name (codes "base") false))) g.none))) g.none))) (g.part (g.list (p 16 19 56 69) (g.part (g.atom (p 17 17 57 64) (g.spelled (k.Name (codes "include") false))) (g.part (g.atom (p 18 18 65 68) (g.spelled (k.Quoted (codes "x")))) g.none))) (g.part (g.list (p 20 27 70 92) (g.part (g.atom (p 21 21 71 76) (g.spelled (k.Name (codes "begin") false))) (g.part (g.list (p 22 26 77 91) (g.part (g.atom (p 23 23 78 84) (g.spelled (k.Name (codes "define") false))) (g.part (g.atom (p 24 24 85 88) (g.spelled (k.Name (codes "fun") false))) (g.part (g.atom (p 25 25 89 90) (g.spelled (k.Numeral (codes "1")))) g.none)))) g.none))) (g.part (g.list (p 28 31 93 106) (g.part (g.atom (p 29 29 94 101) (g.spelled (k.Name (codes "include") false))) (g.part (g.atom (p 30 30 102 105) (g.spelled (k.Quoted (codes "y")))) g.none))) g.none))))))))) ∷ [])) ∷ []) ≡ ((q 0 65 68 105 (codes "included text not usable x")) ∷ (q 0 102 105 105 (codes "included text not usable y")) ∷ [])
 unfolding base_names standard_libraries prelude encode_utf8
 include-twice = refl
 
-pub include-chosen : diagnostic_rows (((s 0 1) ∷ (s 1 15) ∷ (s 16 17) ∷ (s 17 18) ∷ (s 18 19) ∷ (s 20 21) ∷ (s 21 27) ∷ (s 28 31) ∷ (s 31 32) ∷ (s 33 34) ∷ (s 34 40) ∷ (s 41 42) ∷ (s 42 48) ∷ (s 49 53) ∷ (s 53 54) ∷ (s 54 55) ∷ (s 56 57) ∷ (s 57 68) ∷ (s 69 70) ∷ (s 70 74) ∷ (s 75 76) ∷ (s 76 83) ∷ (s 84 87) ∷ (s 87 88) ∷ (s 89 90) ∷ (s 90 95) ∷ (s 96 97) ∷ (s 97 103) ∷ (s 104 107) ∷ (s 108 109) ∷ (s 109 110) ∷ (s 110 111) ∷ (s 111 112) ∷ (s 113 114) ∷ (s 114 118) ∷ (s 119 120) ∷ (s 120 127) ∷ (s 128 131) ∷ (s 131 132) ∷ (s 132 133) ∷ (s 133 134) ∷ (s 134 135) ∷ []) ∷ []) ((Some (((g.list (p 0 41 0 135) (g.part (g.atom (p 1 1 1 15) (g.spelled (k.Name (codes "define-library") false))) (g.part (g.list (p 2 4 16 19) (g.part (g.atom (p 3 3 17 18) (g.spelled (k.Name (codes "l") false))) g.none)) (g.part (g.list (p 5 8 20 32) (g.part (g.atom (p 6 6 21 27) (g.spelled (k.Name (codes "export") false))) (g.part (g.atom (p 7 7 28 31) (g.spelled (k.Name (codes "fun") false))) g.none))) (g.part (g.list (p 9 15 33 55) (g.part (g.atom (p 10 10 34 40) (g.spelled (k.Name (codes "import") false))) (g.part (g.list (p 11 14 41 54) (g.part (g.atom (p 12 12 42 48) (g.spelled (k.Name (codes "scheme") false))) (g.part (g.atom (p 13 13 49 53) (g.spelled (k.Name (codes "base") false))) g.none))) g.none))) (g.part (g.list (p 16 40 56 134) (g.part (g.atom (p 17 17 57 68) (g.spelled (k.Name (codes "cond-expand") false))) (g.part (g.list (p 18 32 69 112) (g.part (g.atom (p 19 19 70 74) (g.spelled (k.Name (codes "r7rs") false))) (g.part (g.list (p 20 23 75 88) (g.part (g.atom (p 21 21 76 83) (g.spelled (k.Name (codes "include") false))) (g.part (g.atom (p 22 22 84 87) (g.spelled (k.Quoted (codes "a")))) g.none))) (g.part (g.list (p 24 31 89 111) (g.part (g.atom (p 25 25 90 95) (g.spelled (k.Name (codes "begin") false))) (g.part (g.list (p 26 30 96 110) (g.part (g.atom (p 27 27 97 103) (g.spelled (k.Name (codes "define") false))) (g.part (g.atom (p 28 28 104 107) (g.spelled (k.Name (codes "fun") false))) (g.part (g.atom (p 29 29 108 109) (g.spelled (k.Numeral (codes "1")))) g.none)))) g.none))) g.none)))) (g.part (g.list (p 33 39 113 133) (g.part (g.atom (p 34 34 114 118) (g.spelled (k.Name (codes "else") false))) (g.part (g.list (p 35 38 119 132) (g.part (g.atom (p 36 36 120 127) (g.spelled (k.Name (codes "include") false))) (g.part (g.atom (p 37 37 128 131) (g.spelled (k.Quoted (codes "b")))) g.none))) g.none))) g.none)))) g.none))))))) ∷ [])) ∷ []) ≡ ((q 0 75 76 48 (codes "include is refused")) ∷ [])
+pub include-chosen : diagnostic_rows (((s 0 1) ∷ (s 1 15) ∷ (s 16 17) ∷ (s 17 18) ∷ (s 18 19) ∷ (s 20 21) ∷ (s 21 27) ∷ (s 28 31) ∷ (s 31 32) ∷ (s 33 34) ∷ (s 34 40) ∷ (s 41 42) ∷ (s 42 48) ∷ (s 49 53) ∷ (s 53 54) ∷ (s 54 55) ∷ (s 56 57) ∷ (s 57 68) ∷ (s 69 70) ∷ (s 70 74) ∷ (s 75 76) ∷ (s 76 83) ∷ (s 84 87) ∷ (s 87 88) ∷ (s 89 90) ∷ (s 90 95) ∷ (s 96 97) ∷ (s 97 103) ∷ (s 104 107) ∷ (s 108 109) ∷ (s 109 110) ∷ (s 110 111) ∷ (s 111 112) ∷ (s 113 114) ∷ (s 114 118) ∷ (s 119 120) ∷ (s 120 127) ∷ (s 128 131) ∷ (s 131 132) ∷ (s 132 133) ∷ (s 133 134) ∷ (s 134 135) ∷ []) ∷ []) ((Some (((g.list (p 0 41 0 135) (g.part (g.atom (p 1 1 1 15) (g.spelled (k.Name (codes "define-library") false))) (g.part (g.list (p 2 4 16 19) (g.part (g.atom (p 3 3 17 18) (g.spelled (k.Name (codes "l") false))) g.none)) (g.part (g.list (p 5 8 20 32) (g.part (g.atom (p 6 6 21 27) (g.spelled (k.Name (codes "export") false))) (g.part (g.atom (p 7 7 28 31) (g.spelled (k.Name (codes "fun") false))) g.none))) (g.part (g.list (p 9 15 33 55) (g.part (g.atom (p 10 10 34 40) (g.spelled (k.Name (codes "import") false))) (g.part (g.list (p 11 14 41 54) (g.part (g.atom (p 12 12 42 48) (g.spelled (k.Name (codes "scheme") false))) (g.part (g.atom (p 13 13 49 53) (g.spelled (k.Name (codes "base") false))) g.none))) g.none))) (g.part (g.list (p 16 40 56 134) (g.part (g.atom (p 17 17 57 68) (g.spelled (k.Name (codes "cond-expand") false))) (g.part (g.list (p 18 32 69 112) (g.part (g.atom (p 19 19 70 74) (g.spelled (k.Name (codes "r7rs") false))) (g.part (g.list (p 20 23 75 88) (g.part (g.atom (p 21 21 76 83) (g.spelled (k.Name (codes "include") false))) (g.part (g.atom (p 22 22 84 87) (g.spelled (k.Quoted (codes "x")))) g.none))) (g.part (g.list (p 24 31 89 111) (g.part (g.atom (p 25 25 90 95) (g.spelled (k.Name (codes "begin") false))) (g.part (g.list (p 26 30 96 110) (g.part (g.atom (p 27 27 97 103) (g.spelled (k.Name (codes "define") false))) (g.part (g.atom (p 28 28 104 107) (g.spelled (k.Name (codes "fun") false))) (g.part (g.atom (p 29 29 108 109) (g.spelled (k.Numeral (codes "1")))) g.none)))) g.none))) g.none)))) (g.part (g.list (p 33 39 113 133) (g.part (g.atom (p 34 34 114 118) (g.spelled (k.Name (codes "else") false))) (g.part (g.list (p 35 38 119 132) (g.part (g.atom (p 36 36 120 127) (g.spelled (k.Name (codes "include") false))) (g.part (g.atom (p 37 37 128 131) (g.spelled (k.Quoted (codes "y")))) g.none))) g.none))) g.none)))) g.none))))))) ∷ [])) ∷ []) ≡ ((q 0 84 87 105 (codes "included text not usable x")) ∷ [])
 unfolding base_names standard_libraries prelude encode_utf8
 include-chosen = refl
 
-pub include-not-chosen : diagnostic_rows (((s 0 1) ∷ (s 1 15) ∷ (s 16 17) ∷ (s 17 18) ∷ (s 18 19) ∷ (s 20 21) ∷ (s 21 27) ∷ (s 28 31) ∷ (s 31 32) ∷ (s 33 34) ∷ (s 34 40) ∷ (s 41 42) ∷ (s 42 48) ∷ (s 49 53) ∷ (s 53 54) ∷ (s 54 55) ∷ (s 56 57) ∷ (s 57 68) ∷ (s 69 70) ∷ (s 70 71) ∷ (s 71 74) ∷ (s 75 79) ∷ (s 79 80) ∷ (s 81 82) ∷ (s 82 89) ∷ (s 90 93) ∷ (s 93 94) ∷ (s 94 95) ∷ (s 96 97) ∷ (s 97 101) ∷ (s 102 103) ∷ (s 103 108) ∷ (s 109 110) ∷ (s 110 116) ∷ (s 117 120) ∷ (s 121 122) ∷ (s 122 123) ∷ (s 123 124) ∷ (s 124 125) ∷ (s 125 126) ∷ (s 126 127) ∷ []) ∷ []) ((Some (((g.list (p 0 40 0 127) (g.part (g.atom (p 1 1 1 15) (g.spelled (k.Name (codes "define-library") false))) (g.part (g.list (p 2 4 16 19) (g.part (g.atom (p 3 3 17 18) (g.spelled (k.Name (codes "l") false))) g.none)) (g.part (g.list (p 5 8 20 32) (g.part (g.atom (p 6 6 21 27) (g.spelled (k.Name (codes "export") false))) (g.part (g.atom (p 7 7 28 31) (g.spelled (k.Name (codes "fun") false))) g.none))) (g.part (g.list (p 9 15 33 55) (g.part (g.atom (p 10 10 34 40) (g.spelled (k.Name (codes "import") false))) (g.part (g.list (p 11 14 41 54) (g.part (g.atom (p 12 12 42 48) (g.spelled (k.Name (codes "scheme") false))) (g.part (g.atom (p 13 13 49 53) (g.spelled (k.Name (codes "base") false))) g.none))) g.none))) (g.part (g.list (p 16 39 56 126) (g.part (g.atom (p 17 17 57 68) (g.spelled (k.Name (codes "cond-expand") false))) (g.part (g.list (p 18 27 69 95) (g.part (g.list (p 19 22 70 80) (g.part (g.atom (p 20 20 71 74) (g.spelled (k.Name (codes "not") false))) (g.part (g.atom (p 21 21 75 79) (g.spelled (k.Name (codes "r7rs") false))) g.none))) (g.part (g.list (p 23 26 81 94) (g.part (g.atom (p 24 24 82 89) (g.spelled (k.Name (codes "include") false))) (g.part (g.atom (p 25 25 90 93) (g.spelled (k.Quoted (codes "a")))) g.none))) g.none))) (g.part (g.list (p 28 38 96 125) (g.part (g.atom (p 29 29 97 101) (g.spelled (k.Name (codes "else") false))) (g.part (g.list (p 30 37 102 124) (g.part (g.atom (p 31 31 103 108) (g.spelled (k.Name (codes "begin") false))) (g.part (g.list (p 32 36 109 123) (g.part (g.atom (p 33 33 110 116) (g.spelled (k.Name (codes "define") false))) (g.part (g.atom (p 34 34 117 120) (g.spelled (k.Name (codes "fun") false))) (g.part (g.atom (p 35 35 121 122) (g.spelled (k.Numeral (codes "1")))) g.none)))) g.none))) g.none))) g.none)))) g.none))))))) ∷ [])) ∷ []) ≡ ([])
+pub include-not-chosen : diagnostic_rows (((s 0 1) ∷ (s 1 15) ∷ (s 16 17) ∷ (s 17 18) ∷ (s 18 19) ∷ (s 20 21) ∷ (s 21 27) ∷ (s 28 31) ∷ (s 31 32) ∷ (s 33 34) ∷ (s 34 40) ∷ (s 41 42) ∷ (s 42 48) ∷ (s 49 53) ∷ (s 53 54) ∷ (s 54 55) ∷ (s 56 57) ∷ (s 57 68) ∷ (s 69 70) ∷ (s 70 71) ∷ (s 71 74) ∷ (s 75 79) ∷ (s 79 80) ∷ (s 81 82) ∷ (s 82 89) ∷ (s 90 93) ∷ (s 93 94) ∷ (s 94 95) ∷ (s 96 97) ∷ (s 97 101) ∷ (s 102 103) ∷ (s 103 108) ∷ (s 109 110) ∷ (s 110 116) ∷ (s 117 120) ∷ (s 121 122) ∷ (s 122 123) ∷ (s 123 124) ∷ (s 124 125) ∷ (s 125 126) ∷ (s 126 127) ∷ []) ∷ []) ((Some (((g.list (p 0 40 0 127) (g.part (g.atom (p 1 1 1 15) (g.spelled (k.Name (codes "define-library") false))) (g.part (g.list (p 2 4 16 19) (g.part (g.atom (p 3 3 17 18) (g.spelled (k.Name (codes "l") false))) g.none)) (g.part (g.list (p 5 8 20 32) (g.part (g.atom (p 6 6 21 27) (g.spelled (k.Name (codes "export") false))) (g.part (g.atom (p 7 7 28 31) (g.spelled (k.Name (codes "fun") false))) g.none))) (g.part (g.list (p 9 15 33 55) (g.part (g.atom (p 10 10 34 40) (g.spelled (k.Name (codes "import") false))) (g.part (g.list (p 11 14 41 54) (g.part (g.atom (p 12 12 42 48) (g.spelled (k.Name (codes "scheme") false))) (g.part (g.atom (p 13 13 49 53) (g.spelled (k.Name (codes "base") false))) g.none))) g.none))) (g.part (g.list (p 16 39 56 126) (g.part (g.atom (p 17 17 57 68) (g.spelled (k.Name (codes "cond-expand") false))) (g.part (g.list (p 18 27 69 95) (g.part (g.list (p 19 22 70 80) (g.part (g.atom (p 20 20 71 74) (g.spelled (k.Name (codes "not") false))) (g.part (g.atom (p 21 21 75 79) (g.spelled (k.Name (codes "r7rs") false))) g.none))) (g.part (g.list (p 23 26 81 94) (g.part (g.atom (p 24 24 82 89) (g.spelled (k.Name (codes "include") false))) (g.part (g.atom (p 25 25 90 93) (g.spelled (k.Quoted (codes "x")))) g.none))) g.none))) (g.part (g.list (p 28 38 96 125) (g.part (g.atom (p 29 29 97 101) (g.spelled (k.Name (codes "else") false))) (g.part (g.list (p 30 37 102 124) (g.part (g.atom (p 31 31 103 108) (g.spelled (k.Name (codes "begin") false))) (g.part (g.list (p 32 36 109 123) (g.part (g.atom (p 33 33 110 116) (g.spelled (k.Name (codes "define") false))) (g.part (g.atom (p 34 34 117 120) (g.spelled (k.Name (codes "fun") false))) (g.part (g.atom (p 35 35 121 122) (g.spelled (k.Numeral (codes "1")))) g.none)))) g.none))) g.none))) g.none)))) g.none))))))) ∷ [])) ∷ []) ≡ ([])
 unfolding base_names standard_libraries prelude encode_utf8
 include-not-chosen = refl
 
@@ -93,23 +94,23 @@ pub include-dotted : diagnostic_rows (((s 0 1) ∷ (s 1 15) ∷ (s 16 17) ∷ (s
 unfolding base_names standard_libraries prelude encode_utf8
 include-dotted = refl
 
-pub include-in-begin : diagnostic_rows (((s 0 1) ∷ (s 1 15) ∷ (s 16 17) ∷ (s 17 18) ∷ (s 18 19) ∷ (s 20 21) ∷ (s 21 27) ∷ (s 28 31) ∷ (s 31 32) ∷ (s 33 34) ∷ (s 34 40) ∷ (s 41 42) ∷ (s 42 48) ∷ (s 49 53) ∷ (s 53 54) ∷ (s 54 55) ∷ (s 56 57) ∷ (s 57 62) ∷ (s 63 64) ∷ (s 64 70) ∷ (s 71 74) ∷ (s 75 76) ∷ (s 76 77) ∷ (s 78 79) ∷ (s 79 86) ∷ (s 87 90) ∷ (s 90 91) ∷ (s 91 92) ∷ (s 92 93) ∷ []) ∷ []) ((Some (((g.list (p 0 28 0 93) (g.part (g.atom (p 1 1 1 15) (g.spelled (k.Name (codes "define-library") false))) (g.part (g.list (p 2 4 16 19) (g.part (g.atom (p 3 3 17 18) (g.spelled (k.Name (codes "l") false))) g.none)) (g.part (g.list (p 5 8 20 32) (g.part (g.atom (p 6 6 21 27) (g.spelled (k.Name (codes "export") false))) (g.part (g.atom (p 7 7 28 31) (g.spelled (k.Name (codes "fun") false))) g.none))) (g.part (g.list (p 9 15 33 55) (g.part (g.atom (p 10 10 34 40) (g.spelled (k.Name (codes "import") false))) (g.part (g.list (p 11 14 41 54) (g.part (g.atom (p 12 12 42 48) (g.spelled (k.Name (codes "scheme") false))) (g.part (g.atom (p 13 13 49 53) (g.spelled (k.Name (codes "base") false))) g.none))) g.none))) (g.part (g.list (p 16 27 56 92) (g.part (g.atom (p 17 17 57 62) (g.spelled (k.Name (codes "begin") false))) (g.part (g.list (p 18 22 63 77) (g.part (g.atom (p 19 19 64 70) (g.spelled (k.Name (codes "define") false))) (g.part (g.atom (p 20 20 71 74) (g.spelled (k.Name (codes "fun") false))) (g.part (g.atom (p 21 21 75 76) (g.spelled (k.Numeral (codes "1")))) g.none)))) (g.part (g.list (p 23 26 78 91) (g.part (g.atom (p 24 24 79 86) (g.spelled (k.Name (codes "include") false))) (g.part (g.atom (p 25 25 87 90) (g.spelled (k.Quoted (codes "a")))) g.none))) g.none)))) g.none))))))) ∷ [])) ∷ []) ≡ ((q 0 78 79 48 (codes "include is refused")) ∷ [])
+pub include-in-begin : diagnostic_rows (((s 0 1) ∷ (s 1 15) ∷ (s 16 17) ∷ (s 17 18) ∷ (s 18 19) ∷ (s 20 21) ∷ (s 21 27) ∷ (s 28 31) ∷ (s 31 32) ∷ (s 33 34) ∷ (s 34 40) ∷ (s 41 42) ∷ (s 42 48) ∷ (s 49 53) ∷ (s 53 54) ∷ (s 54 55) ∷ (s 56 57) ∷ (s 57 62) ∷ (s 63 64) ∷ (s 64 70) ∷ (s 71 74) ∷ (s 75 76) ∷ (s 76 77) ∷ (s 78 79) ∷ (s 79 86) ∷ (s 87 90) ∷ (s 90 91) ∷ (s 91 92) ∷ (s 92 93) ∷ []) ∷ []) ((Some (((g.list (p 0 28 0 93) (g.part (g.atom (p 1 1 1 15) (g.spelled (k.Name (codes "define-library") false))) (g.part (g.list (p 2 4 16 19) (g.part (g.atom (p 3 3 17 18) (g.spelled (k.Name (codes "l") false))) g.none)) (g.part (g.list (p 5 8 20 32) (g.part (g.atom (p 6 6 21 27) (g.spelled (k.Name (codes "export") false))) (g.part (g.atom (p 7 7 28 31) (g.spelled (k.Name (codes "fun") false))) g.none))) (g.part (g.list (p 9 15 33 55) (g.part (g.atom (p 10 10 34 40) (g.spelled (k.Name (codes "import") false))) (g.part (g.list (p 11 14 41 54) (g.part (g.atom (p 12 12 42 48) (g.spelled (k.Name (codes "scheme") false))) (g.part (g.atom (p 13 13 49 53) (g.spelled (k.Name (codes "base") false))) g.none))) g.none))) (g.part (g.list (p 16 27 56 92) (g.part (g.atom (p 17 17 57 62) (g.spelled (k.Name (codes "begin") false))) (g.part (g.list (p 18 22 63 77) (g.part (g.atom (p 19 19 64 70) (g.spelled (k.Name (codes "define") false))) (g.part (g.atom (p 20 20 71 74) (g.spelled (k.Name (codes "fun") false))) (g.part (g.atom (p 21 21 75 76) (g.spelled (k.Numeral (codes "1")))) g.none)))) (g.part (g.list (p 23 26 78 91) (g.part (g.atom (p 24 24 79 86) (g.spelled (k.Name (codes "include") false))) (g.part (g.atom (p 25 25 87 90) (g.spelled (k.Quoted (codes "x")))) g.none))) g.none)))) g.none))))))) ∷ [])) ∷ []) ≡ ((q 0 87 90 105 (codes "included text not usable x")) ∷ [])
 unfolding base_names standard_libraries prelude encode_utf8
 include-in-begin = refl
 
-pub include-in-begin-unbound : diagnostic_rows (((s 0 1) ∷ (s 1 15) ∷ (s 16 17) ∷ (s 17 18) ∷ (s 18 19) ∷ (s 20 21) ∷ (s 21 27) ∷ (s 28 29) ∷ (s 29 33) ∷ (s 34 35) ∷ (s 35 41) ∷ (s 42 46) ∷ (s 46 47) ∷ (s 48 54) ∷ (s 54 55) ∷ (s 55 56) ∷ (s 57 58) ∷ (s 58 63) ∷ (s 64 65) ∷ (s 65 71) ∷ (s 72 75) ∷ (s 76 77) ∷ (s 77 78) ∷ (s 79 80) ∷ (s 80 87) ∷ (s 88 91) ∷ (s 91 92) ∷ (s 92 93) ∷ (s 93 94) ∷ []) ∷ []) ((Some (((g.list (p 0 28 0 94) (g.part (g.atom (p 1 1 1 15) (g.spelled (k.Name (codes "define-library") false))) (g.part (g.list (p 2 4 16 19) (g.part (g.atom (p 3 3 17 18) (g.spelled (k.Name (codes "l") false))) g.none)) (g.part (g.list (p 5 15 20 56) (g.part (g.atom (p 6 6 21 27) (g.spelled (k.Name (codes "import") false))) (g.part (g.list (p 7 14 28 55) (g.part (g.atom (p 8 8 29 33) (g.spelled (k.Name (codes "only") false))) (g.part (g.list (p 9 12 34 47) (g.part (g.atom (p 10 10 35 41) (g.spelled (k.Name (codes "scheme") false))) (g.part (g.atom (p 11 11 42 46) (g.spelled (k.Name (codes "base") false))) g.none))) (g.part (g.atom (p 13 13 48 54) (g.spelled (k.Name (codes "define") false))) g.none)))) g.none))) (g.part (g.list (p 16 27 57 93) (g.part (g.atom (p 17 17 58 63) (g.spelled (k.Name (codes "begin") false))) (g.part (g.list (p 18 22 64 78) (g.part (g.atom (p 19 19 65 71) (g.spelled (k.Name (codes "define") false))) (g.part (g.atom (p 20 20 72 75) (g.spelled (k.Name (codes "fun") false))) (g.part (g.atom (p 21 21 76 77) (g.spelled (k.Numeral (codes "1")))) g.none)))) (g.part (g.list (p 23 26 79 92) (g.part (g.atom (p 24 24 80 87) (g.spelled (k.Name (codes "include") false))) (g.part (g.atom (p 25 25 88 91) (g.spelled (k.Quoted (codes "a")))) g.none))) g.none)))) g.none)))))) ∷ [])) ∷ []) ≡ ((q 0 80 87 103 (codes "unbound include")) ∷ [])
+pub include-in-begin-unbound : diagnostic_rows (((s 0 1) ∷ (s 1 15) ∷ (s 16 17) ∷ (s 17 18) ∷ (s 18 19) ∷ (s 20 21) ∷ (s 21 27) ∷ (s 28 29) ∷ (s 29 33) ∷ (s 34 35) ∷ (s 35 41) ∷ (s 42 46) ∷ (s 46 47) ∷ (s 48 54) ∷ (s 54 55) ∷ (s 55 56) ∷ (s 57 58) ∷ (s 58 63) ∷ (s 64 65) ∷ (s 65 71) ∷ (s 72 75) ∷ (s 76 77) ∷ (s 77 78) ∷ (s 79 80) ∷ (s 80 87) ∷ (s 88 91) ∷ (s 91 92) ∷ (s 92 93) ∷ (s 93 94) ∷ []) ∷ []) ((Some (((g.list (p 0 28 0 94) (g.part (g.atom (p 1 1 1 15) (g.spelled (k.Name (codes "define-library") false))) (g.part (g.list (p 2 4 16 19) (g.part (g.atom (p 3 3 17 18) (g.spelled (k.Name (codes "l") false))) g.none)) (g.part (g.list (p 5 15 20 56) (g.part (g.atom (p 6 6 21 27) (g.spelled (k.Name (codes "import") false))) (g.part (g.list (p 7 14 28 55) (g.part (g.atom (p 8 8 29 33) (g.spelled (k.Name (codes "only") false))) (g.part (g.list (p 9 12 34 47) (g.part (g.atom (p 10 10 35 41) (g.spelled (k.Name (codes "scheme") false))) (g.part (g.atom (p 11 11 42 46) (g.spelled (k.Name (codes "base") false))) g.none))) (g.part (g.atom (p 13 13 48 54) (g.spelled (k.Name (codes "define") false))) g.none)))) g.none))) (g.part (g.list (p 16 27 57 93) (g.part (g.atom (p 17 17 58 63) (g.spelled (k.Name (codes "begin") false))) (g.part (g.list (p 18 22 64 78) (g.part (g.atom (p 19 19 65 71) (g.spelled (k.Name (codes "define") false))) (g.part (g.atom (p 20 20 72 75) (g.spelled (k.Name (codes "fun") false))) (g.part (g.atom (p 21 21 76 77) (g.spelled (k.Numeral (codes "1")))) g.none)))) (g.part (g.list (p 23 26 79 92) (g.part (g.atom (p 24 24 80 87) (g.spelled (k.Name (codes "include") false))) (g.part (g.atom (p 25 25 88 91) (g.spelled (k.Quoted (codes "x")))) g.none))) g.none)))) g.none)))))) ∷ [])) ∷ []) ≡ ((q 0 88 91 105 (codes "included text not usable x")) ∷ [])
 unfolding base_names standard_libraries prelude encode_utf8
 include-in-begin-unbound = refl
 
-pub include-declared-without-imports : diagnostic_rows (((s 0 1) ∷ (s 1 15) ∷ (s 16 17) ∷ (s 17 18) ∷ (s 18 19) ∷ (s 20 21) ∷ (s 21 28) ∷ (s 29 32) ∷ (s 32 33) ∷ (s 33 34) ∷ []) ∷ []) ((Some (((g.list (p 0 9 0 34) (g.part (g.atom (p 1 1 1 15) (g.spelled (k.Name (codes "define-library") false))) (g.part (g.list (p 2 4 16 19) (g.part (g.atom (p 3 3 17 18) (g.spelled (k.Name (codes "l") false))) g.none)) (g.part (g.list (p 5 8 20 33) (g.part (g.atom (p 6 6 21 28) (g.spelled (k.Name (codes "include") false))) (g.part (g.atom (p 7 7 29 32) (g.spelled (k.Quoted (codes "a")))) g.none))) g.none))))) ∷ [])) ∷ []) ≡ ((q 0 20 21 48 (codes "include is refused")) ∷ [])
+pub include-declared-without-imports : diagnostic_rows (((s 0 1) ∷ (s 1 15) ∷ (s 16 17) ∷ (s 17 18) ∷ (s 18 19) ∷ (s 20 21) ∷ (s 21 28) ∷ (s 29 32) ∷ (s 32 33) ∷ (s 33 34) ∷ []) ∷ []) ((Some (((g.list (p 0 9 0 34) (g.part (g.atom (p 1 1 1 15) (g.spelled (k.Name (codes "define-library") false))) (g.part (g.list (p 2 4 16 19) (g.part (g.atom (p 3 3 17 18) (g.spelled (k.Name (codes "l") false))) g.none)) (g.part (g.list (p 5 8 20 33) (g.part (g.atom (p 6 6 21 28) (g.spelled (k.Name (codes "include") false))) (g.part (g.atom (p 7 7 29 32) (g.spelled (k.Quoted (codes "x")))) g.none))) g.none))))) ∷ [])) ∷ []) ≡ ((q 0 29 32 105 (codes "included text not usable x")) ∷ [])
 unfolding base_names standard_libraries prelude encode_utf8
 include-declared-without-imports = refl
 
-pub include-in-a-program : diagnostic_rows (((s 0 1) ∷ (s 1 7) ∷ (s 8 9) ∷ (s 9 15) ∷ (s 16 20) ∷ (s 20 21) ∷ (s 21 22) ∷ (s 23 24) ∷ (s 24 31) ∷ (s 32 35) ∷ (s 35 36) ∷ []) ∷ []) ((Some (((g.list (p 0 6 0 22) (g.part (g.atom (p 1 1 1 7) (g.spelled (k.Name (codes "import") false))) (g.part (g.list (p 2 5 8 21) (g.part (g.atom (p 3 3 9 15) (g.spelled (k.Name (codes "scheme") false))) (g.part (g.atom (p 4 4 16 20) (g.spelled (k.Name (codes "base") false))) g.none))) g.none)))) ∷ ((g.list (p 7 10 23 36) (g.part (g.atom (p 8 8 24 31) (g.spelled (k.Name (codes "include") false))) (g.part (g.atom (p 9 9 32 35) (g.spelled (k.Quoted (codes "a")))) g.none)))) ∷ [])) ∷ []) ≡ ((q 0 23 24 48 (codes "include is refused")) ∷ [])
+pub include-in-a-program : diagnostic_rows (((s 0 1) ∷ (s 1 7) ∷ (s 8 9) ∷ (s 9 15) ∷ (s 16 20) ∷ (s 20 21) ∷ (s 21 22) ∷ (s 23 24) ∷ (s 24 31) ∷ (s 32 35) ∷ (s 35 36) ∷ []) ∷ []) ((Some (((g.list (p 0 6 0 22) (g.part (g.atom (p 1 1 1 7) (g.spelled (k.Name (codes "import") false))) (g.part (g.list (p 2 5 8 21) (g.part (g.atom (p 3 3 9 15) (g.spelled (k.Name (codes "scheme") false))) (g.part (g.atom (p 4 4 16 20) (g.spelled (k.Name (codes "base") false))) g.none))) g.none)))) ∷ ((g.list (p 7 10 23 36) (g.part (g.atom (p 8 8 24 31) (g.spelled (k.Name (codes "include") false))) (g.part (g.atom (p 9 9 32 35) (g.spelled (k.Quoted (codes "x")))) g.none)))) ∷ [])) ∷ []) ≡ ((q 0 32 35 105 (codes "included text not usable x")) ∷ [])
 unfolding base_names standard_libraries prelude encode_utf8
 include-in-a-program = refl
 
-pub include-beside-definitions : diagnostic_rows (((s 0 1) ∷ (s 1 15) ∷ (s 16 17) ∷ (s 17 18) ∷ (s 18 19) ∷ (s 20 21) ∷ (s 21 27) ∷ (s 28 31) ∷ (s 31 32) ∷ (s 33 34) ∷ (s 34 40) ∷ (s 41 42) ∷ (s 42 48) ∷ (s 49 53) ∷ (s 53 54) ∷ (s 54 55) ∷ (s 56 57) ∷ (s 57 64) ∷ (s 65 72) ∷ (s 72 73) ∷ (s 74 75) ∷ (s 75 80) ∷ (s 81 82) ∷ (s 82 88) ∷ (s 89 92) ∷ (s 93 94) ∷ (s 94 95) ∷ (s 95 96) ∷ (s 96 97) ∷ []) ∷ ((s 0 1) ∷ (s 1 7) ∷ (s 8 9) ∷ (s 9 15) ∷ (s 16 20) ∷ (s 20 21) ∷ (s 22 23) ∷ (s 23 24) ∷ (s 24 25) ∷ (s 25 26) ∷ (s 27 28) ∷ (s 28 32) ∷ (s 33 36) ∷ (s 36 37) ∷ []) ∷ []) ((Some (((g.list (p 0 28 0 97) (g.part (g.atom (p 1 1 1 15) (g.spelled (k.Name (codes "define-library") false))) (g.part (g.list (p 2 4 16 19) (g.part (g.atom (p 3 3 17 18) (g.spelled (k.Name (codes "l") false))) g.none)) (g.part (g.list (p 5 8 20 32) (g.part (g.atom (p 6 6 21 27) (g.spelled (k.Name (codes "export") false))) (g.part (g.atom (p 7 7 28 31) (g.spelled (k.Name (codes "fun") false))) g.none))) (g.part (g.list (p 9 15 33 55) (g.part (g.atom (p 10 10 34 40) (g.spelled (k.Name (codes "import") false))) (g.part (g.list (p 11 14 41 54) (g.part (g.atom (p 12 12 42 48) (g.spelled (k.Name (codes "scheme") false))) (g.part (g.atom (p 13 13 49 53) (g.spelled (k.Name (codes "base") false))) g.none))) g.none))) (g.part (g.list (p 16 19 56 73) (g.part (g.atom (p 17 17 57 64) (g.spelled (k.Name (codes "include") false))) (g.part (g.atom (p 18 18 65 72) (g.spelled (k.Quoted (codes "a.scm")))) g.none))) (g.part (g.list (p 20 27 74 96) (g.part (g.atom (p 21 21 75 80) (g.spelled (k.Name (codes "begin") false))) (g.part (g.list (p 22 26 81 95) (g.part (g.atom (p 23 23 82 88) (g.spelled (k.Name (codes "define") false))) (g.part (g.atom (p 24 24 89 92) (g.spelled (k.Name (codes "fun") false))) (g.part (g.atom (p 25 25 93 94) (g.spelled (k.Numeral (codes "1")))) g.none)))) g.none))) g.none)))))))) ∷ [])) ∷ (Some (((g.list (p 0 9 0 26) (g.part (g.atom (p 1 1 1 7) (g.spelled (k.Name (codes "import") false))) (g.part (g.list (p 2 5 8 21) (g.part (g.atom (p 3 3 9 15) (g.spelled (k.Name (codes "scheme") false))) (g.part (g.atom (p 4 4 16 20) (g.spelled (k.Name (codes "base") false))) g.none))) (g.part (g.list (p 6 8 22 25) (g.part (g.atom (p 7 7 23 24) (g.spelled (k.Name (codes "l") false))) g.none)) g.none))))) ∷ ((g.list (p 10 13 27 37) (g.part (g.atom (p 11 11 28 32) (g.spelled (k.Name (codes "list") false))) (g.part (g.atom (p 12 12 33 36) (g.spelled (k.Name (codes "fun") false))) g.none)))) ∷ [])) ∷ []) ≡ ((q 0 56 57 48 (codes "include is refused")) ∷ [])
+pub include-beside-definitions : diagnostic_rows (((s 0 1) ∷ (s 1 15) ∷ (s 16 17) ∷ (s 17 18) ∷ (s 18 19) ∷ (s 20 21) ∷ (s 21 27) ∷ (s 28 31) ∷ (s 31 32) ∷ (s 33 34) ∷ (s 34 40) ∷ (s 41 42) ∷ (s 42 48) ∷ (s 49 53) ∷ (s 53 54) ∷ (s 54 55) ∷ (s 56 57) ∷ (s 57 64) ∷ (s 65 72) ∷ (s 72 73) ∷ (s 74 75) ∷ (s 75 80) ∷ (s 81 82) ∷ (s 82 88) ∷ (s 89 92) ∷ (s 93 94) ∷ (s 94 95) ∷ (s 95 96) ∷ (s 96 97) ∷ []) ∷ ((s 0 1) ∷ (s 1 7) ∷ (s 8 9) ∷ (s 9 15) ∷ (s 16 20) ∷ (s 20 21) ∷ (s 22 23) ∷ (s 23 24) ∷ (s 24 25) ∷ (s 25 26) ∷ (s 27 28) ∷ (s 28 32) ∷ (s 33 36) ∷ (s 36 37) ∷ []) ∷ []) ((Some (((g.list (p 0 28 0 97) (g.part (g.atom (p 1 1 1 15) (g.spelled (k.Name (codes "define-library") false))) (g.part (g.list (p 2 4 16 19) (g.part (g.atom (p 3 3 17 18) (g.spelled (k.Name (codes "l") false))) g.none)) (g.part (g.list (p 5 8 20 32) (g.part (g.atom (p 6 6 21 27) (g.spelled (k.Name (codes "export") false))) (g.part (g.atom (p 7 7 28 31) (g.spelled (k.Name (codes "fun") false))) g.none))) (g.part (g.list (p 9 15 33 55) (g.part (g.atom (p 10 10 34 40) (g.spelled (k.Name (codes "import") false))) (g.part (g.list (p 11 14 41 54) (g.part (g.atom (p 12 12 42 48) (g.spelled (k.Name (codes "scheme") false))) (g.part (g.atom (p 13 13 49 53) (g.spelled (k.Name (codes "base") false))) g.none))) g.none))) (g.part (g.list (p 16 19 56 73) (g.part (g.atom (p 17 17 57 64) (g.spelled (k.Name (codes "include") false))) (g.part (g.atom (p 18 18 65 72) (g.spelled (k.Quoted (codes "a.scm")))) g.none))) (g.part (g.list (p 20 27 74 96) (g.part (g.atom (p 21 21 75 80) (g.spelled (k.Name (codes "begin") false))) (g.part (g.list (p 22 26 81 95) (g.part (g.atom (p 23 23 82 88) (g.spelled (k.Name (codes "define") false))) (g.part (g.atom (p 24 24 89 92) (g.spelled (k.Name (codes "fun") false))) (g.part (g.atom (p 25 25 93 94) (g.spelled (k.Numeral (codes "1")))) g.none)))) g.none))) g.none)))))))) ∷ [])) ∷ (Some (((g.list (p 0 9 0 26) (g.part (g.atom (p 1 1 1 7) (g.spelled (k.Name (codes "import") false))) (g.part (g.list (p 2 5 8 21) (g.part (g.atom (p 3 3 9 15) (g.spelled (k.Name (codes "scheme") false))) (g.part (g.atom (p 4 4 16 20) (g.spelled (k.Name (codes "base") false))) g.none))) (g.part (g.list (p 6 8 22 25) (g.part (g.atom (p 7 7 23 24) (g.spelled (k.Name (codes "l") false))) g.none)) g.none))))) ∷ ((g.list (p 10 13 27 37) (g.part (g.atom (p 11 11 28 32) (g.spelled (k.Name (codes "list") false))) (g.part (g.atom (p 12 12 33 36) (g.spelled (k.Name (codes "fun") false))) g.none)))) ∷ [])) ∷ []) ≡ ((q 0 65 72 105 (codes "included text not usable a.scm")) ∷ [])
 unfolding base_names standard_libraries prelude encode_utf8
 include-beside-definitions = refl
 
