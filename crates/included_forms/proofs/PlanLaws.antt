@@ -9,13 +9,15 @@ use Rattle.scheme_model.specs.ExpansionFaults.{Fault}
 use Rattle.scheme_model.specs.Requirements.{Known, LibraryName, library_name_of}
 use Rattle.scheme_model.specs.Declarations.{is_library, behind_head, symbol_tree, name_or}
 use Rattle.scheme_model.specs.Includes.{program_data}
-use Rattle.scheme_model.specs.Included.{Homed, Listing, in_a_row, Texts, form_or_texts, bad, declarations, homed_from}
-use Rattle.scheme_model.specs.IncludedUnits.{own, library_listing, if_named}
+use Rattle.scheme_model.specs.Included.{Homed, inside, Listing, followed, in_a_row, Texts, form_or_texts, bad, declaration, declarations, homed_from}
+use Rattle.scheme_model.specs.IncludedUnits.{own, library_listing, if_named, library_name_in}
 use Rattle.datum_reader.specs.declared.datum.Datum as code
 use Rattle.datum_reader.specs.Views.{datum_of, data_of}
 use Rattle.datum_reader.specs.Looks.{end_with, is_other, IsListOf}
 use Rattle.datum_reader.proofs.DatumLaws.{place-datum}
-use Rattle.known_libraries.specs.PartsRead.{map_ok, library_text}
+use Rattle.known_libraries.specs.PartsRead.{Fails, map_ok, library_text}
+use Rattle.datum_reader.specs.declared.shape_fault.ShapeFault.{ShapeFault}
+use Rattle.datum_reader.specs.declared.shape_fault.ShapeFault.TheVariants as fault
 use Rattle.included_forms.specs.declared.steps.Origin.{Origin}
 use Rattle.included_forms.specs.declared.steps.Step.{Step}
 use Rattle.included_forms.specs.declared.steps.Stop.{Stop}
@@ -24,18 +26,19 @@ use Rattle.included_forms.specs.declared.steps.Way.{Way}
 use Rattle.included_forms.specs.declared.steps.Way.TheVariants as way
 use Rattle.included_forms.specs.declared.plans.Plan.{Plan}
 use Rattle.included_forms.specs.Steps.{from, given_by, steps_then, Plans}
-use Rattle.included_forms.specs.Planned.{bad_one, plan_listing, IsPlanOf, included_as, included_from, all_included, PlansFirst}
+use Rattle.included_forms.specs.Planned.{bad_one, plan_listing, IsPlanOf, included_as, included_from, all_included, PlansFirst, IsNamed}
+use Rattle.included_forms.proofs.InRows.{row_in_place, bad_alone}
 
 -- ---- how plans end
 
 pub plan_made : (t : Texts) (n : ℕ) (old steps : List Step) (ended : Result Unit Stop) (r : Result Plan Memory) (ls : List Listing) → old ≡ [] → IsPlanOf steps ended r → Plans t n old steps ended ls →
     IfOk r (λ p. plan_listing t n p ≡ in_a_row t.limit ls)
-plan_made t n old steps ended (Err e) ls none h k = tt
-plan_made t n old steps (Ok u) (Ok p) ls none h k =
-    (λ j. in_a_row t.limit (map (given_by t n) (h.0 j) ++ bad_one (h.1 j))) ∙ sym (k []) ∙ ap (λ (xs : List Step). steps_then t n xs (ls ++ [])) none ∙ ap (in_a_row t.limit) (append-nil ls)
-plan_made t n old steps (Err (stop.Bad s)) (Ok p) ls none h k =
-    (λ j. in_a_row t.limit (map (given_by t n) (h.0 j) ++ bad_one (h.1 j))) ∙ sym (k []) ∙ ap (λ (xs : List Step). steps_then t n xs (ls ++ [])) none ∙ ap (in_a_row t.limit) (append-nil ls)
-plan_made t n old steps (Err stop.Memory) (Ok p) ls none h k = absurd h
+plan_made t n old steps ended (Err e) ls empty h k = tt
+plan_made t n old steps (Ok u) (Ok p) ls empty h k =
+    (λ j. in_a_row t.limit (map (given_by t n) (h.0 j) ++ bad_one (h.1 j))) ∙ sym (k []) ∙ ap (λ (xs : List Step). steps_then t n xs (ls ++ [])) empty ∙ ap (in_a_row t.limit) (append-nil ls)
+plan_made t n old steps (Err (stop.Bad s)) (Ok p) ls empty h k =
+    (λ j. in_a_row t.limit (map (given_by t n) (h.0 j) ++ bad_one (h.1 j))) ∙ sym (k []) ∙ ap (λ (xs : List Step). steps_then t n xs (ls ++ [])) empty ∙ ap (in_a_row t.limit) (append-nil ls)
+plan_made t n old steps (Err stop.Memory) (Ok p) ls empty h k = absurd h
 
 -- ---- the data of programs
 
@@ -151,15 +154,48 @@ module _ (t : Texts) (known : Known) (o : Origin) (d : Datum) where
   pub library_there : (n : Datum) (ds : Data) (name : LibraryName) → library_name_of (λ s. s) (symbol_tree n) ≡ Ok name → library_listing t known (from o d) (part n ds) ≡ declarations t known (from o d) d ds
   library_there n ds name h = ap (λ (r : Result LibraryName (Fault (List ℕ))). if_named (from o d) (name_or r) (declarations t known (from o d) d ds)) h
 
-  pub nameless : (n : Datum) (ds : Data) (e : Fault (List ℕ)) → map_ok library_text (library_name_of (λ s. s) (symbol_tree n)) ≡ Err e → library_listing t known (from o d) (part n ds) ≡ bad (from o d)
-  nameless n ds e h = go (library_name_of (λ s. s) (symbol_tree n)) h
-    where
-      go : (r : Result LibraryName (Fault (List ℕ))) → map_ok library_text r ≡ Err e → if_named (from o d) (name_or r) (declarations t known (from o d) d ds) ≡ bad (from o d)
-      go (Ok name) k = absurd cc
-      go (Err f) k = refl
+  pub nameless : (n : Datum) (ds : Data) (e : Fault (List ℕ)) → library_name_of (λ s. s) (symbol_tree n) ≡ Err e → library_listing t known (from o d) (part n ds) ≡ bad (from o d)
+  nameless n ds e h = ap (λ (r : Result LibraryName (Fault (List ℕ))). if_named (from o d) (name_or r) (declarations t known (from o d) d ds)) h
 
 pub other_library : (t : Texts) (known : Known) (o : Origin) (d : Datum) → is_other d ≡ true → library_listing t known (from o d) (behind_head d) ≡ bad (from o d)
 other_library t known o (atom p a) h = refl
 other_library t known o (list p ds) h = absurd cc
 other_library t known o (vector p ds) h = refl
 other_library t known o (bytes p bs) h = refl
+
+-- ---- one row alone
+
+pub row_alone : (limit : ℕ) (ms : List Listing) → in_a_row limit (in_a_row limit ms ∷ []) ≡ in_a_row limit ms
+row_alone limit ms = row_in_place limit [] ms [] ∙ ap (in_a_row limit) (append-nil ms)
+
+module _ (t : Texts) (known : Known) (h : Homed) where
+  rows : Datum → Data → List Listing
+  rows whole none = []
+  rows whole (part d ds) = declaration t known h d ∷ rows whole ds
+  rows whole (tail d) = bad (inside h whole) ∷ []
+
+  in_rows : (whole : Datum) (ds : Data) → declarations t known h whole ds ≡ in_a_row t.limit (rows whole ds)
+  unfolding rows
+  in_rows whole none = refl
+  in_rows whole (part d ds) = ap (followed t.limit (declaration t known h d)) (in_rows whole ds)
+  in_rows whole (tail d) = sym (bad_alone t.limit (inside h whole))
+
+  pub library_alone : (ds : Data) → in_a_row t.limit (library_listing t known h ds ∷ []) ≡ library_listing t known h ds
+  library_alone none = bad_alone t.limit h
+  library_alone (tail d) = bad_alone t.limit h
+  library_alone (part n ds) = go (library_name_in (part n ds))
+    where
+      go : (o : Option LibraryName) → in_a_row t.limit (if_named h o (declarations t known h h.datum ds) ∷ []) ≡ if_named h o (declarations t known h h.datum ds)
+      go None = bad_alone t.limit h
+      go (Some name) = ap (λ l. in_a_row t.limit (l ∷ [])) (in_rows h.datum ds) ∙ row_alone t.limit (rows h.datum ds) ∙ sym (in_rows h.datum ds)
+
+-- ---- names
+
+pub named_fails : (e : ShapeFault) (r : Result LibraryName (Fault (List ℕ))) → Fails e (map_ok library_text r) → Fails e r
+named_fails fault.Memory r h = tt
+named_fails fault.BadForm (Ok n) h = absurd cc
+named_fails fault.BadForm (Err f) h = cc
+
+pub named_err : (x : Result Unit ShapeFault) (e : ShapeFault) (r : Result LibraryName (Fault (List ℕ))) → IsErrAnd x (λ f. f ≡ e) → Fails e (map_ok library_text r) → IsNamed x r
+named_err (Ok u) e r h k = absurd h
+named_err (Err f) e r h k = subst (λ (g : ShapeFault). Fails g r) (sym h) (named_fails e r k)

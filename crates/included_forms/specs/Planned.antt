@@ -2,7 +2,10 @@
 use Rattle.std.specs.Prelude.{◌≡◌, ℕ, List, [], ◌∷◌, ◌++◌, map, Option, Some, None, Result, Ok, Err}
 use Rattle.ls_base.specs.declared.memory.Memory.{Memory}
 use Rattle.scheme_model.specs.Data.{Datum}
-use Rattle.scheme_model.specs.Requirements.{Known}
+use Rattle.scheme_model.specs.ExpansionFaults.{Fault}
+use Rattle.scheme_model.specs.Requirements.{Known, LibraryName}
+use Rattle.datum_reader.specs.declared.shape_fault.ShapeFault.{ShapeFault}
+use Rattle.known_libraries.specs.PartsRead.{Fails}
 use Rattle.scheme_model.specs.Includes.{program_data}
 use Rattle.scheme_model.specs.Included.{Homed, Listing, Texts, bad, form_or_texts, forms_of, declaration, declarations_of, homed_from}
 use Rattle.included_forms.specs.declared.steps.Source.{Source}
@@ -44,6 +47,13 @@ abbrev pub PlansFirst : Texts → (document : ℕ) → (old new : List Step) →
 PlansFirst t n old new (Ok next) d give number = (rest : List Datum) (behind : List Listing) → steps_then t n old (give number (d ∷ rest) ++ behind) ≡ steps_then t n new (give next rest ++ behind)
 PlansFirst t n old new (Err (stop.Bad s)) d give number = (rest : List Datum) (behind : List Listing) → steps_then t n old (give number (d ∷ rest) ++ behind) ≡ steps_then t n new (bad (homed_of s) ∷ [])
 PlansFirst t n old new (Err stop.Memory) d give number = Unit {0}
+
+-- ---- names
+
+-- a library has a name; or it has none; want of memory may come with any
+abbrev pub IsNamed : Result Unit ShapeFault → Result LibraryName (Fault (List ℕ)) → Type 0
+IsNamed (Ok u) r = (n : LibraryName) × (r ≡ Ok n)
+IsNamed (Err e) r = Fails e r
 
 -- ---- how plans end
 

@@ -1,17 +1,18 @@
 //! What programs, libraries and included texts give, before the texts are looked at that they include (R7RS 4.1.7, 5.1, 5.6.1).
-ghost use Rattle.std.specs.Prelude.{◌≡◌, [], ◌∷◌, IfOk, Option, map};
+ghost use Rattle.std.specs.Prelude.{◌≡◌, ℕ, [], ◌∷◌, IfOk, Option, map};
 ghost use Rattle.std.specs.Option.{is_some};
 ghost use Rattle.scheme_model.specs.Data.{Datum as ModelDatum, part, row};
 ghost use Rattle.scheme_model.specs.Declarations.{behind_head};
-ghost use Rattle.scheme_model.specs.Requirements.{Known};
-ghost use Rattle.scheme_model.specs.Included.{Texts, in_a_row, form_or_texts, forms_of, homed_from};
+ghost use Rattle.scheme_model.specs.Requirements.{Known, library_name_of};
+ghost use Rattle.scheme_model.specs.declared.Occ.{Occ};
+ghost use Rattle.scheme_model.specs.Included.{Texts, form_or_texts, forms_of, homed_from};
 ghost use Rattle.scheme_model.specs.Includes.{program_data};
 ghost use Rattle.scheme_model.specs.IncludedUnits.{library_listing, own};
 ghost use Rattle.datum_reader.specs.Views.{datum_of, data_of};
-ghost use Rattle.datum_reader.specs.Looks.{end_with, IsListOf};
+ghost use Rattle.datum_reader.specs.Looks.{end_with, tree_at, IsListOf};
 ghost use Rattle.known_libraries.specs.PartsRead.{Knows};
 ghost use Rattle.included_forms.specs.Steps.{Plans, from};
-ghost use Rattle.included_forms.specs.Planned.{plan_listing, IsPlanOf, included_as, included_from, all_included, PlansFirst};
+ghost use Rattle.included_forms.specs.Planned.{plan_listing, IsPlanOf, included_as, included_from, all_included, PlansFirst, IsNamed};
 
 use crate::planning::{bad, declaration, declarations, form_or_texts};
 use crate::steps::{Origin, Source, Step, Stop, Way};
@@ -181,6 +182,14 @@ pub fn included_plan<'a>(
 
 // ---- a library
 
+/// Whether a library has a name.
+fn is_named(alloc: Global, name: &Datum) -> Result<(), ShapeFault>
+    ensures { (place : ℕ → Occ) → IsNamed result (library_name_of (λ s. s) (tree_at place name.now)) }
+{
+    library_name(alloc, name)?;
+    Ok(())
+}
+
 /// Adds the declarations behind a library's name.
 fn named<'a>(
     alloc: Global,
@@ -195,8 +204,8 @@ fn named<'a>(
     ensures { (t : Texts) (has : Known) → Knows known.now.names has → (end : Option ModelDatum) → is_some end ≡ dotted →
         Plans t origin.document steps.old.items steps.new.items result (library_listing t has (from origin (datum_of datum.now)) (part (datum_of name.now) (row (data_of rest.now) (end_with end))) ∷ []) }
 {
-    match library_name(alloc, name) {
-        Ok(_) => declarations(alloc, known, origin, datum, rest, dotted, steps),
+    match is_named(alloc, name) {
+        Ok(()) => declarations(alloc, known, origin, datum, rest, dotted, steps),
         Err(ShapeFault::BadForm) => Err(bad(origin, datum)),
         Err(ShapeFault::Memory) => Err(Stop::Memory),
     }
@@ -257,7 +266,7 @@ pub fn library_plan<'a>(
     datum: &'a Datum,
 ) -> Mem<Plan<'a>>
     ensures { (t : Texts) (has : Known) → Knows known.now.names has → let d = datum_of datum.now in
-        IfOk result (λ plan. plan_listing t document plan ≡ in_a_row t.limit (library_listing t has (own document d) (behind_head d) ∷ [])) }
+        IfOk result (λ plan. plan_listing t document plan ≡ library_listing t has (own document d) (behind_head d)) }
 {
     let mut steps = Vec::new(alloc);
     let origin = Origin {

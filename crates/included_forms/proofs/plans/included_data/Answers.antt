@@ -7,12 +7,12 @@ loop-datum-init c = λ t has k behind. refl
 
 pub loop-datum-preserved : goal.loop-datum-preserved
 loop-datum-preserved c = λ t has k.
-    numbered_more t has c.args.way c.args.document c.args.unit c.args.«data».now c.loop-datum.datum-index c.datum-item.result c.loop-datum.number c.args.steps.now.items c.loop-datum.steps.items c.included_with-number.new.steps.items (omega arith)
+    numbered_more t has c.args.way c.args.document c.args.unit c.args.«data».now c.loop-datum.datum-index c.datum-item.result c.loop-datum.number c.args.steps.now.items c.loop-datum.steps.items c.included_with.new.steps.items (omega arith)
     c.datum-item.is (c.loop-datum.invariant t has k) c.in_ok-number.number (c.in_ok-number.ensures t has k)
 
 pub returns-in_err-number : goal.returns-in_err-number
 returns-in_err-number c = λ t has k.
-    numbered_fails t has c.args.way c.args.document c.args.unit c.args.«data».now c.loop-datum.datum-index c.datum-item.result c.loop-datum.number c.args.steps.now.items c.loop-datum.steps.items c.included_with-number.new.steps.items (omega arith)
+    numbered_fails t has c.args.way c.args.document c.args.unit c.args.«data».now c.loop-datum.datum-index c.datum-item.result c.loop-datum.number c.args.steps.now.items c.loop-datum.steps.items c.included_with.new.steps.items (omega arith)
     c.datum-item.is (c.loop-datum.invariant t has k) c.from_residual.result c.in_err-number.field-0.0 c.from_residual.ensures.1 (c.in_err-number.ensures t has k)
 
 pub returns : goal.returns

@@ -9,8 +9,7 @@ use Rattle.scheme_model.specs.IncludedUnits.{library_listing}
 use Rattle.datum_reader.specs.Views.{datum_of, data_of}
 use Rattle.datum_reader.specs.Looks.{end_with}
 use Rattle.datum_reader.specs.declared.shape_fault.ShapeFault.{ShapeFault}
-use Rattle.known_libraries.specs.PartsRead.{Fails, library_text, map_ok}
-use Rattle.known_libraries.proofs.NameTexts.{ok_of}
+use Rattle.known_libraries.specs.PartsRead.{Fails}
 use Rattle.included_forms.specs.Steps.{from}
 use Rattle.included_forms.proofs.Planned.{plans_bad, plans_same}
 use Rattle.included_forms.proofs.PlanLaws.{library_there, nameless}
@@ -26,7 +25,7 @@ returns-in-Ok c = λ t has k end e.
     let d = datum_of c.args.datum.now in
     let n = datum_of c.args.name.now in
     let r = row (data_of c.args.rest.now) (end_with end) in
-    let p = ok_of library_text (library_name_of (λ s. s) (symbol_tree n)) c.in-Ok.field-0 (c.in-Ok.ensures alone) in
+    let p = c.in-Ok.ensures alone in
     plans_same t o.document c.args.steps.now.items c.declarations.new.steps.items c.declarations.result (declarations t has (from o d) d r ∷ []) (library_listing t has (from o d) (part n r) ∷ [])
     (ap (λ (l : Listing). l ∷ []) (library_there t has o d n r p.0 p.1)) (c.declarations.ensures t has k d end e)
 
@@ -37,4 +36,4 @@ returns-in-Err-BadForm c = λ t has k end e.
     let n = datum_of c.args.name.now in
     let r = row (data_of c.args.rest.now) (end_with end) in
     plans_bad t o.document c.args.steps.now.items c.bad.result (record { origin = o; datum = c.args.datum }) (library_listing t has (from o d) (part n r)) c.bad.ensures
-    (nameless t has o d n r BadForm (subst (λ (f : ShapeFault). Fails f (map_ok library_text (library_name_of (λ s. s) (symbol_tree n)))) c.in-Err-BadForm.field-0-is (c.in-Err-BadForm.ensures alone)))
+    (nameless t has o d n r BadForm (subst (λ (f : ShapeFault). Fails f (library_name_of (λ s. s) (symbol_tree n))) c.in-Err-BadForm.field-0-is (c.in-Err-BadForm.ensures alone)))
