@@ -1,0 +1,95 @@
+-- The forms that steps give, one step after another.
+use Rattle.std.proofs.Common.{◌≡◌, ℕ, ◌+◌, ◌<◌, ◌≤◌, List, [], ◌∷◌, ◌++◌, append_assoc, append-nil, length, get_or, take, drop, map, Bool, true, false, Option, Some, None, slice_get, refl, sym, ap, ◌∙◌, subst}
+use Rattle.std.proofs.lemmas.List.{drop_more, at_drop_all, map-append}
+use Rattle.scheme_model.specs.Included as model
+use Rattle.scheme_model.specs.Included.{Listing, Lists, BadAfter, nothing, bad, in_a_row, given_at}
+use Rattle.included_forms.specs.declared.steps.Source.{Source}
+use Rattle.included_forms.specs.declared.steps.FlatForm.{FlatForm}
+use Rattle.included_forms.specs.declared.steps.Way.{Way}
+use Rattle.included_forms.specs.declared.given.Given.{Given}
+use Rattle.included_forms.specs.declared.given.Count.{Count}
+use Rattle.included_forms.specs.declared.given.Written.{Written}
+use Rattle.included_forms.specs.declared.given.Part.{Part}
+use Rattle.included_forms.specs.Steps.{homed_of, form_of}
+use Rattle.included_forms.specs.Planned.{bad_one}
+use Rattle.included_forms.specs.Counted.{Tally, is_none, tally_as, tally_of, counts_none, in_way, listing_of, all_given, IsWritten, Stand}
+use Rattle.included_forms.proofs.InRows.{bad_alone}
+use Rattle.included_forms.proofs.TableLaws.{text_far, text_before, text_behind, splits}
+
+-- ---- what gives no forms
+
+pub none_given : (l : Listing) (n : ℕ) (fs : List model.FlatForm) (ls : List model.LostString) → l ≡ nothing → l ≡ Lists n fs ls → fs ≡ []
+none_given l n fs ls e is = let same : Lists 0 [] [] ≡ Lists n fs ls = sym e ∙ is in cc
+
+pub counted_none : (c : Count) (l : Listing) (n : ℕ) (fs : List model.FlatForm) (ls : List model.LostString) → tally_as c ≡ tally_of l → counts_none (tally_as c) ≡ true → l ≡ Lists n fs ls → fs ≡ []
+counted_none c l n fs ls e h is = go fs (sym (ap counts_none (e ∙ ap tally_of is)) ∙ h)
+  where
+    go : (gs : List model.FlatForm) → is_none gs ≡ true → gs ≡ []
+    go [] q = refl
+    go (g ∷ gs) q = absurd cc
+
+pub unchanged : (forms : List FlatForm) (fs : List model.FlatForm) → fs ≡ [] → map form_of forms ≡ map form_of forms ++ fs
+unchanged forms fs e = sym (ap (λ (gs : List model.FlatForm). map form_of forms ++ gs) e ∙ append-nil (map form_of forms))
+
+-- ---- a bad declaration behind
+
+no_lists : (limit : ℕ) (xs : List Listing) (s : Source) (n : ℕ) (fs : List model.FlatForm) (ls : List model.LostString) → in_a_row limit (xs ++ bad (homed_of s) ∷ []) ≡ Lists n fs ls → ⊥
+no_lists limit [] s n fs ls e = let same : BadAfter 0 (homed_of s) ≡ Lists n fs ls = sym (bad_alone limit (homed_of s)) ∙ e in absurd cc
+no_lists limit (x ∷ xs) s n fs ls e =
+    let h = splits limit x (xs ++ bad (homed_of s) ∷ []) n fs ls e in no_lists limit xs s h.other_tokens h.other_forms h.other_strings h.others
+
+pub without_bad : (limit : ℕ) (xs : List Listing) (b : Option Source) (n : ℕ) (fs : List model.FlatForm) (ls : List model.LostString) → in_a_row limit (xs ++ bad_one b) ≡ Lists n fs ls → in_a_row limit xs ≡ Lists n fs ls
+without_bad limit xs None n fs ls e = ap (in_a_row limit) (sym (append-nil xs)) ∙ e
+without_bad limit xs (Some s) n fs ls e = absurd (no_lists limit xs s n fs ls e)
+
+-- ---- steps one after another
+
+-- these are the forms of the steps that are left
+pub record LeftToWrite (limit : ℕ) (gs : List model.Given) (ss : List Given) (i : ℕ) (old now : List FlatForm) (fs : List model.FlatForm) : Type 0 where
+  pub tokens : ℕ
+  pub forms : List model.FlatForm
+  pub strings : List model.LostString
+  pub rest : in_a_row limit (map (listing_of gs) (drop i ss)) ≡ Lists tokens forms strings
+  pub written : map form_of old ++ fs ≡ map form_of now ++ forms
+
+pub left_first : (limit : ℕ) (gs : List model.Given) (ss : List Given) (old : List FlatForm) (n : ℕ) (fs : List model.FlatForm) (ls : List model.LostString) → in_a_row limit (map (listing_of gs) ss) ≡ Lists n fs ls → LeftToWrite limit gs ss 0 old old fs
+left_first limit gs ss old n fs ls e = record { tokens = n; forms = fs; strings = ls; rest = e; written = refl }
+
+module _ (limit : ℕ) (gs : List model.Given) (ss : List Given) (i : ℕ) (s : Given) (old now : List FlatForm) (fs : List model.FlatForm) (lt : i < length ss) (is : s ≡ get_or ss i s) (left : LeftToWrite limit gs ss i old now fs) where
+  front : map (listing_of gs) (drop i ss) ≡ listing_of gs s ∷ map (listing_of gs) (drop (i + 1) ss)
+  front = ap (map (listing_of gs)) (drop_more ss i s lt ∙ ap (λ (x : Given). x ∷ drop (i + 1) ss) (sym is))
+
+  -- the step lists
+  pub record StepLists : Type 0 where
+    pub tokens : ℕ
+    pub forms : List model.FlatForm
+    pub strings : List model.LostString
+    pub first : listing_of gs s ≡ Lists tokens forms strings
+    pub then : (new : List FlatForm) → map form_of new ≡ map form_of now ++ forms → LeftToWrite limit gs ss (i + 1) old new fs
+
+  pub step_lists : StepLists
+  step_lists =
+      let h = splits limit (listing_of gs s) (map (listing_of gs) (drop (i + 1) ss)) left.tokens left.forms left.strings (ap (in_a_row limit) (sym front) ∙ left.rest) in
+      record {
+        tokens = h.tokens;
+        forms = h.forms;
+        strings = h.strings;
+        first = h.first;
+        then = λ new e. record {
+          tokens = h.other_tokens;
+          forms = h.other_forms;
+          strings = h.other_strings;
+          rest = h.others;
+          written = left.written ∙ ap (λ (gs : List model.FlatForm). map form_of now ++ gs) h.all ∙ sym (append_assoc (map form_of now) h.forms h.other_forms) ∙ ap (λ (gs : List model.FlatForm). gs ++ h.other_forms) (sym e);
+        };
+      }
+
+pub left_end : (limit : ℕ) (gs : List model.Given) (ss : List Given) (i : ℕ) (old now : List FlatForm) (fs : List model.FlatForm) → length ss ≤ i → LeftToWrite limit gs ss i old now fs → map form_of now ≡ map form_of old ++ fs
+left_end limit gs ss i old now fs h left =
+    let none : left.forms ≡ [] = none_given (in_a_row limit (map (listing_of gs) (drop i ss))) left.tokens left.forms left.strings (at_drop_all (λ (xs : List Given). in_a_row limit (map (listing_of gs) xs)) ss i h) left.rest in
+    unchanged now left.forms none ∙ sym left.written
+
+-- ---- one form
+
+pub one_form : (old new : List FlatForm) (f : FlatForm) (n m : ℕ) (fs : List model.FlatForm) (ls : List model.LostString) → new ≡ old ++ f ∷ [] → Lists n (form_of f ∷ []) [] ≡ Lists m fs ls → map form_of new ≡ map form_of old ++ fs
+one_form old new f n m fs ls e is = let same : form_of f ∷ [] ≡ fs = cc in ap (map form_of) e ∙ map-append form_of old (f ∷ []) ∙ ap (λ (gs : List model.FlatForm). map form_of old ++ gs) same

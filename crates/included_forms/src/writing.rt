@@ -1,0 +1,87 @@
+//! The forms and the strings of steps, over a table of texts.
+ghost use Rattle.std.specs.Prelude.{◌≡◌, ◌++◌, ◌≤◌, ℕ, List, map, take, length, OnOk};
+ghost use Rattle.scheme_model.specs.Included.{Given as ModelGiven, FlatForm as ModelForm, LostString as ModelLost, Lists, in_a_row, given_at};
+ghost use Rattle.included_forms.specs.Steps.{form_of};
+ghost use Rattle.included_forms.specs.Counted.{Stand, listing_of, in_way, counts_none, tally_as};
+
+use crate::given::{Count, Given, Part, Written};
+use crate::steps::{FlatForm, Way};
+use ls_base::Mem;
+
+/// Whether nothing is given.
+fn is_nothing(written: &Written<'_>) -> bool
+    ensures { result ≡ counts_none (tally_as written.now.count) }
+{
+    match written.count {
+        Count::Lists {
+            tokens: _,
+            is_empty,
+        } => is_empty,
+        Count::BadAfter {
+            tokens: _,
+            source: _,
+        } => false,
+        Count::TooLong => false,
+    }
+}
+
+/// Adds the forms that steps give, each of which the texts at the places below this one in a table give.
+#[cycle(writing)]
+pub fn write<'a>(
+    parts: &[Part<'a>],
+    below: usize,
+    steps: &[Given<'a>],
+    forms: &mut Vec<FlatForm<'a>>,
+) -> Mem<()>
+    ensures { (limit : ℕ) (gs : List ModelGiven) → Stand limit gs parts.now → (n : ℕ) (fs : List ModelForm) (ls : List ModelLost) →
+        in_a_row limit (map (listing_of (take below gs)) steps.now) ≡ Lists n fs ls → OnOk result (map form_of forms.new.items ≡ map form_of forms.old.items ++ fs) }
+{
+    for step in steps {
+        write_step(parts, below, *step, forms)?;
+    }
+    Ok(())
+}
+
+/// Adds the forms that a step gives.
+#[cycle(writing)]
+fn write_step<'a>(
+    parts: &[Part<'a>],
+    below: usize,
+    step: Given<'a>,
+    forms: &mut Vec<FlatForm<'a>>,
+) -> Mem<()>
+    ensures { (limit : ℕ) (gs : List ModelGiven) → Stand limit gs parts.now → (n : ℕ) (fs : List ModelForm) (ls : List ModelLost) →
+        listing_of (take below gs) step.entry ≡ Lists n fs ls → OnOk result (map form_of forms.new.items ≡ map form_of forms.old.items ++ fs) }
+{
+    match step {
+        Given::Form(form) => Ok(forms.push(form)?),
+        Given::Text(place, way) => {
+            if place < below {
+                return write_text(parts, place, way, forms);
+            }
+            Ok(())
+        }
+        Given::Lost(_) => Ok(()),
+    }
+}
+
+/// Adds the forms that the text at a place gives.
+#[cycle(writing)]
+fn write_text<'a>(
+    parts: &[Part<'a>],
+    place: usize,
+    way: Way,
+    forms: &mut Vec<FlatForm<'a>>,
+) -> Mem<()>
+    ensures { (limit : ℕ) (gs : List ModelGiven) → Stand limit gs parts.now → (n : ℕ) (fs : List ModelForm) (ls : List ModelLost) →
+        in_way (given_at gs place) way ≡ Lists n fs ls → OnOk result (map form_of forms.new.items ≡ map form_of forms.old.items ++ fs) }
+{
+    let Some(part) = parts.get(place) else {
+        return Ok(());
+    };
+    let written = part.written(way);
+    if is_nothing(written) {
+        return Ok(());
+    }
+    write(parts, place, written.steps.as_slice(), forms)
+}
