@@ -2,7 +2,7 @@
 use crate::cores::{CorePart, Target};
 use crate::traces::{FormFault, Trace};
 use ls_base::{Items, Text};
-use scheme_model::Occ;
+use scheme_model::{Home, Occ};
 use syntax_tree::units::{Entry, Origin, UnitKind};
 
 /// A part of a unit, and the nodes that its expansion counted.
@@ -34,8 +34,16 @@ pub struct UnitError {
     pub form: u32,
 }
 
-/// A unit: its document, its kind, a library's name, its forms, the places of the units whose libraries it imports, the
-/// identifiers of its imports and exports, the second identifiers of the pairs that its imports rename by, what it imports and
+/// The tokens of a form: the home of its text, and the numbers of its first and its last token in that text.
+#[derive(Clone, Copy, Debug)]
+pub struct TokenRange {
+    pub home: Home,
+    pub first: u32,
+    pub last: u32,
+}
+
+/// A unit: its document, its kind, a library's name, its forms, where their tokens stand, the places of the units whose libraries it
+/// imports, the identifiers of its imports and exports, the second identifiers of the pairs that its imports rename by, what it imports and
 /// exports, and its Errors. The last names are the external names of its exports, in their order.
 #[derive(Drop)]
 pub struct Unit {
@@ -43,6 +51,7 @@ pub struct Unit {
     pub kind: UnitKind,
     pub name: Option<Text>,
     pub forms: Items<UnitForm>,
+    pub ranges: Vec<TokenRange>,
     pub imports: Items<u32>,
     pub names: Items<NameUse>,
     pub seconds: Items<Occ>,

@@ -15,10 +15,8 @@ ghost use Rattle.document_units.specs.KnownNames.{IsFront, HasParts, name_in, li
 use crate::documents::Document;
 use base_library::standard;
 use datum_reader::heads::is_headed;
-use datum_reader::look::{Look, look_at};
-use datum_reader::{Datum, Shape};
-use library_table::{KnownLibraries, LibraryFault, read_unit};
-use ls_base::{Items, Mem, Memory, Text};
+use datum_reader::Datum;
+use ls_base::{Items, Mem, Text};
 use std::alloc::Global;
 
 /// The names of the standard libraries.
@@ -105,58 +103,5 @@ pub fn library_name(alloc: Global, datum: &Datum) -> Mem<Option<Text>>
     if !is_headed("define-library", datum) {
         return Ok(None);
     }
-    let front = front_of(alloc, datum)?;
-    let none = KnownLibraries::of(alloc, &Items::new(alloc))?;
-    match read_unit(alloc, &front, 0, &none) {
-        Ok(source) => Ok(source.name),
-        Err(LibraryFault::BadDeclaration(_)) => Ok(None),
-        Err(_) => Err(Memory),
-    }
-}
-
-/// A list of no more than the first two parts of a datum.
-fn front_of(alloc: Global, datum: &Datum) -> Mem<Datum>
-    ensures { IfOk result (λ front. IsFront (datum_of datum.now) (datum_of front)) }
-{
-    let front = copies_of(alloc, first_two(parts_of(datum)))?;
-    Ok(Datum {
-        shape: Shape::List(front, None),
-        first: datum.first,
-        last: datum.last,
-        span: datum.span,
-    })
-}
-
-/// The parts of a list. Any other datum has none.
-fn parts_of(datum: &Datum) -> &[Datum]
-    ensures { HasParts (datum_of datum.now) (data_of result.now) }
-{
-    match look_at(datum) {
-        Look::List(parts, _) => parts,
-        Look::Name(_) => &[],
-        Look::Implied(_) => &[],
-        Look::Numeral(_) => &[],
-        Look::Other => &[],
-    }
-}
-
-/// No more than the first two of these data.
-fn first_two(parts: &[Datum]) -> &[Datum]
-    ensures { result.now ≡ take 2 parts.now }
-{
-    if parts.len() <= 2 {
-        return parts;
-    }
-    &parts[..2]
-}
-
-/// Copies of data.
-fn copies_of(alloc: Global, parts: &[Datum]) -> Mem<Vec<Datum>>
-    ensures { IfOk result (λ copies. data_of copies.items ≡ data_of parts.now) }
-{
-    let mut copies = Vec::new(alloc);
-    for part in parts {
-        copies.push(part.copy(alloc)?)?;
-    }
-    Ok(copies)
+    library_table::library_name(alloc, datum)
 }

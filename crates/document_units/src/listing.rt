@@ -17,14 +17,24 @@ ghost use Rattle.document_units.specs.declared.listing.WholeFault.TheVariants as
 use crate::documents::Document;
 use crate::identifiers::names_of;
 use crate::known::{has_standard_name, library_name};
+use core_tree::units::TokenRange;
 use datum_reader::Datum;
 use datum_reader::heads::{first_token, is_headed};
-use library_table::{KnownLibraries, LibraryFault, UnitForm, UnitSource, read_program, read_unit};
+use included_documents::Uris;
+use included_forms::{Documents, Table, Text as IncludedText};
+use known_libraries::KnownLibraries;
+use library_table::{
+    LibraryFault, UnitForm, UnitSource, first_of_program, read_part, read_program, read_unit,
+};
 use ls_base::limits::MAX_UNITS;
 use ls_base::{Items, Mem, Memory, Span, Text};
 use scheme_model::{Home, Occ};
 use std::alloc::Global;
 use syntax_tree::units::UnitKind;
+use text_parts::{Parts, Text as View};
+
+/// The most tokens that the forms of a unit have.
+const MAX_TOKENS: u32 = 1_048_576;
 
 /// Why a unit is broken as a whole.
 #[derive(Clone, Copy, Debug, PartialEq, Eq)]
@@ -49,6 +59,7 @@ pub struct Head {
     pub firsts: Vec<u32>,
     pub homes: Vec<u32>,
     pub names: Vec<Occ>,
+    pub ranges: Vec<TokenRange>,
     pub imports: Items<u32>,
     pub fault: Option<WholeFault>,
 }
@@ -60,6 +71,14 @@ pub struct Units {
     pub sources: Vec<UnitSource>,
 }
 
+/// What units are read by: the documents, the texts among them that can be included, and which documents are parts or on circles.
+#[derive(Drop)]
+struct Reader<'a> {
+    documents: Documents<'a>,
+    table: Table<'a>,
+    parts: &'a Parts,
+}
+
 /// The units of all documents.
 pub fn list_units(alloc: Global, documents: &[Document], known: &KnownLibraries) -> Mem<Units>
     requires { AreReadIn documents.now }
@@ -68,65 +87,139 @@ pub fn list_units(alloc: Global, documents: &[Document], known: &KnownLibraries)
     ensures listed { (ds : List ModelDocument) → HaveData ds documents.now → Knows known.now.names (known_in ds) → (spelled : LibraryName → List ℕ) → WritesProper spelled →
         IfOk result (AreUnitsListed spelled (units_of ds)) }
 {
+    let uris = uris_of(alloc, documents)?;
+    let views = views_of(alloc, documents)?;
+    let parts = Parts::of(alloc, views.as_slice(), &uris)?;
+    let texts = texts_of(alloc, documents, parts.programs.as_slice())?;
+    let included = Documents {
+        limit: MAX_TOKENS,
+        known,
+        uris: &uris,
+        texts: texts.as_slice(),
+    };
+    let table = Table::of(
+        alloc,
+        &included,
+        parts.usable.as_slice(),
+        parts.order.as_slice(),
+    )?;
+    let reader = Reader {
+        documents: included,
+        table,
+        parts: &parts,
+    };
     let mut units = Units {
         heads: Vec::new(alloc),
         sources: Vec::new(alloc),
     };
     for (number, document) in documents.iter().enumerate() {
-        add_libraries(alloc, &mut units, number, document.items.as_slice(), known)?;
-        add_program(alloc, &mut units, number, &document.items)?;
+        add_libraries(alloc, &mut units, number, document.items.as_slice(), &reader)?;
+        add_program(alloc, &mut units, number, document.items.as_slice(), &reader)?;
     }
     Ok(units)
 }
 
+/// The uris of documents, each read once.
+fn uris_of(alloc: Global, documents: &[Document]) -> Mem<Uris> {
+    let mut uris = Vec::new(alloc);
+    for document in documents {
+        uris.push(document.uri.as_str())?;
+    }
+    Uris::of(alloc, uris.as_slice())
+}
+
+/// Documents as they are seen where it is asked what they name.
+fn views_of<'a>(alloc: Global, documents: &'a [Document]) -> Mem<Vec<View<'a>>> {
+    let mut views = Vec::new(alloc);
+    for document in documents {
+        views.push(View {
+            data: document.items.as_slice(),
+            reads: document.fault.is_none(),
+        })?;
+    }
+    Ok(views)
+}
+
+/// Documents as they are included, each with the number of its program.
+fn texts_of<'a>(
+    alloc: Global,
+    documents: &'a [Document],
+    programs: &[u32],
+) -> Mem<Vec<IncludedText<'a>>> {
+    let mut texts = Vec::new(alloc);
+    for (place, document) in documents.iter().enumerate() {
+        texts.push(IncludedText {
+            data: document.items.as_slice(),
+            unit: programs.get(place).copied().unwrap_or(0),
+        })?;
+    }
+    Ok(texts)
+}
+
 /// Adds the libraries of a document.
-fn add_libraries(
+fn add_libraries<'a>(
     alloc: Global,
     units: &mut Units,
     document: usize,
-    items: &[Datum],
-    known: &KnownLibraries,
-) -> Mem<()>
-    requires units { IsSound (document + 1) units.old }
-    requires read { DataWereRead items.now }
-    ensures sound { OnOk result (IsSound (document + 1) units.new) }
-    ensures added { (has : Known) → Knows known.now.names has → OnOk result (AddsRead document (libraries_in has (data_of items.now)) units.old units.new) }
-{
+    items: &'a [Datum],
+    reader: &Reader<'a>,
+) -> Mem<()> {
     for datum in items {
-        add_library(alloc, units, document, datum, known)?;
+        add_library(alloc, units, document, datum, reader)?;
     }
     Ok(())
 }
 
 /// Adds the library that a datum is, if it is one.
-fn add_library(
+fn add_library<'a>(
     alloc: Global,
     units: &mut Units,
     document: usize,
-    datum: &Datum,
-    known: &KnownLibraries,
-) -> Mem<()>
-    requires units { IsSound (document + 1) units.old }
-    requires read { WasRead (datum_of datum.now) }
-    ensures sound { OnOk result (IsSound (document + 1) units.new) }
-    ensures added { (has : Known) → Knows known.now.names has → OnOk result (AddsRead document (libraries_in has (datum_of datum.now ∷ [])) units.old units.new) }
-{
+    datum: &'a Datum,
+    reader: &Reader<'a>,
+) -> Mem<()> {
     if !is_headed("define-library", datum) {
         return Ok(());
     }
     let name = library_name(alloc, datum)?;
+    let span = first_token(datum);
+    let blank = unread(alloc, UnitKind::Library, span);
+    if reader.is_circular(document) {
+        return add(alloc, units, document, name, blank, Some(WholeFault::IncludeCycle));
+    }
     let number = units.sources.len() as u32;
-    match read_unit(alloc, datum, number, known) {
+    let Reader {
+        documents, table, ..
+    } = reader;
+    match read_unit(alloc, documents, table, document as u32, datum, number) {
         Ok(source) => {
             let source = unless_standard(alloc, source)?;
-            Ok(add(alloc, units, document, name, source, None)?)
+            add(alloc, units, document, name, source, None)
         }
-        Err(LibraryFault::BadDeclaration(span)) => {
-            let bad = Some(WholeFault::BadDeclaration { unit: number, span });
-            let source = unread(alloc, datum);
-            Ok(add(alloc, units, document, name, source, bad)?)
+        Err(fault) => add(alloc, units, document, name, blank, Some(whole(fault)?)),
+    }
+}
+
+/// Why a unit is broken as a whole that couldn't be read.
+fn whole(fault: LibraryFault) -> Mem<WholeFault> {
+    match fault {
+        LibraryFault::BadDeclaration { unit, span } => {
+            Ok(WholeFault::BadDeclaration { unit, span })
         }
-        Err(_) => Err(Memory),
+        LibraryFault::TooManyTokens => Ok(WholeFault::TooLarge),
+        _ => Err(Memory),
+    }
+}
+
+impl Reader<'_> {
+    /// Whether a document is on a circle of documents that include one another.
+    fn is_circular(&self, document: usize) -> bool {
+        self.parts.circular.get(document).copied().unwrap_or(false)
+    }
+
+    /// Whether a document is a part of another one.
+    fn is_part(&self, document: usize) -> bool {
+        self.parts.parts.get(document).copied().unwrap_or(false)
     }
 }
 
@@ -141,32 +234,46 @@ fn unless_standard(alloc: Global, source: UnitSource) -> Mem<UnitSource>
     Ok(source)
 }
 
-/// The source of a library that isn't read.
-fn unread(alloc: Global, datum: &Datum) -> UnitSource
-    ensures blank { IsBlankLibrary result }
-    ensures span { result.span ≡ first_token (datum_of datum.now) }
-{
+/// The source of a unit that isn't read.
+fn unread(alloc: Global, kind: UnitKind, span: Span) -> UnitSource {
     UnitSource {
-        kind: UnitKind::Library,
+        kind,
         name: None,
-        span: first_token(datum),
+        span,
         imports: Items::new(alloc),
         exports: Items::new(alloc),
         forms: Items::new(alloc),
+        lost: Items::new(alloc),
     }
 }
 
 /// Adds the program of a document, where it has one.
-fn add_program(alloc: Global, units: &mut Units, document: usize, items: &Items<Datum>) -> Mem<()>
-    requires units { IsSound (document + 1) units.old }
-    requires read { DataWereRead items.now }
-    ensures sound { OnOk result (IsSound (document + 1) units.new) }
-    ensures added { OnOk result (AddsRead document (program_in (filter (λ d. not (is_library d)) (data_of items.now))) units.old units.new) }
-{
+fn add_program<'a>(
+    alloc: Global,
+    units: &mut Units,
+    document: usize,
+    items: &'a [Datum],
+    reader: &Reader<'a>,
+) -> Mem<()> {
+    let Some(first) = first_of_program(items) else {
+        return Ok(());
+    };
+    let span = first_token(first);
+    let blank = unread(alloc, UnitKind::Program, span);
+    if reader.is_circular(document) {
+        return add(alloc, units, document, None, blank, Some(WholeFault::IncludeCycle));
+    }
+    if reader.is_part(document) {
+        let source = read_part(alloc, items, span)?;
+        return add(alloc, units, document, None, source, None);
+    }
     let number = units.sources.len() as u32;
-    match read_program(alloc, items, number)? {
-        None => Ok(()),
-        Some(source) => Ok(add(alloc, units, document, None, source, None)?),
+    let Reader {
+        documents, table, ..
+    } = reader;
+    match read_program(alloc, documents, table, document as u32, items, span, number) {
+        Ok(source) => add(alloc, units, document, None, source, None),
+        Err(fault) => add(alloc, units, document, None, blank, Some(whole(fault)?)),
     }
 }
 
@@ -197,6 +304,7 @@ fn add(
         firsts: firsts_of(alloc, source.forms.as_slice())?,
         homes: homes_of(alloc, place as u32, source.forms.as_slice())?,
         names: names_of(alloc, place as u32, source.forms.as_slice())?,
+        ranges: ranges_of(alloc, place as u32, source.forms.as_slice())?,
         imports: Items::new(alloc),
         fault,
     })?;
@@ -223,6 +331,19 @@ fn firsts_of(alloc: Global, forms: &[UnitForm]) -> Mem<Vec<u32>>
         firsts.push(form.datum.first)?;
     }
     Ok(firsts)
+}
+
+/// The tokens of the forms of a unit.
+fn ranges_of(alloc: Global, unit: u32, forms: &[UnitForm]) -> Mem<Vec<TokenRange>> {
+    let mut ranges = Vec::new(alloc);
+    for (number, form) in forms.iter().enumerate() {
+        ranges.push(TokenRange {
+            home: form.home_in(unit, number as u32),
+            first: form.datum.first,
+            last: form.datum.last,
+        })?;
+    }
+    Ok(ranges)
 }
 
 /// The units where the texts of forms of a unit are at home.

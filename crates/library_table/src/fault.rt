@@ -10,8 +10,10 @@ use std::alloc::{AllocError, AllocFailed};
 pub enum LibraryFault {
     /// Memory ran out.
     Memory,
-    /// A declaration has no shape.
-    BadDeclaration(Span),
+    /// A declaration has no shape. It stands in the document of this unit.
+    BadDeclaration { unit: u32, span: Span },
+    /// The forms have more tokens than a unit may have.
+    TooManyTokens,
     /// These libraries import one another in a circle.
     Cycle(Items<Text>),
     /// An earlier library has the name.

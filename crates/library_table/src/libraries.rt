@@ -1,118 +1,79 @@
 //! A library as it is written (R7RS 5.6.1).
-ghost use Rattle.std.specs.Prelude.{◌≡◌, ◌∷◌, ℕ, List, Option, Some};
-ghost use Rattle.std.specs.Option.{is_some};
-ghost use Rattle.scheme_model.specs.Data.{Datum as ModelDatum, part, row};
-ghost use Rattle.scheme_model.specs.Declarations.{library_of, library_with, declarations};
-ghost use Rattle.scheme_model.specs.Requirements.{Known, LibraryName};
-ghost use Rattle.datum_reader.specs.Views.{datum_of, data_of};
-ghost use Rattle.datum_reader.specs.Looks.{end_with, IsListOf};
-ghost use Rattle.library_table.specs.PartsRead.{Knows, library_text};
-ghost use Rattle.library_table.specs.LibrariesRead.{IsLibraryRead, library_named};
+ghost use Rattle.std.specs.Prelude.{◌≡◌, ◌<◌, ℕ, length, Option, IfOk};
+ghost use Rattle.std.specs.Option.{option_map};
+ghost use Rattle.scheme_model.specs.Declarations.{library_name};
+ghost use Rattle.scheme_model.specs.Included.{Sources, Texts};
+ghost use Rattle.scheme_model.specs.IncludedUnits.{library_of};
+ghost use Rattle.datum_reader.specs.Views.{datum_of};
+ghost use Rattle.included_forms.specs.Tables.{Serve};
+ghost use Rattle.included_forms.specs.Built.{AreDocuments, IsTable};
+ghost use Rattle.scheme_tokens.specs.LibraryNames.{library_text};
+ghost use Rattle.library_table.specs.UnitsRead.{IsUnitRead};
 
-use crate::export_specs::exports_read;
 use crate::fault::LibraryFault;
-use crate::flattening::{bad, declarations};
-use crate::known::KnownLibraries;
-use crate::library_names::library_name;
-use crate::parts::imports_of;
+use crate::reading::{forms_listed, source};
 use crate::units::UnitSource;
 use datum_reader::Datum;
 use datum_reader::heads::first_token;
 use datum_reader::look::{Look, Row, look_at, row_of};
 use datum_reader::shape_fault::ShapeFault;
-use ls_base::{Items, Text};
+use included_forms::{Documents, Table};
+use known_libraries::library_names;
+use ls_base::{Mem, Memory, Text};
 use std::alloc::Global;
-use std::collections::BTreeSet;
 use syntax_tree::units::UnitKind;
 
-/// The library that a datum is: its name, imports, exports and forms. Its declarations are flattened: a `begin` gives its data,
-/// a `cond-expand` what its chosen clause gives, every other declaration itself. `known` are the libraries for which a requirement
-/// `(library name)` holds. The one refusal is `BadDeclaration`, with the bytes of the first bad declaration: where the
-/// library has no name, or a clause of a `cond-expand` no shape, of that whole.
-pub fn read_unit(
-    alloc: Global,
-    datum: &Datum,
-    unit: u32,
-    known: &KnownLibraries,
-) -> Result<UnitSource, LibraryFault>
-    ensures { (has : Known) → Knows known.now.names has → IsLibraryRead unit (datum_of datum.now) (library_of has (datum_of datum.now)) result }
+/// The name of the library that a datum is, which doesn't depend on what stands behind it. `None` where it has no name.
+pub fn library_name(alloc: Global, datum: &Datum) -> Mem<Option<Text>>
+    ensures { IfOk result (λ name. name ≡ option_map library_text (library_name (datum_of datum.now))) }
 {
     match look_at(datum) {
-        Look::List(parts, dotted) => { list_unit(alloc, datum, parts, dotted, unit, &known.names) }
-        Look::Name(_) => Err(bad(datum)),
-        Look::Implied(_) => Err(bad(datum)),
-        Look::Numeral(_) => Err(bad(datum)),
-        Look::Other => Err(bad(datum)),
+        Look::List(parts, _) => second_name(alloc, parts),
+        Look::Name(_) => Ok(None),
+        Look::Implied(_) => Ok(None),
+        Look::Numeral(_) => Ok(None),
+        Look::Other => Ok(None),
     }
 }
 
-/// The library that a list with these parts is.
-fn list_unit(
-    alloc: Global,
-    datum: &Datum,
-    parts: &[Datum],
-    dotted: bool,
-    unit: u32,
-    known: &BTreeSet<String>,
-) -> Result<UnitSource, LibraryFault>
-    requires { IsListOf parts.now dotted (datum_of datum.now) }
-    ensures { (has : Known) → Knows known.now has →
-        IsLibraryRead unit (datum_of datum.now) (library_of has (datum_of datum.now)) result }
-{
+/// The name that the second part of a list is.
+fn second_name(alloc: Global, parts: &[Datum]) -> Mem<Option<Text>> {
     match row_of(parts) {
-        Row::Empty => Err(bad(datum)),
+        Row::Empty => Ok(None),
         Row::Parts(_, behind) => match row_of(behind) {
-            Row::Empty => Err(bad(datum)),
-            Row::Parts(name, rest) => read_named(alloc, datum, name, rest, dotted, unit, known),
+            Row::Empty => Ok(None),
+            Row::Parts(name, _) => text_of(alloc, name),
         },
     }
 }
 
-/// A library by its name and its declarations.
-fn read_named(
-    alloc: Global,
-    datum: &Datum,
-    name: &Datum,
-    rest: &[Datum],
-    dotted: bool,
-    unit: u32,
-    known: &BTreeSet<String>,
-) -> Result<UnitSource, LibraryFault>
-    ensures { (has : Known) → Knows known.now has → (end : Option ModelDatum) → is_some end ≡ dotted →
-        IsLibraryRead unit (datum_of datum.now) (library_with has (datum_of datum.now) (part (datum_of name.now) (row (data_of rest.now) (end_with end)))) result }
-{
-    match library_name(alloc, name) {
-        Ok(text) => read_declared(alloc, datum, text, rest, dotted, unit, known),
-        Err(ShapeFault::BadForm) => Err(bad(datum)),
-        Err(ShapeFault::Memory) => Err(LibraryFault::Memory),
+/// The text of the name that a datum is.
+fn text_of(alloc: Global, name: &Datum) -> Mem<Option<Text>> {
+    match library_names::library_name(alloc, name) {
+        Ok(text) => Ok(Some(text)),
+        Err(ShapeFault::BadForm) => Ok(None),
+        Err(ShapeFault::Memory) => Err(Memory),
     }
 }
 
-/// A library by the text of its name, and its declarations.
-fn read_declared(
+/// The library that a datum of a document is: its name, imports, exports and forms. Its declarations are flattened: a `begin` gives
+/// its data, a `cond-expand` what its chosen clause gives, lists that include what the texts give, every other declaration itself. The
+/// refusals are `BadDeclaration`, with the first bad declaration (where the library has no name, or a clause of a `cond-expand` no
+/// shape, that whole), and `TooManyTokens`.
+pub fn read_unit<'a>(
     alloc: Global,
-    datum: &Datum,
-    name: Text,
-    rest: &[Datum],
-    dotted: bool,
+    documents: &Documents<'a>,
+    table: &Table<'a>,
+    document: u32,
+    datum: &'a Datum,
     unit: u32,
-    known: &BTreeSet<String>,
 ) -> Result<UnitSource, LibraryFault>
-    ensures { (has : Known) → Knows known.now has → (end : Option ModelDatum) → is_some end ≡ dotted →
-        (n : LibraryName) → library_text n ≡ name →
-        IsLibraryRead unit (datum_of datum.now) (library_named n (datum_of datum.now) (declarations has (datum_of datum.now) (row (data_of rest.now) (end_with end)))) result }
+    requires { document < length documents.now.uris.now }
+    ensures { (o : Sources) (t : Texts) → AreDocuments o documents.now → IsTable o table.now → Serve o t →
+        IsUnitRead unit (library_of t o.known document (datum_of datum.now)) result }
 {
-    let mut forms = Vec::new(alloc);
-    declarations(alloc, known, datum, rest, dotted, &mut forms)?;
-    let imports = imports_of(alloc, unit, forms.as_slice())?;
-    let exports = exports_read(alloc, unit, forms.as_slice())?;
-    let forms = Items::from_vec(forms);
-    Ok(UnitSource {
-        kind: UnitKind::Library,
-        name: Some(name),
-        span: first_token(datum),
-        imports,
-        exports,
-        forms,
-    })
+    let listed = table.library(alloc, documents, document, datum)?;
+    let lists = forms_listed(alloc, unit, listed)?;
+    let name = library_name(alloc, datum)?;
+    source(alloc, UnitKind::Library, name, first_token(datum), unit, lists)
 }

@@ -13,7 +13,7 @@ ghost use Rattle.datum_reader.specs.Forms.{place};
 ghost use Rattle.library_table.specs.SetsRead.{modifier_as, modifier_seen, modifier_for, IsModified, IsModifiedBy, IsSetText, IsSetMade, inner_datum, IsImportSpec};
 ghost use Rattle.datum_reader.specs.Looks.{is_list};
 
-use crate::library_names::library_name;
+use known_libraries::library_names::library_name;
 use crate::names::{names_in, only_name, pairs_in};
 use crate::units::ImportSpec;
 use datum_reader::Datum;

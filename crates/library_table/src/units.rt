@@ -53,7 +53,16 @@ impl UnitForm {
     }
 }
 
-/// A library or a program: its library's name as a text, its first token's bytes, and what it imports, exports and holds.
+/// A string that means no text that can be included: the document in which it is written, its bytes there, and its characters.
+#[derive(Debug, Drop)]
+pub struct LostString {
+    pub document: u32,
+    pub span: Span,
+    pub characters: Text,
+}
+
+/// A library or a program: its library's name as a text, its first token's bytes, what it imports, exports and holds, and the strings
+/// that give it nothing.
 #[derive(Debug, Drop)]
 pub struct UnitSource {
     pub kind: UnitKind,
@@ -62,4 +71,5 @@ pub struct UnitSource {
     pub imports: Items<ImportSpec>,
     pub exports: Items<ExportSpec>,
     pub forms: Items<UnitForm>,
+    pub lost: Items<LostString>,
 }

@@ -4,10 +4,12 @@ ghost use Rattle.scheme_model.specs.Program.{UnitResult};
 ghost use Rattle.rename_model.specs.Reach.{in_reach as model_reach};
 ghost use Rattle.program_differences.specs.Reached.{marked, with_mark, with_holders, one_marked, with_importers, in_rounds, marks_from, HaveImports};
 
-use core_tree::units::Unit;
+use core_tree::units::{TokenRange, Unit};
 use ls_base::Mem;
+use ls_base::limits::MAX_UNITS;
 use scheme_model::Occ;
 use std::alloc::Global;
+use syntax_tree::units::UnitKind;
 
 /// So many units, of which none is in reach.
 fn nothing_reached(alloc: Global, units: usize) -> Mem<Vec<bool>>
@@ -25,12 +27,50 @@ fn reach_unit(place: usize, reached: &mut Vec<bool>)
     }
 }
 
-/// Puts the units in reach that hold one of these occurrences.
-fn reach_holders(occs: &[Occ], reached: &mut Vec<bool>)
-    ensures { reached.new.items ≡ with_holders reached.old.items occs.now }
-{
+/// Occurrences in order, by unit, form and token.
+fn in_order(alloc: Global, occs: &[Occ]) -> Mem<Vec<(u32, u32, u32)>> {
+    let mut sorted = Vec::new(alloc);
     for occ in occs {
-        reach_unit(occ.unit as usize, reached);
+        sorted.push((occ.unit, occ.form, occ.token))?;
+    }
+    sorted.sort()?;
+    Ok(sorted)
+}
+
+/// Whether one of these occurrences, which are in order, is that of a token in a range.
+fn holds(range: TokenRange, occs: &[(u32, u32, u32)]) -> bool {
+    let TokenRange { home, first, last } = range;
+    let least = (home.unit, home.form, first.saturating_sub(home.first));
+    let at = occs.partition_point(|occ| *occ < least);
+    match occs.get(at) {
+        None => false,
+        Some((unit, form, token)) => {
+            *unit == home.unit
+                && *form == home.form
+                && u64::from(*token) + u64::from(home.first) <= u64::from(last)
+        }
+    }
+}
+
+/// Whether a unit holds one of these occurrences, which are in order. The program of a text that others include isn't reached.
+fn holds_one(unit: &Unit, occs: &[(u32, u32, u32)]) -> bool {
+    if unit.kind == UnitKind::Part {
+        return false;
+    }
+    for range in unit.ranges.as_slice() {
+        if holds(*range, occs) {
+            return true;
+        }
+    }
+    false
+}
+
+/// Puts the units in reach that hold one of these occurrences, which are in order. Those behind the most units aren't.
+fn reach_holders(units: &[Unit], occs: &[(u32, u32, u32)], reached: &mut Vec<bool>) {
+    for (place, unit) in units.iter().enumerate() {
+        if place < MAX_UNITS && holds_one(unit, occs) {
+            reach_unit(place, reached);
+        }
     }
 }
 
@@ -112,7 +152,8 @@ pub fn in_reach(alloc: Global, units: &[Unit], occs: &[Occ]) -> Mem<Vec<usize>>
     ensures { (rs : List UnitResult) → HaveImports 0 units.now rs → IfOk result (λ places. places.items ≡ model_reach rs occs.now) }
 {
     let mut reached = nothing_reached(alloc, units.len())?;
-    reach_holders(occs, &mut reached);
+    let occs = in_order(alloc, occs)?;
+    reach_holders(units, occs.as_slice(), &mut reached);
     reach_all(units, &mut reached);
     Ok(places_of(alloc, reached.as_slice())?)
 }

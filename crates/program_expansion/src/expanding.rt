@@ -51,12 +51,12 @@ use form_expansion::forms::{Bench, blank_trace, expand_forms};
 use form_expansion::refused::refuse;
 use library_table::UnitSource;
 use ls_base::{Items, Mem, Steps};
-use program_findings::diagnosing::{add_faults, add_unbound, whole_finding};
+use program_findings::diagnosing::{add_faults, add_lost, add_unbound, whole_finding};
 use std::alloc::Global;
 use std::sync::ledger::Ledger;
 use syntax_tree::symbols::Symbols;
 use syntax_tree::trees::Work;
-use syntax_tree::units::Entry;
+use syntax_tree::units::{Entry, UnitKind};
 use unit_imports::defined::{add_hiding, definitions, names_of};
 use unit_imports::entries::{Given, Libraries, given_to, imports_nothing};
 use unit_imports::expanded::Expanded;
@@ -155,6 +155,11 @@ fn expand_at<L: Ledger>(
 {
     let unit = place as usize;
     if units.heads[unit].fault.is_some() {
+        return Ok(());
+    }
+    if units.heads[unit].kind == UnitKind::Part {
+        let count = units.sources[unit].forms.as_slice().len();
+        all[unit] = Some(part(alloc, count)?);
         return Ok(());
     }
     let heads = units.heads.as_slice();
@@ -309,6 +314,7 @@ fn finished(
     let used = names_used(alloc, work, libraries, unit, source, names.as_slice())?;
     let seconds = seconds_in(alloc, source.imports.as_slice())?;
     let symbols = &work.symbols;
+    add_lost(alloc, source.lost.as_slice(), &mut findings)?;
     let exports = exports_given(alloc, places, unit, source, names.as_slice(), &mut findings)?;
     add_faults(
         alloc,
@@ -329,7 +335,8 @@ fn finished(
         &joined,
         &mut findings,
     )?;
-    add_unbound_if(alloc, symbols, places, slice, sets_are_good, &mut findings)?;
+    let are_found = sets_are_good && source.lost.as_slice().is_empty();
+    add_unbound_if(alloc, symbols, places, slice, are_found, &mut findings)?;
     add_no_import(alloc, places, unit, source, &mut findings)?;
     Ok(Expanded {
         entries: joined.entries,
@@ -416,6 +423,18 @@ pub fn broken(
         seconds: Items::new(alloc),
         exports: Items::new(alloc),
         findings,
+    })
+}
+
+/// What the program of a text comes to that others include: it is worked on only there.
+fn part(alloc: Global, count: usize) -> Mem<Expanded> {
+    Ok(Expanded {
+        entries: Vec::new(alloc),
+        forms: blank_forms(alloc, count)?,
+        names: Items::new(alloc),
+        seconds: Items::new(alloc),
+        exports: Items::new(alloc),
+        findings: Vec::new(alloc),
     })
 }
 

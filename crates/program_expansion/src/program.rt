@@ -50,7 +50,7 @@ use document_units::places::Places;
 use expander::Libraries;
 use form_expansion::forms::Bench;
 use form_expansion::prelude::begin;
-use library_table::KnownLibraries;
+use known_libraries::KnownLibraries;
 use ls_base::{Items, Mem, Steps};
 use program_findings::diagnosing::tell_unread;
 use program_findings::sorted_findings::{add, first_error, none};
@@ -277,6 +277,7 @@ fn unit_of(
         kind: head.kind,
         name: mem::replace(&mut head.name, None),
         forms,
+        ranges: mem::replace(&mut head.ranges, Vec::new(alloc)),
         imports: mem::replace(&mut head.imports, Items::new(alloc)),
         names,
         seconds,

@@ -35,7 +35,7 @@ use document_units::form_numbers::number_of;
 use document_units::listing::WholeFault;
 use document_units::places::Places;
 use document_units::wording::message;
-use library_table::UnitForm as SourceForm;
+use library_table::{LostString, UnitForm as SourceForm};
 use ls_base::Mem;
 use scheme_model::Occ;
 use std::alloc::Global;
@@ -203,6 +203,16 @@ pub fn whole_finding(
     let at = whole_at(places.start(text_unit(unit, fault)), fault);
     let code = whole_number(fault);
     Ok(Finding::new(alloc, Some(at), 0, code, "")?)
+}
+
+/// Adds that strings mean no text that can be included, each where it is written.
+pub fn add_lost(alloc: Global, lost: &[LostString], findings: &mut Vec<Finding>) -> Mem<()> {
+    for string in lost {
+        let at = At::new(string.document as usize, string.span);
+        let name = string.characters.as_str();
+        findings.push(Finding::new(alloc, Some(at), 0, 105, name)?)?;
+    }
+    Ok(())
 }
 
 /// A unit of the document in which a fault stands that breaks a unit as a whole.

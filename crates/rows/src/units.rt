@@ -164,7 +164,7 @@ fn show_name(out: &mut Shown, name: &SetName) {
 fn show_fault(out: &mut Shown, fault: &LibraryFault) {
     out.open();
     match fault {
-        LibraryFault::BadDeclaration(span) => {
+        LibraryFault::BadDeclaration { unit: _, span } => {
             out.string("bad declaration");
             show_span(out, *span);
         }

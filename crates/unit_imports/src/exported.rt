@@ -93,7 +93,8 @@ fn told(fault: &ExportFault) -> Option<(u32, &Text)>
     match &fault.fault {
         LibraryFault::NotDefined(name) => Some((64, name)),
         LibraryFault::SameExport(name) => Some((65, name)),
-        LibraryFault::BadDeclaration(_) => None,
+        LibraryFault::BadDeclaration { .. } => None,
+        LibraryFault::TooManyTokens => None,
         LibraryFault::Cycle(_) => None,
         LibraryFault::SameLibrary => None,
         LibraryFault::Memory => None,
