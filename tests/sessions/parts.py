@@ -1,7 +1,9 @@
 """Moves forms and declarations of documents into texts of their own, which are included in their place (R7RS 4.1.7, 5.6.1)."""
-import os.path
+import posixpath
 import re
 
+FOLDERS = "", "", "parts/", "x%20y/"
+STRING = re.compile(rb'"(file:///[^"]*)"')
 DATUM = re.compile(rb"""\s*(?:(?P<mark>'|`|,@?)|(?P<open>\()|(?P<close>\))|(?P<text>"(?:[^"\\]|\\.)*")|(?P<atom>[^\s()'`,"]+))""")
 
 
@@ -73,21 +75,30 @@ class Parts:
         first = dice.randrange(len(row))
         last = dice.randrange(first, len(row))
         start, end = row[first][0], row[last][1]
-        folder = "file:///" + dice.choice(("", "", "parts/", "x y/"))
-        part = f"{folder}{dice.choice('anz')}{len(self.cuts)}.scm".replace(" ", "%20")
-        path = os.path.relpath(part.removeprefix("file://").replace("%20", " "), os.path.dirname(uri.removeprefix("file://").replace("%20", " ")))
-        named = dice.choice((path, part)) if " " not in path else path
-        text, new = self.texts[uri], b'(%s "%s")' % (word, named.encode())
-        self.texts[part], self.words[part] = text[start:end] + dice.choice((b"", b"\n")), word
+        part = f"file:///{dice.choice(FOLDERS)}{dice.choice('anz')}{len(self.words)}.scm"
+        new = b'(%s "%s")' % (word, part.encode())
+        self.texts[part], self.words[part] = self.texts[uri][start:end] + dice.choice((b"", b"\n")), word
+        self.replace(uri, start, end, new, part)
+
+    def replace(self, uri, start, end, new, part=None):
+        text = self.texts[uri]
         self.texts[uri] = text[:start] + new + text[end:]
         self.cuts.append((uri, start, end, len(new), part))
+
+    def shorten(self, dice):
+        """Writes some of the strings that include as paths from the folders of their documents."""
+        for uri in sorted(self.texts):
+            for found in reversed(list(STRING.finditer(self.texts[uri]))):
+                path = posixpath.relpath(found[1].decode(), posixpath.dirname(uri))
+                if dice.random() < 0.7:
+                    self.replace(uri, *found.span(1), (path.replace("%20", " ") if dice.random() < 0.5 else path).encode())
 
     def place(self, uri, at, stays=False):
         """Where an offset of a document stands by now. One that `stays` is the start of what includes it, where it was moved."""
         for here, start, end, grown, part in self.cuts:
             if uri == here and at >= end:
                 at += grown - (end - start)
-            elif uri == here and at >= start:
+            elif uri == here and at >= start and part:
                 uri, at = (uri, start) if stays else (part, at - start)
         return uri, at
 
