@@ -1,1 +1,0 @@
-pub mod Strings  -- Strings as they are read
