@@ -4,4 +4,4 @@ pub mod NameLaws  -- What documents name, by the strings in their texts
 pub mod ReachLaws  -- Marks of what documents name, directly or not
 pub mod ProgramLaws  -- The numbers of programs, counted on
 pub mod PartLaws  -- What documents are to one another
-pub mod OrderLaws  -- The order in which texts are included: each comes behind those that it names, since these name fewer
+pub mod OrderLaws  -- The order in which texts are included
