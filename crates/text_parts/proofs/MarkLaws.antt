@@ -66,7 +66,6 @@ marks_more f xs i b size told here k lt = at (below_or_last k i lt)
     at (inl low) = get_or_append_left xs (b ∷ []) false k (omega arith) ∙ told k low
     at (inr same) = ap (marked (xs ++ b ∷ [])) (same ∙ sym size) ∙ get_or-append_seam xs b [] false ∙ here ∙ ap f (sym same)
 
-
 -- how many are marked
 counted_from : {A : Type 0} (p : ℕ → Bool) (n : ℕ) (xs : List A) (bs : List Bool) → length bs ≡ length xs → ((k : ℕ) → k < length xs → marked bs k ≡ p (n + k)) → count_by (λ (b : Bool). b) bs ≡ length (passing p n xs)
 counted_from p n [] [] size told = refl

@@ -34,12 +34,7 @@ fn add_one(
 }
 
 /// Adds the documents that can be included and name so many others.
-fn add_those(
-    order: &mut Vec<usize>,
-    parts: &[TextPart],
-    reaches: &[Reach],
-    count: usize,
-) -> Mem<()>
+fn add_those(order: &mut Vec<usize>, parts: &[TextPart], reaches: &[Reach], count: usize) -> Mem<()>
     requires { length reaches.now ≡ length parts.now }
     ensures { (ds : List Document) → length parts.now ≡ length ds → Each (IsTextPart ds) parts.now → Each (IsReach (naming ds)) reaches.now → HaveCome ds order.old.items count 0 →
         OnOk result (HaveCome ds order.new.items (count + 1) 0) }

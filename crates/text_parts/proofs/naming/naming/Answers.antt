@@ -19,9 +19,11 @@ loop-document-preserved c =
     let row = c.in_ok-names_in.field-0 in
     let size : length ts ≡ length all = sym (length_naming (documents_in uris ts) ∙ length_documents uris ts) in
     let here : Marks row (length all) (named_by all i) = subst (λ (n : ℕ). Marks row n (named_by all i)) size
-        (subst (λ (ns : List ℕ). Marks row (length ts) ns) (named_there uris ts i t (omega arith) c.index-texts-document.is) c.in_ok-names_in.ensures) in
-    (grind (arith, common_steps), subst (Each (λ n (r : List Bool). Marks r (length all) (named_by all n))) (sym c.in_ok-push.ensures.items)
-    (each_more (λ n (r : List Bool). Marks r (length all) (named_by all n)) c.loop-document.rows.items row c.loop-document.invariant.1 (subst (λ n. Marks row (length all) (named_by all n)) (sym c.loop-document.invariant.0) here)))
+    (subst (λ (ns : List ℕ). Marks row (length ts) ns) (named_there uris ts i t (omega arith) c.index-texts-document.is) c.in_ok-names_in.ensures) in (
+      grind (arith, common_steps),
+      subst (Each (λ n (r : List Bool). Marks r (length all) (named_by all n))) (sym c.in_ok-push.ensures.items)
+          (each_more (λ n (r : List Bool). Marks r (length all) (named_by all n)) c.loop-document.rows.items row c.loop-document.invariant.1 (subst (λ n. Marks row (length all) (named_by all n)) (sym c.loop-document.invariant.0) here)),
+    )
 
 pub returns : goal.returns
 returns c =

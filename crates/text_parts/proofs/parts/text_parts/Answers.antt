@@ -33,6 +33,6 @@ returns-clause-order c =
     let ds = documents_in c.args.uris.now c.args.texts.now in
     let reached = c.in_ok-reaches.ensures.each (naming ds) (subst (λ (rs : List (List Bool)). Rows rs (naming ds)) (sym c.as_slice.ensures.value) c.in_ok-rows.ensures) in
     let told = c.in_ok-documents.ensures.each c.args.uris.now (subst (λ (rs : List (List Bool)). Rows rs (naming ds)) (sym c.as_slice-2.ensures.value) c.in_ok-rows.ensures)
-        (subst (Each (IsReach (naming ds))) (sym c.as_slice-3.ensures.value) reached) (subst (Each (IsProgramPlace ds)) (sym c.as_slice-4.ensures.value) (c.in_ok-programs.ensures.each c.args.uris.now)) in
+    (subst (Each (IsReach (naming ds))) (sym c.as_slice-3.ensures.value) reached) (subst (Each (IsProgramPlace ds)) (sym c.as_slice-4.ensures.value) (c.in_ok-programs.ensures.each c.args.uris.now)) in
     c.in_ok-order.ensures ds (ap length c.as_slice-5.ensures.value ∙ c.in_ok-documents.ensures.size ∙ sym (length_documents c.args.uris.now c.args.texts.now))
     (subst (Each (IsTextPart ds)) (sym c.as_slice-5.ensures.value) told) (subst (Each (IsReach (naming ds))) (sym c.as_slice-6.ensures.value) reached)

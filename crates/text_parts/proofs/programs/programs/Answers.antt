@@ -18,10 +18,10 @@ loop-text-preserved c =
     let ts = c.args.texts.now in
     let p = c.program_behind-program.result in
     let at : (uris : List (List ℕ)) → seen.data_of c.data_in.result.now ≡ data_of (document_at (documents_in uris ts) i) = λ uris.
-        c.data_in.ensures uris i ∙ ap data_of (sym (document_there uris ts i c.text-item.result (omega arith) c.text-item.is)) in
+    c.data_in.ensures uris i ∙ ap data_of (sym (document_there uris ts i c.text-item.result (omega arith) c.text-item.is)) in
     let number : (uris : List (List ℕ)) → p.number ≡ min (program_number (documents_in uris ts) i) max_units = λ uris.
-        number_here (documents_in uris ts) i c.loop-text.before p.number (omega (arith, length_documents uris ts)) (c.loop-text.invariant.counted uris)
-        (c.program_behind-program.ensures.number ∙ ap (λ ds. min (c.loop-text.before + length (filter is_library ds)) max_units) (at uris)) in
+    number_here (documents_in uris ts) i c.loop-text.before p.number (omega (arith, length_documents uris ts)) (c.loop-text.invariant.counted uris)
+    (c.program_behind-program.ensures.number ∙ ap (λ ds. min (c.loop-text.before + length (filter is_library ds)) max_units) (at uris)) in
     let there : (uris : List (List ℕ)) → p.there ≡ has_program (data_of (document_at (documents_in uris ts) i)) = λ uris. c.program_behind-program.ensures.there ∙ ap has_program (at uris) in
     record {
       few = omega (arith, c.units_with-before.ensures);
