@@ -5,7 +5,7 @@ use Rattle.std.specs.List.{list_any}
 use Rattle.std.proofs.lemmas.Bool.Decides.{nat_tests}
 use Rattle.scheme_model.specs.Includes.{Naming, is_among, named_by, with_named, names_on, is_on_circle}
 use Rattle.nesting_laws.specs.Onward.{onward, IsClosed}
-use Rattle.nesting_laws.proofs.Places.{Is, never, or_true, or_left, or_right, same_number, passing, among_passing, passing_among, fewer, not_all, passing_alike}
+use Rattle.nesting_laws.proofs.Places.{Is, never, or_true, or_left, or_right, both_ways, same_number, passing, among_passing, passing_among, fewer, not_all, passing_alike}
 
 either_way : (a b : ℕ) → (a ≤ b) ⊎ (b < a)
 either_way zero b = inl (omega arith)
@@ -17,7 +17,7 @@ either_way (suc a) (suc b) = next (either_way a b)
     next (inr h) = inr (omega arith)
 
 -- only a document names
-names_there : (all : Naming) (n k : ℕ) → Is (is_among (named_by all n) k) → n < length all
+pub names_there : (all : Naming) (n k : ℕ) → Is (is_among (named_by all n) k) → n < length all
 names_there [] n k h = never h
 names_there (ns ∷ rest) zero k h = omega arith
 names_there (ns ∷ rest) (suc n) k h = let there = names_there rest n k h in omega arith
@@ -36,7 +36,7 @@ module _ (all : Naming) where
   abbrev step : List ℕ → List ℕ
   step ns = with_named all 0 all ns
 
-  named_found : (n k : ℕ) (ns : List ℕ) → Is (is_among ns n) → Is (is_among (named_by all n) k) → Is (list_any (λ m. is_among (named_by all m) k) ns)
+  pub named_found : (n k : ℕ) (ns : List ℕ) → Is (is_among ns n) → Is (is_among (named_by all n) k) → Is (list_any (λ m. is_among (named_by all m) k) ns)
   named_found n k [] h g = never h
   named_found n k (m ∷ ns) h g = at (or_true (m == n) (is_among ns n) h) (named_found n k ns)
     where
@@ -44,7 +44,7 @@ module _ (all : Naming) where
       at (inl e) ih = or_left (is_among (named_by all m) k) (list_any (λ m. is_among (named_by all m) k) ns) (subst (λ (i : ℕ). Is (is_among (named_by all i) k)) (sym (same_number m n e)) g)
       at (inr e) ih = or_right (is_among (named_by all m) k) (list_any (λ m. is_among (named_by all m) k) ns) (ih e g)
 
-  found_named : (k : ℕ) (ns : List ℕ) → Is (list_any (λ m. is_among (named_by all m) k) ns) → (n : ℕ) × Is (is_among ns n) × Is (is_among (named_by all n) k)
+  pub found_named : (k : ℕ) (ns : List ℕ) → Is (list_any (λ m. is_among (named_by all m) k) ns) → (n : ℕ) × Is (is_among ns n) × Is (is_among (named_by all n) k)
   found_named k [] h = never h
   found_named k (m ∷ ns) h = at (or_true (is_among (named_by all m) k) (list_any (λ m. is_among (named_by all m) k) ns) h) (found_named k ns)
     where
@@ -63,6 +63,23 @@ module _ (all : Naming) where
   of_step : (ns : List ℕ) (k : ℕ) → Is (is_among (step ns) k) → (k < length all) × Is (found ns k)
   of_step ns k h =
       let w = passing_among (found ns) 0 all k (subst (λ (ms : List ℕ). Is (is_among ms k)) (found_passing 0 all ns) h) in (omega (arith, w.1), w.2)
+
+  -- which documents a step finds
+  pub step_told : (ns : List ℕ) (k : ℕ) → k < length all → is_among (with_named all 0 all ns) k ≡ (is_among ns k || list_any (λ m. is_among (named_by all m) k) ns)
+  step_told ns k lt = both_ways (is_among (step ns) k) (found ns k) (λ h. (of_step ns k h).1) (in_step ns k lt)
+
+  one_way : (ns ms : List ℕ) → ((k : ℕ) → k < length all → is_among ns k ≡ is_among ms k) → (k : ℕ) → k < length all → Is (is_among (step ns) k) → Is (is_among (step ms) k)
+  one_way ns ms same k lt h = at (or_true (is_among ns k) (list_any (λ m. is_among (named_by all m) k) ns) (of_step ns k h).1)
+    where
+      at : Is (is_among ns k) ⊎ Is (list_any (λ m. is_among (named_by all m) k) ns) → Is (is_among (step ms) k)
+      at (inl e) = in_step ms k lt (or_left (is_among ms k) (list_any (λ m. is_among (named_by all m) k) ms) (sym (same k lt) ∙ e))
+      at (inr e) =
+          let w = found_named k ns e in
+          in_step ms k lt (or_right (is_among ms k) (list_any (λ m. is_among (named_by all m) k) ms) (named_found w.0 k ms (sym (same w.0 (names_there all w.0 k w.2)) ∙ w.1) w.2))
+
+  -- what is named by the same documents is the same
+  pub step_alike : (ns ms : List ℕ) → ((k : ℕ) → k < length all → is_among ns k ≡ is_among ms k) → (k : ℕ) → k < length all → is_among (with_named all 0 all ns) k ≡ is_among (with_named all 0 all ms) k
+  step_alike ns ms same k lt = both_ways (is_among (step ns) k) (is_among (step ms) k) (one_way ns ms same k lt) (one_way ms ns (λ j low. sym (same j low)) k lt)
 
   stays : (ns : List ℕ) (k : ℕ) → k < length all → Is (is_among ns k) → Is (is_among (step ns) k)
   stays ns k lt h = in_step ns k lt (or_left (is_among ns k) (list_any (λ m. is_among (named_by all m) k) ns) h)
@@ -88,7 +105,7 @@ module _ (all : Naming) where
   stays_closed (suc steps) ns h = stays_closed steps (step ns) (step_closed ns h)
 
   -- how many documents are among these
-  abbrev count : List ℕ → ℕ
+  abbrev pub count : List ℕ → ℕ
   count ns = length (passing (is_among ns) 0 all)
 
   -- where a step finds no more, it is closed
@@ -141,18 +158,12 @@ module _ (all : Naming) where
   further n m k lt h small g =
       within (length all) (named_by all m) (onward all n) (onward_closed n) (λ j low x. onward_closed n m j (named_onward n m lt h) x low) k small g
 
-  counted : (steps : ℕ) (ns : List ℕ) → 0 < steps → count (names_on all steps ns) ≡ length (names_on all steps ns)
+  pub counted : (steps : ℕ) (ns : List ℕ) → 0 < steps → count (names_on all steps ns) ≡ length (names_on all steps ns)
   counted zero ns lt = absurd (omega arith)
   counted (suc zero) ns lt = ap length (passing_alike (is_among (step ns)) (found ns) 0 all (λ k low high. same k (omega arith)) ∙ sym (found_passing 0 all ns))
     where
       same : (k : ℕ) → k < length all → is_among (step ns) k ≡ found ns k
-      same k lt = by (is_among (step ns) k) refl (found ns k) refl
-        where
-          by : (a : Bool) → is_among (step ns) k ≡ a → (b : Bool) → found ns k ≡ b → a ≡ b
-          by true e true f = refl
-          by false e false f = refl
-          by true e false f = sym (of_step ns k e).1 ∙ f
-          by false e true f = sym e ∙ in_step ns k lt f
+      same k lt = step_told ns k lt
   counted (suc (suc steps)) ns lt = counted (suc steps) (step ns) (omega arith)
 
   -- what isn't on a circle names fewer documents onward than what names it

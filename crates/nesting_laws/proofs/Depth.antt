@@ -8,7 +8,7 @@ use Rattle.scheme_model.specs.Declarations.{is_library}
 use Rattle.scheme_model.specs.Includes.{StringAt, strings_in, Document, data_of, document_at, all_meant, names_of, Naming, naming, is_among, named_by, is_on_circle, is_part, is_usable, usable_from, usable, program_data, program_number}
 use Rattle.scheme_model.specs.Included.{Listing, Texts, forms_of, declarations_of, Given, given_at, lost, given_or_lost, Sources, texts, included_data, given_from, given, all_texts}
 use Rattle.nesting_laws.specs.Onward.{onward}
-use Rattle.nesting_laws.proofs.Places.{Is, never, or_left, or_right, same_itself, passing, passing_among}
+use Rattle.nesting_laws.proofs.Places.{Is, never, or_left, or_right, same_itself, both_ways, passing, among_passing, passing_among}
 use Rattle.nesting_laws.proofs.Closed.{fewer_onward, not_all_onward}
 use Rattle.nesting_laws.proofs.SameTexts.{SameFor, forms_same, declarations_all_same}
 
@@ -29,6 +29,13 @@ and_right false b h = never h
 not_true : (b : Bool) → Is (not b) → b ≡ false
 not_true true h = never h
 not_true false h = refl
+
+-- a document is among them where it can be included
+pub usable_told : (ds : List Document) (m : ℕ) → m < length ds → is_among (usable (naming ds) ds) m ≡ is_usable (naming ds) ds m
+usable_told ds m lt =
+    ap (λ ns. is_among ns m) (usable_passing (naming ds) ds 0 ds)
+    ∙ both_ways (is_among (passing (is_usable (naming ds) ds) 0 ds) m) (is_usable (naming ds) ds m) (λ h. (passing_among (is_usable (naming ds) ds) 0 ds m h).2)
+    (among_passing (is_usable (naming ds) ds) 0 ds m (omega arith) (omega arith))
 
 -- it is a document that isn't on a circle
 pub usable_there : (ds : List Document) (m : ℕ) → Is (is_among (usable (naming ds) ds) m) → m < length ds

@@ -22,6 +22,12 @@ pub or_right : (a b : Bool) → Is b → Is (a || b)
 or_right true b h = refl
 or_right false b h = h
 
+-- what is true of one is true of the other
+pub both_ways : (a b : Bool) → (Is a → Is b) → (Is b → Is a) → a ≡ b
+both_ways true b h k = sym (h refl)
+both_ways false true h k = k refl
+both_ways false false h k = refl
+
 pub same_number : (n m : ℕ) → Is (n == m) → n ≡ m
 same_number n m h = grind (arith, nat_tests)
 
