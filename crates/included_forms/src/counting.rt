@@ -60,7 +60,7 @@ fn bad_count<'a>(bad: Option<Source<'a>>) -> Count<'a>
 }
 
 /// How much steps give, and a bad declaration behind them.
-pub fn count<'a>(
+pub fn count_steps<'a>(
     limit: u32,
     parts: &[Part<'a>],
     steps: &[Given<'a>],

@@ -3,8 +3,19 @@
 #![tactic(auto)]
 
 mod choices;
+mod counting;
 mod declared;
+pub mod given;
+pub mod laws;
+mod losing;
 mod planning;
-pub mod plans;
+mod plans;
+mod resolving;
 pub mod steps;
 mod strings;
+pub mod tables;
+pub mod units;
+mod writing;
+
+pub use tables::{Documents, Table, Text};
+pub use units::Listed;

@@ -50,7 +50,7 @@ pub fn no_visits(alloc: Global, parts: &[Part<'_>]) -> Mem<Vec<Visit>>
     ensures { IfOk result (λ visits. AreFresh visits.items parts.now) }
 {
     let mut visits = Vec::new(alloc);
-    for _ in parts {
+    for _part in parts {
         visits.push(Visit {
             forms: false,
             declarations: false,

@@ -1,7 +1,11 @@
-use Rattle.std.proofs.Common.{◌≡◌, ◌∷◌, [], ◌<◌, ◌≤◌, List, length, take, map, Some, sym, ap, ◌∙◌, arith}
+use Rattle.std.proofs.Common.{◌≡◌, ◌∷◌, [], ◌<◌, ◌≤◌, List, length, take, map, Some, slice_get, refl, sym, ap, ◌∙◌, arith}
+use Rattle.std.proofs.lemmas.Bool.Decides.{nat_tests}
 use Rattle.std.proofs.lemmas.Option.{slice_get_read}
-use Rattle.scheme_model.specs.Included.{given_at}
-use Rattle.included_forms.specs.Counted.{in_way, listing_of, written_in}
+use Rattle.scheme_model.specs.Included.{Given as ModelGiven, given_at}
+use Rattle.included_forms.specs.declared.given.Given.{Given}
+use Rattle.included_forms.specs.declared.given.Written.{Written}
+use Rattle.included_forms.specs.Counted.{in_way, listing_of, written_in, tally_as, counts_none}
+use Rattle.included_forms.specs.Planned.{bad_one}
 use Rattle.included_forms.proofs.TableLaws.{text_far, text_before, text_behind, written_there}
 use Rattle.included_forms.proofs.WritingLaws.{none_given, counted_none, unchanged, without_bad, left_first, step_lists, left_end, one_form}
 use Rattle.included_forms.proofs.writing.+writing.Goals as goal
@@ -16,18 +20,3 @@ write-loop-step-preserved t c = λ limit gs h n fs ls e.
 
 pub write-returns : goal.write-returns
 write-returns t c = λ limit gs h n fs ls e. left_end limit (take c.args.below gs) c.args.steps.now c.loop-step.step-index c.args.forms.now.items c.loop-step.forms.items fs (omega arith) (c.loop-step.invariant limit gs h n fs ls e)
-
-pub write_step-returns-in_ok-push : goal.write_step-returns-in_ok-push
-write_step-returns-in_ok-push t c = ?
-
-pub write_step-returns-then-place-below : goal.write_step-returns-then-place-below
-write_step-returns-then-place-below t c = ?
-
-pub write_step-returns-in-Text : goal.write_step-returns-in-Text
-write_step-returns-in-Text t c = ?
-
-pub write_step-returns-in-Lost : goal.write_step-returns-in-Lost
-write_step-returns-in-Lost t c = ?
-
-pub write_text-returns-in-None : goal.write_text-returns-in-None
-write_text-returns-in-None t c = ?
