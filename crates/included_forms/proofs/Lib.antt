@@ -11,3 +11,4 @@ mod WritingLaws  -- The forms that steps give, one step after another
 mod BuildLaws  -- How tables are built
 mod LosingLaws  -- The strings that steps lose, one step after another
 mod ServeLaws  -- Strings give what the data of the texts give that they mean, with all that these include
+mod ListedLaws  -- What is written out by what is counted

@@ -50,7 +50,7 @@ pub fn no_visits(alloc: Global, parts: &[Part<'_>]) -> Mem<Vec<Visit>>
     ensures { IfOk result (λ visits. AreFresh visits.items parts.now) }
 {
     let mut visits = Vec::new(alloc);
-    for _part in parts {
+    while visits.len() < parts.len() {
         visits.push(Visit {
             forms: false,
             declarations: false,

@@ -20,3 +20,15 @@ write-loop-step-preserved t c = λ limit gs h n fs ls e.
 
 pub write-returns : goal.write-returns
 write-returns t c = λ limit gs h n fs ls e. left_end limit (take c.args.below gs) c.args.steps.now c.loop-step.step-index c.args.forms.now.items c.loop-step.forms.items fs (omega arith) (c.loop-step.invariant limit gs h n fs ls e)
+
+pub write_step-returns-then-place-below : goal.write_step-returns-then-place-below
+write_step-returns-then-place-below t c = λ limit gs h n fs ls e.
+    let before : c.in-Text.place < c.args.below = grind (arith, nat_tests) in
+    c.write_text.ensures limit gs h n fs ls
+    (sym (ap (λ (g : ModelGiven). in_way g c.in-Text.way) (text_before gs c.args.below c.in-Text.place before)) ∙ sym (ap (listing_of (take c.args.below gs)) c.in-Text.is) ∙ e)
+
+pub write_step-returns-else-place-below : goal.write_step-returns-else-place-below
+write_step-returns-else-place-below t c = λ limit gs h n fs ls e.
+    let behind : c.args.below ≤ c.in-Text.place = grind (arith, nat_tests) in
+    unchanged c.args.forms.now.items fs
+    (none_given (listing_of (take c.args.below gs) c.args.step) n fs ls (ap (listing_of (take c.args.below gs)) c.in-Text.is ∙ text_behind gs c.args.below c.in-Text.place c.in-Text.way behind) e)
