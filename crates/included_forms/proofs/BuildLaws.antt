@@ -47,7 +47,7 @@ stays_there [] x k y h = absurd cc
 stays_there (z ∷ xs) x zero y h = h
 stays_there (z ∷ xs) x (suc k) y h = stays_there xs x k y h
 
-there_or_last : {A : Type 0} (xs : List A) (x : A) (k : ℕ) (y : A) → slice_get (xs ++ x ∷ []) k ≡ Some y → (slice_get xs k ≡ Some y) ⊎ ((k ≡ length xs) × (x ≡ y))
+pub there_or_last : {A : Type 0} (xs : List A) (x : A) (k : ℕ) (y : A) → slice_get (xs ++ x ∷ []) k ≡ Some y → (slice_get xs k ≡ Some y) ⊎ ((k ≡ length xs) × (x ≡ y))
 there_or_last [] x zero y h = inr (refl, same_Some x y h)
 there_or_last [] x (suc k) y h = absurd cc
 there_or_last (z ∷ xs) x zero y h = inl h
