@@ -83,14 +83,7 @@ fn text_written<'a>(
     ensures { (o : Sources) (t : Texts) → AreDocuments o documents.now → IsText o document text.entry → Serve o t → (ms : List ℕ) → StandAt o t ms table.now →
         IfOk result (λ w. IsWritten o.limit (givens o t ms) w (in_way (given_of o t document) way)) }
 {
-    let plan = included_plan(
-        alloc,
-        documents.known,
-        way,
-        document,
-        text.unit,
-        text.data,
-    )?;
+    let plan = included_plan(alloc, documents.known, way, document, text.unit, text.data)?;
     plan_written(alloc, documents, table, document, plan)
 }
 

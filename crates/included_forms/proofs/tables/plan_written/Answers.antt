@@ -18,7 +18,7 @@ returns c = λ o t docs s ms k.
     let placed : Placed o.usable ms c.as_slice.result.now = subst (Placed o.usable ms) (sym c.as_slice.ensures.value) k.placed in
     let given : map (listing_of gs) c.in_ok-steps.steps.items ≡ map (given_by t n) c.as_slice-2.result.now = c.in_ok-steps.ensures o t ms s docs.meant placed in
     let listing : all_given o.limit gs c.in_ok-steps.steps.items bad ≡ plan_listing t n c.args.plan =
-        (λ j. in_a_row (sym s.limit j) ((given ∙ ap (map (given_by t n)) c.as_slice-2.ensures.value) j ++ bad_one bad)) in
+    (λ j. in_a_row (sym s.limit j) ((given ∙ ap (map (given_by t n)) c.as_slice-2.ensures.value) j ++ bad_one bad)) in
     let stands : Stand o.limit gs c.as_slice-3.result.now = subst (Stand o.limit gs) (sym c.as_slice-3.ensures.value) k.parts in
     let stands_here : Stand c.args.documents.now.limit gs c.as_slice-3.result.now = subst (λ limit. Stand limit gs c.as_slice-3.result.now) (sym docs.limit) stands in
     record {

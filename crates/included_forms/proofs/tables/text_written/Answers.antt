@@ -14,5 +14,5 @@ returns c = λ o t docs text s ms k.
     let n = c.args.document in
     let w = c.args.way in
     let same : plan_listing t n c.in_ok-plan.plan ≡ in_way (given_of o t n) w =
-        c.in_ok-plan.ensures t o.known docs.known ∙ (λ j. all_included t o.known w (homed_from n (text.unit j) 0 (program_data (text.«data» j)))) ∙ text_in_way o t n w in
+    c.in_ok-plan.ensures t o.known docs.known ∙ (λ j. all_included t o.known w (homed_from n (text.unit j) 0 (program_data (text.«data» j)))) ∙ text_in_way o t n w in
     subst (λ (l : Listing). IfOk c.plan_written.result (λ x. IsWritten o.limit (givens o t ms) x l)) same (c.plan_written.ensures o t docs s ms k)
