@@ -27,6 +27,7 @@ pub struct Text<'a> {
 }
 
 /// Documents as units see them: the most tokens of a unit, the libraries that there are, what strings mean, and the texts.
+#[derive(Drop)]
 pub struct Documents<'a> {
     pub limit: u32,
     pub known: &'a KnownLibraries,
