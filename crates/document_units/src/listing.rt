@@ -31,7 +31,7 @@ use ls_base::{Items, Mem, Memory, Span, Text};
 use scheme_model::{Home, Occ};
 use std::alloc::Global;
 use syntax_tree::units::UnitKind;
-use text_parts::{Parts, Text as View};
+use text_parts::{TextPart, TextParts, TextRead, text_parts};
 
 /// The most tokens that the forms of a unit have.
 const MAX_TOKENS: u32 = 1_048_576;
@@ -76,7 +76,7 @@ pub struct Units {
 struct Reader<'a> {
     documents: Documents<'a>,
     table: Table<'a>,
-    parts: &'a Parts,
+    parts: &'a [TextPart],
 }
 
 /// The units of all documents.
@@ -89,24 +89,25 @@ pub fn list_units(alloc: Global, documents: &[Document], known: &KnownLibraries)
 {
     let uris = uris_of(alloc, documents)?;
     let views = views_of(alloc, documents)?;
-    let parts = Parts::of(alloc, views.as_slice(), &uris)?;
-    let texts = texts_of(alloc, documents, parts.programs.as_slice())?;
+    let parts = text_parts(alloc, views.as_slice(), &uris)?;
+    let TextParts {
+        documents: parts,
+        order,
+    } = parts;
+    let texts = texts_of(alloc, documents, parts.as_slice())?;
     let included = Documents {
         limit: MAX_TOKENS,
         known,
         uris: &uris,
         texts: texts.as_slice(),
     };
-    let table = Table::of(
-        alloc,
-        &included,
-        parts.usable.as_slice(),
-        parts.order.as_slice(),
-    )?;
+    let usable = usable_of(alloc, parts.as_slice())?;
+    let order = numbers_of(alloc, order.as_slice())?;
+    let table = Table::of(alloc, &included, usable.as_slice(), order.as_slice())?;
     let reader = Reader {
         documents: included,
         table,
-        parts: &parts,
+        parts: parts.as_slice(),
     };
     let mut units = Units {
         heads: Vec::new(alloc),
@@ -129,10 +130,10 @@ fn uris_of(alloc: Global, documents: &[Document]) -> Mem<Uris> {
 }
 
 /// Documents as they are seen where it is asked what they name.
-fn views_of<'a>(alloc: Global, documents: &'a [Document]) -> Mem<Vec<View<'a>>> {
+fn views_of<'a>(alloc: Global, documents: &'a [Document]) -> Mem<Vec<TextRead<'a>>> {
     let mut views = Vec::new(alloc);
     for document in documents {
-        views.push(View {
+        views.push(TextRead {
             data: document.items.as_slice(),
             reads: document.fault.is_none(),
         })?;
@@ -144,16 +145,42 @@ fn views_of<'a>(alloc: Global, documents: &'a [Document]) -> Mem<Vec<View<'a>>> 
 fn texts_of<'a>(
     alloc: Global,
     documents: &'a [Document],
-    programs: &[u32],
+    parts: &[TextPart],
 ) -> Mem<Vec<IncludedText<'a>>> {
     let mut texts = Vec::new(alloc);
     for (place, document) in documents.iter().enumerate() {
         texts.push(IncludedText {
             data: document.items.as_slice(),
-            unit: programs.get(place).copied().unwrap_or(0),
+            unit: program_of(parts, place),
         })?;
     }
     Ok(texts)
+}
+
+/// The number of a document's program.
+fn program_of(parts: &[TextPart], place: usize) -> u32 {
+    match parts.get(place) {
+        None => 0,
+        Some(part) => part.program as u32,
+    }
+}
+
+/// Which documents can be included.
+fn usable_of(alloc: Global, parts: &[TextPart]) -> Mem<Vec<bool>> {
+    let mut usable = Vec::new(alloc);
+    for part in parts {
+        usable.push(part.is_usable)?;
+    }
+    Ok(usable)
+}
+
+/// Places as numbers.
+fn numbers_of(alloc: Global, places: &[usize]) -> Mem<Vec<u32>> {
+    let mut numbers = Vec::new(alloc);
+    for place in places {
+        numbers.push(*place as u32)?;
+    }
+    Ok(numbers)
 }
 
 /// Adds the libraries of a document.
@@ -214,12 +241,18 @@ fn whole(fault: LibraryFault) -> Mem<WholeFault> {
 impl Reader<'_> {
     /// Whether a document is on a circle of documents that include one another.
     fn is_circular(&self, document: usize) -> bool {
-        self.parts.circular.get(document).copied().unwrap_or(false)
+        match self.parts.get(document) {
+            None => false,
+            Some(part) => part.on_circle,
+        }
     }
 
     /// Whether a document is a part of another one.
     fn is_part(&self, document: usize) -> bool {
-        self.parts.parts.get(document).copied().unwrap_or(false)
+        match self.parts.get(document) {
+            None => false,
+            Some(part) => part.is_part,
+        }
     }
 }
 

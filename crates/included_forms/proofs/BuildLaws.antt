@@ -8,7 +8,7 @@ use Rattle.std.proofs.Math.Seq.{take-append_seam}
 use Rattle.ls_base.specs.declared.memory.Memory.{Memory}
 use Rattle.scheme_model.specs.Includes.{StringAt, document_at, is_among}
 use Rattle.scheme_model.specs.Included as model
-use Rattle.scheme_model.specs.Included.{Listing, Lists, Texts, Sources, given_at, lost, given_or_lost}
+use Rattle.scheme_model.specs.Included.{Listing, Lists, Texts, Sources, given_at, lost, given_or_lost, included_data}
 use Rattle.included_forms.specs.declared.steps.TextString.{TextString}
 use Rattle.included_forms.specs.declared.steps.Way.{Way}
 use Rattle.included_forms.specs.declared.steps.Way.TheVariants as way
@@ -20,6 +20,7 @@ use Rattle.included_forms.specs.declared.resolving.Standing.TheVariants as stand
 use Rattle.included_forms.specs.declared.tables.Table.{Table}
 use Rattle.included_forms.specs.Built.{IsUsable, AreUsable, StandAt, IsTable, standing_for}
 use Rattle.included_forms.specs.Steps.{string_of, text_by}
+use Rattle.included_forms.specs.Planned.{all_included}
 use Rattle.included_forms.specs.Counted.{in_way, listing_of, IsPart, Stand}
 use Rattle.included_forms.specs.Tables.{Serve, IsPlaced, Placed, given_of, givens, IsByStanding}
 
@@ -46,7 +47,7 @@ stays_there [] x k y h = absurd cc
 stays_there (z ∷ xs) x zero y h = h
 stays_there (z ∷ xs) x (suc k) y h = stays_there xs x k y h
 
-there_or_last : {A : Type 0} (xs : List A) (x : A) (k : ℕ) (y : A) → slice_get (xs ++ x ∷ []) k ≡ Some y → (slice_get xs k ≡ Some y) ⊎ ((k ≡ length xs) × (x ≡ y))
+pub there_or_last : {A : Type 0} (xs : List A) (x : A) (k : ℕ) (y : A) → slice_get (xs ++ x ∷ []) k ≡ Some y → (slice_get xs k ≡ Some y) ⊎ ((k ≡ length xs) × (x ≡ y))
 there_or_last [] x zero y h = inr (refl, same_Some x y h)
 there_or_last [] x (suc k) y h = absurd cc
 there_or_last (z ∷ xs) x zero y h = inl h
@@ -152,6 +153,11 @@ table_more o old new n k p h later parts count places here = record {
           parts = subst (Stand o.limit (givens o t (h.members ++ n ∷ []))) (sym parts)
               (subst (λ (gs : List model.Given). Stand o.limit gs (old.parts.items ++ p ∷ [])) (sym (givens_more o t h.members n)) (stand_more o.limit (givens o t h.members) old.parts.items (given_of o t n) p q.parts (here t s)));
         }
+
+-- what a text gives in a way
+pub text_in_way : (o : Sources) (t : Texts) (n : ℕ) (w : Way) → all_included t o.known w (included_data o.documents n) ≡ in_way (given_of o t n) w
+text_in_way o t n way.Forms = refl
+text_in_way o t n way.Declarations = refl
 
 -- ---- what strings give
 

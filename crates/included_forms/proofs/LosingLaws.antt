@@ -6,6 +6,7 @@ use Rattle.std.proofs.lemmas.List.{drop_more, at_drop_all, map-append}
 use Rattle.std.proofs.lemmas.List.Elements.{Contains-append_left, Contains-append_right}
 use Rattle.scheme_model.specs.Included as model
 use Rattle.scheme_model.specs.Included.{Listing, Lists, nothing, is_same_string, with_one, with_lost, in_a_row, given_at}
+use Rattle.included_forms.specs.declared.steps.Source.{Source}
 use Rattle.included_forms.specs.declared.steps.Way.{Way}
 use Rattle.included_forms.specs.declared.steps.Way.TheVariants as way
 use Rattle.included_forms.specs.declared.given.LostString.{LostString}
@@ -13,8 +14,10 @@ use Rattle.included_forms.specs.declared.given.Given.{Given}
 use Rattle.included_forms.specs.declared.losing.Visit.{Visit}
 use Rattle.included_forms.specs.Counted.{lost_of, in_way, listing_of}
 use Rattle.included_forms.specs.Losses.{HoldsAll, AllSame, visited_in, same_way, AreSeen, Loses}
+use Rattle.included_forms.specs.Planned.{bad_one}
 use Rattle.included_forms.proofs.TableLaws.{splits}
-use Rattle.included_forms.proofs.BuildLaws.{set_same, set_other, same_or_other}
+use Rattle.included_forms.proofs.WritingLaws.{without_bad}
+use Rattle.included_forms.proofs.BuildLaws.{there_or_last, set_same, set_other, same_or_other}
 
 -- ---- strings that are found
 
@@ -79,6 +82,16 @@ same_both : (found more : List LostString) (ls : List model.LostString) → AllS
 same_both [] more ls h k = k
 same_both (f ∷ found) more ls h k = (h.0, same_both found more ls h.1 k)
 
+-- ---- no text was gone through
+
+pub fresh_more : (visits : List Visit) (x : Visit) → ((k : ℕ) (v : Visit) (w : Way) → slice_get visits k ≡ Some v → visited_in v w ≡ false) → ((w : Way) → visited_in x w ≡ false) →
+    (k : ℕ) (v : Visit) (w : Way) → slice_get (visits ++ x ∷ []) k ≡ Some v → visited_in v w ≡ false
+fresh_more visits x h here k v w is = by (there_or_last visits x k v is)
+  where
+    by : (slice_get visits k ≡ Some v) ⊎ ((k ≡ length visits) × (x ≡ v)) → visited_in v w ≡ false
+    by (inl q) = h k v w q
+    by (inr q) = ap (λ (y : Visit). visited_in y w) (sym q.1) ∙ here w
+
 -- ---- one step
 
 seen_more : (gs : List model.Given) (visits : List Visit) (old added new : List LostString) → new ≡ old ++ added → AreSeen gs visits old → AreSeen gs visits new
@@ -135,6 +148,17 @@ loses_marked gs old visits new k v u w h is low marked = record { seen = λ j a 
         here : (visited_in v x ≡ true) ⊎ (same_way w x ≡ true) → HoldsAll new ls
         here (inl q) = h.seen k v x is q n fs ls (ap (λ i. in_way (given_at gs i) x) (sym e) ∙ g)
         here (inr q) = h.all n fs ls (ap (in_way (given_at gs k)) (way_same w x q) ∙ ap (λ i. in_way (given_at gs i) x) (sym e) ∙ g)
+
+-- a bad declaration behind steps that list is none
+pub loses_row : (limit : ℕ) (gs : List model.Given) (old : List LostString) (visits : List Visit) (new : List LostString) (xs : List Listing) (b : Option Source) (l : Listing) → in_a_row limit (xs ++ bad_one b) ≡ l →
+    Loses gs old visits new (in_a_row limit xs) → Loses gs old visits new l
+loses_row limit gs old visits new xs b l e h = record {
+  seen = h.seen;
+  added = h.added;
+  more = h.more;
+  all = λ n fs ls q. h.all n fs ls (without_bad limit xs b n fs ls (e ∙ q));
+  only = λ n fs ls q. h.only n fs ls (without_bad limit xs b n fs ls (e ∙ q));
+}
 
 -- ---- steps one after another
 

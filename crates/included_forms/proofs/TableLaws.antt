@@ -83,7 +83,16 @@ splits limit l ls n fs ks e = go l refl (in_a_row limit ls) refl e
         Splits limit l ls fs ks
     both true m k gs hs is js p r q = absurd cc
     both false m k gs hs is js p r q = record {
-      tokens = m; forms = gs; strings = is; first = p; other_tokens = k; other_forms = hs; other_strings = js; others = r; all = cc; lost = cc;
+      tokens = m;
+      forms = gs;
+      strings = is;
+      first = p;
+      other_tokens = k;
+      other_forms = hs;
+      other_strings = js;
+      others = r;
+      all = cc;
+      lost = cc;
     }
 
     go : (x : Listing) → l ≡ x → (y : Listing) → in_a_row limit ls ≡ y → followed limit x y ≡ Lists n fs ks → Splits limit l ls fs ks

@@ -1,5 +1,5 @@
 //! The strings of steps that mean no text that can be included, over a table of texts. Each text is gone through once for each way.
-ghost use Rattle.std.specs.Prelude.{◌≡◌, ◌||◌, ℕ, List, map, take, length, OnOk, IfOk};
+ghost use Rattle.std.specs.Prelude.{◌≡◌, ◌||◌, false, ℕ, List, map, take, length, OnOk, IfOk};
 ghost use Rattle.scheme_model.specs.Included.{Given as ModelGiven, in_a_row, given_at};
 ghost use Rattle.included_forms.specs.Counted.{Stand, listing_of, in_way};
 ghost use Rattle.included_forms.specs.Losses.{Loses, AreSeen, visited_in, same_way, AreFresh};
@@ -45,16 +45,23 @@ impl Visit {
     }
 }
 
+/// A text that wasn't gone through.
+fn not_visited(_text: &Part<'_>) -> Visit
+    ensures { (w : ModelWay) → visited_in result w ≡ false }
+{
+    Visit {
+        forms: false,
+        declarations: false,
+    }
+}
+
 /// No text was gone through yet.
 pub fn no_visits(alloc: Global, parts: &[Part<'_>]) -> Mem<Vec<Visit>>
     ensures { IfOk result (λ visits. AreFresh visits.items parts.now) }
 {
     let mut visits = Vec::new(alloc);
-    for _part in parts {
-        visits.push(Visit {
-            forms: false,
-            declarations: false,
-        })?;
+    for part in parts {
+        visits.push(not_visited(part))?;
     }
     Ok(visits)
 }

@@ -53,11 +53,7 @@ pub fn form_or_texts<'a>(
 }
 
 /// Adds forms, or the texts that they include.
-fn forms<'a>(
-    origin: Origin,
-    parts: &'a [Datum],
-    steps: &mut Vec<Step<'a>>,
-) -> Result<(), Stop<'a>>
+fn forms<'a>(origin: Origin, parts: &'a [Datum], steps: &mut Vec<Step<'a>>) -> Result<(), Stop<'a>>
     ensures { (t : Texts) → Plans t origin.document steps.old.items steps.new.items result (map (λ d. form_or_texts t (from origin d)) (data_of parts.now)) }
 {
     for datum in parts {

@@ -50,11 +50,7 @@ fn planned<'a>(steps: Vec<Step<'a>>, ended: Result<(), Stop<'a>>) -> Mem<Plan<'a
 // ---- a program
 
 /// Adds a datum of a document's program, which a library isn't.
-fn own_form<'a>(
-    document: u32,
-    datum: &'a Datum,
-    steps: &mut Vec<Step<'a>>,
-) -> Result<(), Stop<'a>>
+fn own_form<'a>(document: u32, datum: &'a Datum, steps: &mut Vec<Step<'a>>) -> Result<(), Stop<'a>>
     ensures { (t : Texts) → Plans t document steps.old.items steps.new.items result (map (form_or_texts t) (map (own document) (program_data (data_of (datum.now ∷ []))))) }
 {
     if is_headed("define-library", datum) {

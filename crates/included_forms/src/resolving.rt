@@ -1,5 +1,5 @@
 //! Which texts the strings of steps mean, by their places in a table.
-ghost use Rattle.std.specs.Prelude.{◌≡◌, ◌<◌, ℕ, List, map, length, IfOk};
+ghost use Rattle.std.specs.Prelude.{◌≡◌, ◌<◌, ℕ, List, map, length, slice_get, IfOk};
 ghost use Rattle.scheme_model.specs.Included.{Sources, Texts};
 ghost use Rattle.included_documents.specs.Meant.{meant};
 ghost use Rattle.included_forms.specs.Counted.{listing_of};
@@ -37,6 +37,16 @@ fn by_standing<'a>(
     }
 }
 
+/// Where a document stands, if there is one at this place.
+pub fn standing_at(places: &[Standing], document: usize) -> Option<Standing>
+    ensures { result ≡ slice_get places.now document }
+{
+    if document < places.len() {
+        return Some(places[document]);
+    }
+    None
+}
+
 /// What a string gives.
 fn text_given<'a>(
     alloc: Global,
@@ -53,7 +63,7 @@ fn text_given<'a>(
     let meant = uris.meant(alloc, document as usize, string.characters)?;
     match meant {
         None => Ok(by_standing(None, document, string, way)?),
-        Some(place) => Ok(by_standing(places.get(place).copied(), document, string, way)?),
+        Some(place) => Ok(by_standing(standing_at(places, place), document, string, way)?),
     }
 }
 

@@ -83,11 +83,7 @@ pub fn includes_declarations(datum: &Datum) -> Option<&[Datum]>
 }
 
 /// Adds the text that a string means.
-fn push_text<'a>(
-    way: Way,
-    datum: &'a Datum,
-    steps: &mut Vec<Step<'a>>,
-) -> Result<(), Stop<'a>>
+fn push_text<'a>(way: Way, datum: &'a Datum, steps: &mut Vec<Step<'a>>) -> Result<(), Stop<'a>>
     ensures { (t : Texts) (document : ℕ) → Plans t document steps.old.items steps.new.items result (map (text_by t way document) (strings_among (datum_of datum.now ∷ []))) }
 {
     match string_in(datum) {

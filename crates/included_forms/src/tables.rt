@@ -1,15 +1,17 @@
 //! What the documents give that others include, each counted once for each way, and the forms of units over that (R7RS 4.1.7, 5.6.1).
-ghost use Rattle.std.specs.Prelude.{◌≡◌, ◌<◌, ℕ, List, map, length, IfOk, OnOk};
+ghost use Rattle.std.specs.Prelude.{◌≡◌, ◌<◌, ℕ, List, map, length, slice_get, Some, IfOk, OnOk};
+ghost use Rattle.std.specs.Bool.{OnTrue};
 ghost use Rattle.scheme_model.specs.Included.{Sources, Texts};
 ghost use Rattle.included_forms.specs.Planned.{plan_listing};
 ghost use Rattle.included_forms.specs.Counted.{IsWritten, IsPart, in_way};
 ghost use Rattle.included_forms.specs.Tables.{Serve, given_of, givens};
 ghost use Rattle.included_forms.specs.Built.{IsText, AreDocuments, AreUsable, IsTable, StandAt, standing_for};
+ghost use Rattle.included_forms.specs.declared.resolving.Standing.TheVariants as standing;
 
 use crate::counting::count_steps;
 use crate::given::{Part, Written};
 use crate::plans::{Plan, included_plan};
-use crate::resolving::{Standing, steps_given};
+use crate::resolving::{Standing, standing_at, steps_given};
 use crate::steps::Way;
 use datum_reader::Datum;
 use included_documents::Uris;
@@ -25,7 +27,7 @@ pub struct Text<'a> {
 }
 
 /// Documents as units see them: the most tokens of a unit, the libraries that there are, what strings mean, and the texts.
-#[derive(Clone, Copy)]
+#[derive(Drop)]
 pub struct Documents<'a> {
     pub limit: u32,
     pub known: &'a KnownLibraries,
@@ -82,14 +84,7 @@ fn text_written<'a>(
     ensures { (o : Sources) (t : Texts) → AreDocuments o documents.now → IsText o document text.entry → Serve o t → (ms : List ℕ) → StandAt o t ms table.now →
         IfOk result (λ w. IsWritten o.limit (givens o t ms) w (in_way (given_of o t document) way)) }
 {
-    let plan = included_plan(
-        alloc,
-        documents.known,
-        way,
-        document,
-        text.unit,
-        text.data,
-    )?;
+    let plan = included_plan(alloc, documents.known, way, document, text.unit, text.data)?;
     plan_written(alloc, documents, table, document, plan)
 }
 
@@ -113,6 +108,18 @@ fn text_part<'a>(
     })
 }
 
+/// Whether a document can be included and doesn't stand yet.
+fn comes_later(places: &[Standing], document: usize) -> bool
+    ensures { OnTrue result (slice_get places.now document ≡ Some standing.Later) }
+{
+    match standing_at(places, document) {
+        Some(Standing::Later) => true,
+        Some(Standing::Unusable) => false,
+        Some(Standing::At(_)) => false,
+        None => false,
+    }
+}
+
 /// Adds a document that can be included, behind those that it includes. A document that can't be, or that stands already, is passed.
 fn add<'a>(
     alloc: Global,
@@ -123,13 +130,13 @@ fn add<'a>(
     requires { length documents.now.texts.now ≡ length documents.now.uris.now }
     ensures { (o : Sources) → AreDocuments o documents.now → IsTable o table.old → OnOk result (IsTable o table.new) }
 {
-    let Some(text) = documents.texts.get(document as usize) else {
+    if document as usize >= documents.texts.len() {
         return Ok(());
-    };
-    let text = *text;
-    let Some(Standing::Later) = table.places.get(document as usize).copied() else {
+    }
+    if !comes_later(table.places.as_slice(), document as usize) {
         return Ok(());
-    };
+    }
+    let text = documents.texts[document as usize];
     let part = text_part(alloc, documents, table, document, text)?;
     let place = table.parts.len();
     table.parts.push(part)?;

@@ -76,10 +76,10 @@ fn write_text<'a>(
     ensures { (limit : ℕ) (gs : List ModelGiven) → Stand limit gs parts.now → (n : ℕ) (fs : List ModelForm) (ls : List ModelLost) →
         in_way (given_at gs place) way ≡ Lists n fs ls → OnOk result (map form_of forms.new.items ≡ map form_of forms.old.items ++ fs) }
 {
-    let Some(part) = parts.get(place) else {
+    if place >= parts.len() {
         return Ok(());
-    };
-    let written = part.written(way);
+    }
+    let written = parts[place].written(way);
     if is_nothing(written) {
         return Ok(());
     }

@@ -1,7 +1,7 @@
 use Rattle.std.proofs.Common.{◌≡◌, ◌∷◌, [], ◌<◌, ◌≤◌, List, length, take, map, Some, slice_get, refl, sym, ap, ◌∙◌, arith}
 use Rattle.std.proofs.lemmas.Bool.Decides.{nat_tests}
 use Rattle.std.proofs.lemmas.Option.{slice_get_read}
-use Rattle.scheme_model.specs.Included.{Given as ModelGiven, given_at}
+use Rattle.scheme_model.specs.Included.{Given as ModelGiven, given_at, in_a_row}
 use Rattle.included_forms.specs.declared.given.Given.{Given}
 use Rattle.included_forms.specs.declared.given.Written.{Written}
 use Rattle.included_forms.specs.Counted.{in_way, listing_of, written_in, tally_as, counts_none}
@@ -20,3 +20,43 @@ write-loop-step-preserved t c = λ limit gs h n fs ls e.
 
 pub write-returns : goal.write-returns
 write-returns t c = λ limit gs h n fs ls e. left_end limit (take c.args.below gs) c.args.steps.now c.loop-step.step-index c.args.forms.now.items c.loop-step.forms.items fs (omega arith) (c.loop-step.invariant limit gs h n fs ls e)
+
+pub write_step-returns-then-place-below : goal.write_step-returns-then-place-below
+write_step-returns-then-place-below t c = λ limit gs h n fs ls e.
+    let before : c.in-Text.place < c.args.below = grind (arith, nat_tests) in
+    c.write_text.ensures limit gs h n fs ls
+    (sym (ap (λ (g : ModelGiven). in_way g c.in-Text.way) (text_before gs c.args.below c.in-Text.place before)) ∙ sym (ap (listing_of (take c.args.below gs)) c.in-Text.is) ∙ e)
+
+pub write_step-returns-else-place-below : goal.write_step-returns-else-place-below
+write_step-returns-else-place-below t c = λ limit gs h n fs ls e.
+    let behind : c.args.below ≤ c.in-Text.place = grind (arith, nat_tests) in
+    unchanged c.args.forms.now.items fs
+    (none_given (listing_of (take c.args.below gs) c.args.step) n fs ls (ap (listing_of (take c.args.below gs)) c.in-Text.is ∙ text_behind gs c.args.below c.in-Text.place c.in-Text.way behind) e)
+
+pub write_text-returns-then-place-parts : goal.write_text-returns-then-place-parts
+write_text-returns-then-place-parts t c = λ limit gs h n fs ls e.
+    let as_many = h.as_many in
+    let far : length c.args.parts.now ≤ c.args.place = grind (arith, nat_tests) in
+    unchanged c.args.forms.now.items fs (none_given (in_way (given_at gs c.args.place) c.args.way) n fs ls (text_far gs c.args.place c.args.way (omega arith)) e)
+
+pub write_text-returns-then-is_nothing : goal.write_text-returns-then-is_nothing
+write_text-returns-then-is_nothing t c = λ limit gs h n fs ls e.
+    let parts = c.args.parts.now in
+    let part = c.index-parts-place.result in
+    let low : c.args.place < length parts = grind (arith, nat_tests) in
+    let there : slice_get parts c.args.place ≡ Some part = slice_get_read parts (length parts) c.args.place part refl low c.index-parts-place.is in
+    let counted = ap (λ (w : Written). tally_as w.count) c.written-written.ensures ∙ (written_there limit gs parts c.args.place part c.args.way h there).count in
+    unchanged c.args.forms.now.items fs
+    (counted_none c.written-written.result.now.count (in_way (given_at gs c.args.place) c.args.way) n fs ls counted (sym c.is_nothing.ensures ∙ c.if-is_nothing.true) e)
+
+pub write_text-returns : goal.write_text-returns
+write_text-returns t c = λ limit gs h n fs ls e.
+    let parts = c.args.parts.now in
+    let part = c.index-parts-place.result in
+    let place = c.args.place in
+    let low : place < length parts = grind (arith, nat_tests) in
+    let there : slice_get parts place ≡ Some part = slice_get_read parts (length parts) place part refl low c.index-parts-place.is in
+    let w = written_in part c.args.way in
+    let row = without_bad limit (map (listing_of (take place gs)) w.steps.items) w.bad n fs ls ((written_there limit gs parts place part c.args.way h there).listing ∙ e) in
+    c.write.ensures limit gs h n fs ls
+    (ap (λ (xs : List Given). in_a_row limit (map (listing_of (take place gs)) xs)) (c.as_slice.ensures.value ∙ ap (λ (x : Written). x.steps.items) c.written-written.ensures) ∙ row)
