@@ -89,12 +89,12 @@ prepared_alone : (all : List Placed) (n : ℕ) (us : List Placed) → Each Place
 prepared_alone all n [] h = tt
 prepared_alone all n (u ∷ us) h = (
   λ e.
-    let q = h.0 e in
-    record {
-      lost = q.0;
-      specs = ap (specs_from n 0) q.1.1 ∙ no_specs n 0 q.1.0;
-      exports = ap (exports_from n 0) q.1.1 ∙ no_exports n 0 q.1.0;
-    },
+      let q = h.0 e in
+      record {
+        lost = q.0;
+        specs = ap (specs_from n 0) q.1.1 ∙ no_specs n 0 q.1.0;
+        exports = ap (exports_from n 0) q.1.1 ∙ no_exports n 0 q.1.0;
+      },
   prepared_alone all (suc n) us h.1,
 )
 
@@ -148,8 +148,7 @@ module _ (all : List Placed) (ps : List Prepared) (known : Known) (alone : Each 
     comes_of : is_part_kind p.placed.source.kind ≡ true → IsNothing result × (result.unit.placed.source.lost ≡ [])
     comes_of e =
         let b = a e in
-        let is : result ≡ nothing_of p = result_is known p imports start (no_work p e) b.exports (no_entries all g.results p e b) in
-        (
+        let is : result ≡ nothing_of p = result_is known p imports start (no_work p e) b.exports (no_entries all g.results p e b) in (
           record {
             sets = ap (λ (r : UnitResult). r.sets) is;
             entries = ap (λ (r : UnitResult). r.entries) is;

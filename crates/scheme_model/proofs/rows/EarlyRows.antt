@@ -12,7 +12,6 @@ use Rattle.scheme_model.specs.Cores as c
 use Rattle.scheme_model.specs.Expression.{no_rules}
 use Rattle.scheme_model.proofs.Shown.{ArrowRow}
 use Rattle.scheme_model.proofs.ShownIncludes.{told_diagnostics, told_early, told_arrows}
-
 use Rattle.std.specs.Char.{encode_utf8}
 use Rattle.scheme_model.specs.StandardLibraries.{standard_libraries}
 use Rattle.scheme_model.specs.Prelude.{prelude}

@@ -11,7 +11,6 @@ use Rattle.scheme_model.specs.Meaning as m
 use Rattle.scheme_model.specs.Cores as c
 use Rattle.scheme_model.specs.Expression.{no_rules}
 use Rattle.scheme_model.proofs.Shown.{ArrowRow, arrow_rows, diagnostic_rows}
-
 use Rattle.std.specs.Char.{encode_utf8}
 use Rattle.scheme_model.specs.StandardLibraries.{standard_libraries}
 use Rattle.scheme_model.specs.Prelude.{prelude}
