@@ -1,5 +1,5 @@
 -- The texts that documents include, by their places in a table.
-use Rattle.std.specs.Prelude.{◌≡◌, ℕ, List, [], ◌∷◌, map, Bool, true, false, Option, Some, None, Result, Ok, Err, slice_get}
+use Rattle.std.specs.Prelude.{◌≡◌, ◌<◌, ℕ, List, [], ◌∷◌, map, length, Bool, true, false, Option, Some, None, Result, Ok, Err, slice_get}
 use Rattle.ls_base.specs.declared.memory.Memory.{Memory}
 use Rattle.scheme_model.specs.Includes.{StringAt, document_at, is_among}
 use Rattle.scheme_model.specs.Included as model
@@ -19,9 +19,9 @@ pub record Serve (o : Sources) (t : Texts) : Type 0 where
   pub declarations : (n : ℕ) (s : StringAt) →
       t.as_declarations n s ≡ given_or_lost o.usable (λ m. declarations_of t o.known (included_data o.documents m)) ((document_at o.documents n).meant s.characters) (lost n s)
 
--- strings mean documents by these uris
+-- strings of the documents with these uris mean documents by these
 abbrev pub Mean : Sources → List (List ℕ) → Type 0
-Mean o uris = (n : ℕ) (s : List ℕ) → (document_at o.documents n).meant s ≡ meant uris n s
+Mean o uris = (n : ℕ) (s : List ℕ) → n < length uris → (document_at o.documents n).meant s ≡ meant uris n s
 
 -- a document can be included, and stands at its place, where it has one
 abbrev pub IsPlaced : List ℕ → List ℕ → ℕ → Option Standing → Type 0
