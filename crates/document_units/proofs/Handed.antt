@@ -6,8 +6,9 @@ use Rattle.std.specs.Option.{option_map}
 use Rattle.std.proofs.lemmas.Bool.{and_parts}
 use Rattle.scheme_model.specs.Requirements.{LibraryName}
 use Rattle.scheme_model.specs.Data.{Datum, atom, list, vector, bytes, none, part, tail}
-use Rattle.scheme_model.specs.Declarations.{UnitForm, UnitSource, plain_form, is_headed, symbol_in}
-use Rattle.scheme_model.specs.Program.{Placed, Prepared, prepared, prepare, is_in, imported_units, name_if, unless_standard, imported_as, is_named, unit_named, WholeFault, fault_before, specs_in, specs_from, exports_in, exports_from, forms_or_none, first_ready}
+use Rattle.scheme_model.specs.Declarations.{UnitForm, plain_form, is_headed, symbol_in}
+use Rattle.scheme_model.specs.IncludedUnits.{UnitSource, Placed}
+use Rattle.scheme_model.specs.Program.{Prepared, prepared, prepare, is_in, imported_units, name_if, unless_standard, imported_as, is_named, unit_named, WholeFault, fault_before, specs_in, specs_from, exports_in, exports_from, forms_or_none, first_ready}
 use Rattle.syntax_tree.proofs.InternLaws.{bytes_told}
 use Rattle.import_sets.specs.InTurn.{all_in, is_open, and_then, in_turn}
 use Rattle.library_table.specs.declared.units.UnitSource as code

@@ -10,7 +10,8 @@ use Rattle.scheme_model.specs.Data.{Datum}
 use Rattle.scheme_model.specs.Declarations.{UnitForm}
 use Rattle.scheme_model.specs.Requirements.{LibraryName}
 use Rattle.scheme_model.specs.Program as model
-use Rattle.scheme_model.specs.Program.{Placed, Prepared, prepared, prepare, is_in, imports_at, reached, on_circle, name_if, unit_named, imported_units, is_repeated, declared_fault, fault_before, specs_from, forms_or_none}
+use Rattle.scheme_model.specs.IncludedUnits.{Placed}
+use Rattle.scheme_model.specs.Program.{Prepared, prepared, prepare, is_in, imports_at, reached, on_circle, name_if, unit_named, imported_units, is_repeated, declared_fault, fault_before, specs_from, forms_or_none}
 use Rattle.core_tree.specs.Units.{imports_of}
 use Rattle.import_sets.proofs.ReachLaws.{IsWithin, same_test, reached_closed, reached_start, reached_within}
 use Rattle.base_library.specs.Texts.{SpellsStandard}

@@ -8,7 +8,8 @@ use Rattle.std.proofs.lemmas.List.{length-map}
 use Rattle.scheme_model.specs.Requirements.{LibraryName}
 use Rattle.scheme_model.specs.Declarations.{UnitForm}
 use Rattle.scheme_model.specs.Data.{Datum}
-use Rattle.scheme_model.specs.Program.{Placed, Prepared, prepared, prepare, imports_at, unit_named, is_in, reached, on_circle, WholeFault, TooMany, DefinedTwice, ImportCycle, declared_fault, fault_before, first_ready}
+use Rattle.scheme_model.specs.IncludedUnits.{Placed}
+use Rattle.scheme_model.specs.Program.{Prepared, prepared, prepare, imports_at, unit_named, is_in, reached, on_circle, WholeFault, TooMany, DefinedTwice, ImportCycle, declared_fault, fault_before, first_ready}
 use Rattle.import_sets.specs.InTurn.{is_open, and_then, in_turn, ComesAfter}
 use Rattle.import_sets.specs.Graphs.{AreNumbered, is_circular}
 use Rattle.import_sets.proofs.ReachLaws.{IsWithin, reached_closed, reached_start, reached_within}

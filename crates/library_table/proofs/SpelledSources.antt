@@ -131,7 +131,11 @@ module _ (spelled : LibraryName → List ℕ) (written : (n : LibraryName) → I
   name_spelled None h = refl
   name_spelled (Some n) h = ap Some (sym (written n h))
 
+  -- a unit's name, where it is proper
+  pub unit_spelled : (unit : ℕ) (c : code.UnitSource) (u : UnitSource) (d : Datum) → IfProper u.name → IsSource unit c u d → c.name ≡ option_map spelled u.name
+  unit_spelled unit c u d proper h = h.name ∙ name_spelled u.name proper
+
   pub source_spelled : (t : Texts) (known : Known) (unit document : ℕ) (c : code.UnitSource) (d : Datum) → IsSource unit c (library_of t known document d) d → c.name ≡ option_map spelled (library_of t known document d).name
   source_spelled t known unit document c d h =
       let named = source_name IsLibrary (library_name d) (place_of d) (library_listing t known (own document d) (behind_head d)) in
-      h.name ∙ name_spelled (library_of t known document d).name (subst IfProper (sym named) (library_name_proper (behind_head d)))
+      unit_spelled unit c (library_of t known document d) d (subst IfProper (sym named) (library_name_proper (behind_head d))) h

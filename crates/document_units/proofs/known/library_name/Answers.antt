@@ -2,7 +2,8 @@
 use Rattle.std.proofs.Common.{◌≡◌, true, Err, sym, ap, ◌∙◌, refl, subst}
 use Rattle.std.specs.Option.{option_map}
 use Rattle.std.specs.BTreeSet.{contains_text}
-use Rattle.scheme_model.specs.Declarations.{is_library, library_of}
+use Rattle.scheme_model.specs.Declarations.{is_library}
+use Rattle.scheme_model.specs.IncludedUnits.{library_of}
 use Rattle.scheme_model.specs.Requirements.{Known}
 use Rattle.scheme_tokens.specs.LibraryNames.{library_text}
 use Rattle.datum_reader.specs.Views.{datum_of}

@@ -1,5 +1,5 @@
 use Rattle.std.proofs.Common.{◌+◌, take}
-use Rattle.scheme_model.specs.Declarations.{libraries_in}
+use Rattle.scheme_model.specs.IncludedUnits.{libraries_in}
 use Rattle.scheme_model.specs.Requirements.{Known}
 use Rattle.datum_reader.specs.Views.{data_of}
 use Rattle.library_table.specs.PartsRead.{Knows}

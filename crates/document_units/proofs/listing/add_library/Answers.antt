@@ -3,7 +3,8 @@ use Rattle.std.proofs.Common.{◌≡◌, ℕ, true, List, length, Some, None, Er
 use Rattle.std.specs.Option.{option_map}
 use Rattle.std.specs.BTreeSet.{contains_text}
 use Rattle.scheme_model.specs.Declarations as source
-use Rattle.scheme_model.specs.Declarations.{is_library, library_of}
+use Rattle.scheme_model.specs.Declarations.{is_library}
+use Rattle.scheme_model.specs.IncludedUnits.{library_of}
 use Rattle.scheme_model.specs.Requirements.{Known}
 use Rattle.scheme_tokens.specs.LibraryNames.{library_text}
 use Rattle.library_table.specs.LibrariesRead.{IsLibraryRead}

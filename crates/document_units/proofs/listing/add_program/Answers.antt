@@ -1,7 +1,7 @@
 -- The forms of a program were read with the data.
 use Rattle.std.proofs.Common.{◌≡◌, ℕ, List, Option, Some, None, filter, length, arith, sym, ap, subst}
 use Rattle.scheme_model.specs.Declarations as source
-use Rattle.scheme_model.specs.Declarations.{program_in}
+use Rattle.scheme_model.specs.IncludedUnits.{program_in}
 use Rattle.datum_reader.specs.Views.{data_of}
 use Rattle.library_table.specs.UnitsRead.{forms_of, not_library, IsProgramRead}
 use Rattle.library_table.specs.declared.units.UnitSource.{UnitSource}

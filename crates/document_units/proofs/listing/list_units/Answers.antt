@@ -1,7 +1,7 @@
 -- The units of one document more are sound in one more, and are listed behind those of the documents before.
 use Rattle.std.proofs.Common.{◌<◌, ◌+◌, List, refl, sym, subst, length, arith}
 use Rattle.std.proofs.lemmas.Option.{slice_get_read}
-use Rattle.scheme_model.specs.Declarations.{libraries_in}
+use Rattle.scheme_model.specs.IncludedUnits.{libraries_in}
 use Rattle.scheme_model.specs.Program.{known_in, units_of}
 use Rattle.datum_reader.specs.declared.datum.Datum.{Datum}
 use Rattle.datum_reader.specs.Views.{data_of}
