@@ -1,6 +1,7 @@
 -- What texts list, as units have it.
-use Rattle.std.proofs.Common.{◌≡◌, ℕ, List, ◌∷◌, map, Bool, true, false, Option, Result, Ok, Err, refl, sym, ap, ◌∙◌, subst}
+use Rattle.std.proofs.Common.{◌≡◌, ℕ, ◌+◌, ◌<◌, List, [], ◌∷◌, ◌++◌, append_assoc, length, get_or, drop, map, Bool, true, false, Option, Result, Ok, Err, refl, sym, ap, ◌∙◌, subst}
 use Rattle.std.specs.Prelude.{◌&&◌, ◌||◌, if◌then◌else◌}
+use Rattle.std.proofs.lemmas.List.{drop_more}
 use Rattle.std.specs.Option.{option_map}
 use Rattle.std.specs.Result.{IsErrAnd}
 use Rattle.scheme_model.specs.Data.{Place, Datum}
@@ -11,6 +12,9 @@ use Rattle.scheme_model.specs.Program.{specs_from, exports_from}
 use Rattle.scheme_model.specs.Requirements.{LibraryName}
 use Rattle.scheme_tokens.specs.LibraryNames.{library_text}
 use Rattle.datum_reader.specs.FirstTokens.{first_token}
+use Rattle.datum_reader.specs.Views.{datum_of}
+use Rattle.included_forms.specs.Steps.{form_of as listed_form}
+use Rattle.included_forms.specs.declared.steps.FlatForm as listed
 use Rattle.library_table.specs.declared.fault.LibraryFault.{LibraryFault}
 use Rattle.library_table.specs.declared.fault.LibraryFault.TheVariants as fault
 use Rattle.library_table.specs.declared.reading.Lists as code_lists
@@ -30,6 +34,19 @@ forms_more true f fs = go (is_import f.source.datum)
         ≡ record { datum = f.source.datum; declared = b || f.declared; home = f.source.home } ∷ forms_left b fs
     go true = refl
     go false = refl
+
+-- one more is copied
+pub copied_more : (leads next : Bool) (fs : List listed.FlatForm) (i : ℕ) (f : listed.FlatForm) (old new all : List UnitForm) → i < length fs → f ≡ get_or fs i f → old ++ forms_left leads (map listed_form (drop i fs)) ≡ all →
+    next ≡ (leads && is_import (datum_of f.source.datum.now)) → new ≡ old ++ record { datum = datum_of f.source.datum.now; declared = next || f.declared; home = f.source.origin.home } ∷ [] →
+    new ++ forms_left next (map listed_form (drop (i + 1) fs)) ≡ all
+copied_more leads next fs i f old new all low is so_far leading push =
+    let rest = map listed_form (drop (i + 1) fs) in
+    ap (λ (xs : List UnitForm). xs ++ forms_left next rest) push
+    ∙ append_assoc old (record { datum = datum_of f.source.datum.now; declared = next || f.declared; home = f.source.origin.home } ∷ []) (forms_left next rest)
+    ∙ ap (λ (b : Bool). old ++ (record { datum = datum_of f.source.datum.now; declared = b || f.declared; home = f.source.origin.home } ∷ forms_left b rest)) leading
+    ∙ ap (λ (xs : List UnitForm). old ++ xs) (sym (forms_more leads (listed_form f) rest))
+    ∙ ap (λ (g : listed.FlatForm). old ++ forms_left leads (listed_form g ∷ rest)) is
+    ∙ ap (λ (gs : List listed.FlatForm). old ++ forms_left leads (map listed_form gs)) (sym (drop_more fs i f low)) ∙ so_far
 
 -- ---- ends
 

@@ -57,6 +57,7 @@ fn is_import(datum: &Datum) -> bool
 }
 
 /// Forms as they are listed, each with its datum copied. Imports that lead are declared, where they are asked for.
+#[tactic(auto, using(crate::proofs::ListingRows::copied_more))]
 fn copied(alloc: Global, listed: &[FlatForm<'_>], leading: bool) -> Mem<Vec<UnitForm>>
     ensures { IfOk result (λ forms. forms_of forms.items ≡ forms_left leading (map listed_form listed.now)) }
 {
