@@ -22,13 +22,13 @@ use Rattle.document_units.proofs.ChangedLaws.{changes_itself, changes_as, change
 -- ---- heads stay
 
 pub head_itself : (h : Head) → SameHead h h
-head_itself h = record { document = refl; kind = refl; span = refl; firsts = refl; homes = refl; names = refl }
+head_itself h = record { document = refl; kind = refl; span = refl; firsts = refl; homes = refl; names = refl; ranges = refl }
 
 pub head_on : (a b c : Head) → SameHead a b → SameHead b c → SameHead a c
-head_on a b c h k = record { document = k.document ∙ h.document; kind = k.kind ∙ h.kind; span = k.span ∙ h.span; firsts = k.firsts ∙ h.firsts; homes = k.homes ∙ h.homes; names = k.names ∙ h.names }
+head_on a b c h k = record { document = k.document ∙ h.document; kind = k.kind ∙ h.kind; span = k.span ∙ h.span; firsts = k.firsts ∙ h.firsts; homes = k.homes ∙ h.homes; names = k.names ∙ h.names; ranges = k.ranges ∙ h.ranges }
 
 pub head_broken : (b : Bool) (f : WholeFault) (h : Head) → SameHead h (broken_if b f h)
-head_broken true f h = record { document = refl; kind = refl; span = refl; firsts = refl; homes = refl; names = refl }
+head_broken true f h = record { document = refl; kind = refl; span = refl; firsts = refl; homes = refl; names = refl; ranges = refl }
 head_broken false f h = head_itself h
 
 pub heads_itself : (hs : List Head) → HeadsStay hs hs

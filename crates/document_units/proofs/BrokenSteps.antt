@@ -86,7 +86,7 @@ standard_stay xs bs h =
 
 head_importing : (find : List ℕ → Option ℕ) (o : Option UnitSource) (h : Head) → SameHead h (importing find o h)
 head_importing find None h = head_itself h
-head_importing find (Some s) h = record { document = refl; kind = refl; span = refl; firsts = refl; homes = refl; names = refl }
+head_importing find (Some s) h = record { document = refl; kind = refl; span = refl; firsts = refl; homes = refl; names = refl; ranges = refl }
 
 pub imports_stay : (find : List ℕ → Option ℕ) (ss : List UnitSource) (xs bs : List Head) → FindsImports find ss xs bs → HeadsStay xs bs
 imports_stay find ss xs bs h =

@@ -6,8 +6,9 @@ use Rattle.std.specs.Option.{option_map}
 use Rattle.std.proofs.lemmas.Bool.{and_parts}
 use Rattle.scheme_model.specs.Requirements.{LibraryName}
 use Rattle.scheme_model.specs.Data.{Datum, atom, list, vector, bytes, none, part, tail}
-use Rattle.scheme_model.specs.Declarations.{UnitForm, UnitSource, plain_form, is_headed, symbol_in}
-use Rattle.scheme_model.specs.Program.{Placed, Prepared, prepared, prepare, is_in, imported_units, name_if, unless_standard, imported_as, is_named, unit_named, WholeFault, fault_before, specs_in, specs_from, exports_in, exports_from, forms_or_none, first_ready}
+use Rattle.scheme_model.specs.Declarations.{UnitForm, plain_form, is_headed, symbol_in}
+use Rattle.scheme_model.specs.IncludedUnits.{EarlyFault, UnitSource, Placed}
+use Rattle.scheme_model.specs.Program.{Prepared, prepared, prepare, is_in, imported_units, name_if, unless_standard, imported_as, is_named, unit_named, WholeFault, fault_before, specs_in, specs_from, exports_in, exports_from, forms_or_none, first_ready}
 use Rattle.syntax_tree.proofs.InternLaws.{bytes_told}
 use Rattle.import_sets.specs.InTurn.{all_in, is_open, and_then, in_turn}
 use Rattle.library_table.specs.declared.units.UnitSource as code
@@ -21,7 +22,7 @@ use Rattle.document_units.proofs.NamedUnits.{named_of_taken, imported_same, prep
 abbrev plain : UnitForm → UnitForm
 plain f = cond (f.declared && is_headed (codes "import") f.datum) (plain_form f.datum) f
 
-abbrev plain_forms : Result (List UnitForm) Datum → Result (List UnitForm) Datum
+abbrev plain_forms : Result (List UnitForm) EarlyFault → Result (List UnitForm) EarlyFault
 plain_forms (Ok fs) = Ok (map plain fs)
 plain_forms (Err d) = Err d
 
@@ -90,15 +91,15 @@ all_exports n form (f ∷ fs) = λ j. same_exports n form f j ++ all_exports n (
 same_name : (n : ℕ) (u : UnitSource) → name_if n (without_imports u) ≡ name_if n u
 same_name n u = go u.forms
   where
-    go : (r : Result (List UnitForm) Datum) → name_if n (record u { forms = plain_forms r }) ≡ name_if n (record u { forms = r })
+    go : (r : Result (List UnitForm) EarlyFault) → name_if n (record u { forms = plain_forms r }) ≡ name_if n (record u { forms = r })
     go (Ok fs) = refl
     go (Err d) = refl
 
-imports_none : (n : ℕ) (r : Result (List UnitForm) Datum) → specs_from n 0 (forms_or_none (plain_forms r)) ≡ []
+imports_none : (n : ℕ) (r : Result (List UnitForm) EarlyFault) → specs_from n 0 (forms_or_none (plain_forms r)) ≡ []
 imports_none n (Ok fs) = none_specs n 0 fs
 imports_none n (Err d) = refl
 
-exports_same : (n : ℕ) (r : Result (List UnitForm) Datum) → exports_from n 0 (forms_or_none (plain_forms r)) ≡ exports_from n 0 (forms_or_none r)
+exports_same : (n : ℕ) (r : Result (List UnitForm) EarlyFault) → exports_from n 0 (forms_or_none (plain_forms r)) ≡ exports_from n 0 (forms_or_none r)
 exports_same n (Ok fs) = all_exports n 0 fs
 exports_same n (Err d) = refl
 

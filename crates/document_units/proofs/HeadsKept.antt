@@ -13,6 +13,7 @@ head_kept rs k h g r same is = record {
   firsts = ap (λ fs. fs.items) same.firsts ∙ is.firsts;
   homes = ap (λ hs. hs.items) same.homes ∙ is.homes;
   names = ap (λ ns. ns.items) same.names ∙ is.names;
+  ranges = ap (λ rs. rs.items) same.ranges ∙ is.ranges;
 }
 
 first_stays : (h g : Head) (hs gs : List Head) → HeadsStay (h ∷ hs) (g ∷ gs) → SameHead h g

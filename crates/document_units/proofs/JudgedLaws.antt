@@ -6,11 +6,11 @@ use Rattle.std.specs.Option.{option_map}
 use Rattle.std.proofs.lemmas.Bool.{ltb-true, and_parts, cases_lt}
 use Rattle.std.proofs.lemmas.Bool.Decides.{nat_tests}
 use Rattle.std.proofs.lemmas.Option.{same_Some, slice_get_within}
-use Rattle.scheme_model.specs.Data.{Datum}
 use Rattle.scheme_model.specs.Declarations.{UnitForm}
 use Rattle.scheme_model.specs.Requirements.{LibraryName}
 use Rattle.scheme_model.specs.Program as model
-use Rattle.scheme_model.specs.Program.{Placed, Prepared, prepared, prepare, is_in, imports_at, reached, on_circle, name_if, unit_named, imported_units, is_repeated, declared_fault, fault_before, specs_from, forms_or_none}
+use Rattle.scheme_model.specs.IncludedUnits.{EarlyFault, Placed}
+use Rattle.scheme_model.specs.Program.{Prepared, prepared, prepare, is_in, imports_at, reached, on_circle, name_if, unit_named, imported_units, is_repeated, early_fault, declared_fault, fault_before, specs_from, forms_or_none}
 use Rattle.core_tree.specs.Units.{imports_of}
 use Rattle.import_sets.proofs.ReachLaws.{IsWithin, same_test, reached_closed, reached_start, reached_within}
 use Rattle.base_library.specs.Texts.{SpellsStandard}
@@ -131,10 +131,10 @@ stays : (f g : WholeFault) (b : Bool) → one_more b g (Some f) ≡ Some f
 stays f g true = refl
 stays f g false = refl
 
-abbrev alone : ℕ → Bool → Result (List UnitForm) Datum → Option model.WholeFault
+abbrev alone : ℕ → Bool → Result (List UnitForm) EarlyFault → Option model.WholeFault
 alone n many r = cond many (Some model.TooMany) (declared_fault n r None)
 
-abbrev before : ℕ → Bool → Result (List UnitForm) Datum → (repeated circle : Bool) → Option model.WholeFault
+abbrev before : ℕ → Bool → Result (List UnitForm) EarlyFault → (repeated circle : Bool) → Option model.WholeFault
 before n many r repeated circle = cond many (Some model.TooMany) (declared_fault n r (cond repeated (Some model.DefinedTwice) (cond circle (Some model.ImportCycle) None)))
 
 abbrev after : (repeated standard circle : Bool) → Option WholeFault → Option WholeFault
@@ -145,9 +145,9 @@ after_stays a b c f =
     ap (λ (o : Option WholeFault). one_more c fault.ImportCycle (one_more b fault.DefinedTwice o)) (stays f fault.DefinedTwice a)
     ∙ ap (one_more c fault.ImportCycle) (stays f fault.DefinedTwice b) ∙ stays f fault.ImportCycle c
 
-faults : (n : ℕ) (many : Bool) (r : Result (List UnitForm) Datum) (twice circle a b c : Bool) → (alone n many r ≡ None → (twice ≡ (b || a)) × (circle ≡ c)) → after a b c (option_map told (alone n many r)) ≡ option_map told (before n many r twice circle)
+faults : (n : ℕ) (many : Bool) (r : Result (List UnitForm) EarlyFault) (twice circle a b c : Bool) → (alone n many r ≡ None → (twice ≡ (b || a)) × (circle ≡ c)) → after a b c (option_map told (alone n many r)) ≡ option_map told (before n many r twice circle)
 faults n true r twice circle a b c same = after_stays a b c fault.TooMany
-faults n false (Err d) twice circle a b c same = after_stays a b c (told (model.BadDeclaration n d))
+faults n false (Err d) twice circle a b c same = after_stays a b c (told (early_fault n d))
 faults n false (Ok fs) twice circle a b c same = go a b c ∙ sym (λ j. option_map told (cond ((same refl).0 j) (Some model.DefinedTwice) (cond ((same refl).1 j) (Some model.ImportCycle) None)))
   where
     go : (a b c : Bool) → after a b c None ≡ option_map told (cond (b || a) (Some model.DefinedTwice) (cond c (Some model.ImportCycle) None))
@@ -172,7 +172,7 @@ broken_imports : (b : Bool) (f : WholeFault) (h : Head) → (broken_if b f h).im
 broken_imports true f h = refl
 broken_imports false f h = refl
 
-not_many : (n : ℕ) (r : Result (List UnitForm) Datum) → alone n (nat_le 128 n) r ≡ None → n < 128
+not_many : (n : ℕ) (r : Result (List UnitForm) EarlyFault) → alone n (nat_le 128 n) r ≡ None → n < 128
 not_many n r h = go (nat_le 128 n) refl h
   where
     low : nat_le 128 n ≡ false → n < 128

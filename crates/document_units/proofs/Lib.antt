@@ -10,9 +10,9 @@ pub mod DocumentLaws  -- Documents as they are read, one by one, and the bytes o
 pub mod PlaceLaws  -- Units, forms and tokens by their places, as the code keeps them
 pub mod UnreadLaws  -- The first document that doesn't read, by the faults that the code keeps
 pub mod SoundLaws  -- Units stay sound as they are listed
-pub mod ReadForms  -- The forms of libraries and programs were read, where the data that these are were, also those that are declarations
 pub mod OneIfSame  -- An export that isn't renamed has one identifier
 pub mod RisingParts  -- The parts of what was read stand one behind the other, and of two neighbours one at most is implied by a mark
+pub mod ReadForms  -- The forms of units were read, where the data of all documents were, also those that are declarations, and those of included texts
 pub mod RenamedLaws  -- An export stands under another name where its two identifiers stand at two places, as they were read from two tokens
 pub mod ExportsRead  -- Exports that are read are those of the definition
 pub mod NamedUnits  -- Which units a unit imports
@@ -25,7 +25,7 @@ pub mod JudgedLaws  -- Units are judged as the definition of a program breaks th
 pub mod DiagnosedLaws  -- What is found in forms tells the definition's diagnostics
 pub mod HeadsKept  -- Heads that stay are those of the same units
 pub mod ToldUnits  -- Units of a program one by one
-pub mod KnownSteps  -- The names of libraries, one datum and one document more at a time, and the name that the front of a library has
+pub mod KnownSteps  -- The names of libraries, one datum and one document more at a time
 pub mod TokenPlaces  -- The bytes of a datum's first token are those of the token with its number (R7RS 7.1.2)
 pub mod UnitStarts  -- Units begin at the tokens with the numbers of their first ones
 pub mod ListedUnits  -- Units as they are listed

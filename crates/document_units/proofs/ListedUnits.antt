@@ -1,37 +1,44 @@
 -- Units as they are listed: what is read of each, one more at a time, and all of them.
-use Rattle.std.proofs.Common.{◌≡◌, ℕ, zero, suc, ◌+◌, ◌<◌, ◌⊎◌, inl, inr, Bool, true, false, cond, List, [], ◌∷◌, ◌++◌, map, take, length, slice_get, Option, Some, None, Ok, Err, refl, sym, ap, ◌∙◌, subst, append_assoc, append-nil, arith}
+use Rattle.std.proofs.Common.{◌≡◌, ℕ, zero, suc, ◌+◌, ◌<◌, ◌⊎◌, inl, inr, Bool, true, false, cond, List, [], ◌∷◌, ◌++◌, map, take, length, slice_get, Option, Some, None, Result, Ok, Err, refl, sym, ap, ◌∙◌, subst, append_assoc, append-nil, arith}
 use Rattle.std.specs.Prelude.{nat_lt, nat_le}
 use Rattle.std.specs.Option.{option_map}
 use Rattle.std.proofs.lemmas.Bool.Decides.{nat_tests}
 use Rattle.std.proofs.lemmas.List.{map-append, length_push}
 use Rattle.std.proofs.lemmas.Option.{slice_get_within}
 use Rattle.ls_base.specs.declared.places.Span.{Span}
-use Rattle.scheme_model.specs.Data.{Place, Datum, Data, none, part, tail, place_of}
-use Rattle.scheme_model.specs.Declarations as source
-use Rattle.scheme_model.specs.Declarations.{UnitForm, unit_or, UnitKind, IsLibrary, is_library, Flat, library_with, library_of, behind_head, program_in}
+use Rattle.scheme_model.specs.Data.{Place, Datum, place_of}
+use Rattle.scheme_model.specs.Declarations.{UnitForm, unit_or, UnitKind}
+use Rattle.scheme_model.specs.Included.{LostString, Listing, Lists, BadAfter, TooLong}
+use Rattle.scheme_model.specs.Includes.{Document, max_units}
+use Rattle.scheme_model.specs.IncludedUnits as source
+use Rattle.scheme_model.specs.IncludedUnits.{EarlyFault, BadAt, TooManyTokens, source_by, Placed}
 use Rattle.scheme_model.specs.Program as model
-use Rattle.scheme_model.specs.Program.{Placed, prepared, ImportSpec, name_if, imported_as, unless_standard, max_units, declared_fault, forms_or_none, specs_from, exports_from}
-use Rattle.scheme_model.specs.Requirements.{LibraryName, Known}
+use Rattle.scheme_model.specs.Program.{prepared, ImportSpec, name_if, imported_as, unless_standard, early_fault, declared_fault, forms_or_none, specs_from, exports_from, units_of}
+use Rattle.scheme_model.specs.Requirements.{LibraryName}
 use Rattle.scheme_tokens.specs.LibraryNames.{library_text}
 use Rattle.syntax_tree.specs.declared.units.UnitKind as code_kind
 use Rattle.syntax_tree.specs.declared.units.UnitKind.TheVariants as kinds
 use Rattle.syntax_tree.proofs.Places.{push_cases, get_within}
 use Rattle.core_tree.specs.Names.{AllMatch}
 use Rattle.core_tree.specs.Units.{kind_as}
-use Rattle.datum_reader.specs.FirstTokens.{first_token}
-use Rattle.datum_reader.specs.Looks.{bytes_of}
 use Rattle.datum_reader.proofs.DatumLaws.{place-datum}
 use Rattle.library_table.specs.Sources.{AreImports, AreExports, IsUnit, AreUnitsFrom}
-use Rattle.library_table.specs.UnitsRead.{kind_of, forms_of, AreSpecs, IsSource}
+use Rattle.library_table.specs.UnitsRead.{kind_of, forms_of, AreLost, AreSpecs, IsSource, IsUnitRead}
+use Rattle.library_table.specs.declared.fault.LibraryFault.{LibraryFault}
+use Rattle.library_table.specs.declared.fault.LibraryFault.TheVariants as library
 use Rattle.library_table.specs.declared.units.ExportSpec as code_export
 use Rattle.library_table.specs.declared.units.ImportSpec as code_import
 use Rattle.library_table.specs.declared.units.UnitForm as code_form
+use Rattle.library_table.specs.declared.units.LostString as code_lost
 use Rattle.library_table.specs.declared.units.UnitSource.{UnitSource}
-use Rattle.library_table.proofs.SpelledSources.{imports_spelled, source_spelled}
+use Rattle.library_table.proofs.KnownTexts.{IfProper}
+use Rattle.library_table.proofs.SpelledSources.{imports_spelled, unit_spelled}
 use Rattle.document_units.specs.Broken.{told, has_standard}
 use Rattle.document_units.specs.UnitSources.{IsSourceOf, HaveOneIfSame, IsSpec}
 use Rattle.scheme_model.specs.Sites.{names_in_forms}
-use Rattle.document_units.specs.UnitsListed.{WritesProper, IsReadAt, IsReadFor, IsBlankLibrary, without_standard, IsOne, AreSoFar, placed_in, AddsRead, AreUnitsListed}
+use Rattle.document_units.specs.DataRead.{data_at}
+use Rattle.document_units.specs.Listing.{Begins, IsWholeOf}
+use Rattle.document_units.specs.UnitsListed.{WritesProper, ranges_from, IsReadAt, IsReadFor, IsBlank, without_standard, IsOne, AreSoFar, placed_in, AddsRead, AreUnitsListed}
 use Rattle.document_units.specs.WereRead.{FormsRead}
 use Rattle.document_units.specs.declared.listing.WholeFault.{WholeFault}
 use Rattle.document_units.specs.declared.listing.WholeFault.TheVariants as fault
@@ -40,16 +47,19 @@ use Rattle.document_units.specs.declared.listing.Units.{Units}
 use Rattle.document_units.proofs.ExportsRead.{exports_read}
 use Rattle.document_units.proofs.OneIfSame.{all_from}
 use Rattle.document_units.proofs.RenamedLaws.{AreDeclaredRead}
-use Rattle.document_units.proofs.UnitStarts.{library_token, program_token}
 use Rattle.document_units.proofs.StandardNamed.{standard_told, as_imported}
+
+
+abbrev Flat : Type 0
+Flat = Result (List UnitForm) EarlyFault
 
 -- ---- names that units are known by
 
 usable_name : (u : source.UnitSource) (fs : List UnitForm) → u.forms ≡ Ok fs → name_if 0 u ≡ u.name
 usable_name u fs e = subst (λ (f : Flat). name_if 0 (record u { forms = f }) ≡ u.name) (sym e) refl
 
-no_name_if : (u : source.UnitSource) (d : Datum) → u.forms ≡ Err d → name_if 0 u ≡ None
-no_name_if u d e = subst (λ (f : Flat). name_if 0 (record u { forms = f }) ≡ None) (sym e) refl
+no_name_if : (u : source.UnitSource) (e : EarlyFault) → u.forms ≡ Err e → name_if 0 u ≡ None
+no_name_if u e is = subst (λ (f : Flat). name_if 0 (record u { forms = f }) ≡ None) (sym is) refl
 
 foremost_name : (n : ℕ) (u : source.UnitSource) → n < max_units → name_if n u ≡ name_if 0 u
 foremost_name n u lt = let t : nat_lt n max_units ≡ true = grind (arith, nat_tests) in ap (λ (b : Bool). cond b (name_if 0 u) None) t
@@ -59,6 +69,7 @@ foremost_name n u lt = let t : nat_lt n max_units ≡ true = grind (arith, nat_t
 kinds_same : (k : code_kind.UnitKind) → kind_as k ≡ kind_of k
 kinds_same kinds.Library = refl
 kinds_same kinds.Program = refl
+kinds_same kinds.Part = refl
 
 declared_read : (fs : List UnitForm) → FormsRead fs → AreDeclaredRead fs
 declared_read [] h = tt
@@ -76,20 +87,6 @@ imports_back spelled [] (s ∷ ss) h = absurd h
 imports_back spelled (c ∷ cs) [] h = absurd h
 imports_back spelled (c ∷ cs) (s ∷ ss) h = (h.0.set, imports_back spelled cs ss h.1)
 
-library_kind : (known : Known) (d : Datum) (ds : Data) → (library_with known d ds).kind ≡ IsLibrary
-library_kind known d none = refl
-library_kind known d (tail e) = refl
-library_kind known d (part n ds) = refl
-
-first_name : List source.UnitSource → Option LibraryName
-first_name [] = None
-first_name (u ∷ us) = u.name
-
-program_name : (ds : List Datum) (u : source.UnitSource) → program_in ds ≡ u ∷ [] → u.name ≡ None
-unfolding first_name
-program_name [] u e = absurd cc
-program_name (d ∷ ds) u e = sym (ap first_name e)
-
 -- a place doesn't tell in which list a unit stands
 module _ (spelled : LibraryName → List ℕ) (n : ℕ) (c : UnitSource) where
   pub source_in : (us vs : List Placed) (p q : Placed) → p.source ≡ q.source → IsSourceOf spelled (prepared us n p) None c → IsSourceOf spelled (prepared vs n q) None c
@@ -99,6 +96,7 @@ module _ (spelled : LibraryName → List ℕ) (n : ℕ) (c : UnitSource) where
     imports = λ whole. subst (λ (u : source.UnitSource). AllMatch (IsSpec spelled) c.imports (specs_from n 0 (forms_or_none u.forms))) e (h.imports refl);
     exports = subst (λ (u : source.UnitSource). AreExports c.exports (exports_from n 0 (forms_or_none u.forms))) e h.exports;
     single = subst (λ (u : source.UnitSource). HaveOneIfSame (exports_from n 0 (forms_or_none u.forms))) e h.single;
+    lost = subst (λ (u : source.UnitSource). AreLost c.lost u.lost) e h.lost;
   }
 
 -- the numbers of the first tokens of forms
@@ -123,86 +121,113 @@ module _ (spelled : LibraryName → List ℕ) (written : WritesProper spelled) (
         exports = subst (λ (fs : List UnitForm). AreExports c.exports (exports_from n 0 fs)) (sym forms)
             (exports_read c.exports n (forms_of c.forms) (declared_read (forms_of c.forms) read) h.exports);
         single = all_from n 0 (forms_or_none u.forms);
+        lost = h.lost;
       }
 
-  -- a library, which has no name where that is standard
-  library_at : (known : Known) (d : Datum) (c : UnitSource) (name : Option (List ℕ)) → true ≡ is_library d → FormsRead (forms_of c.forms) → IsSource n c (library_of known d) d → name ≡ option_map library_text (library_of known d).name → IsReadAt spelled n (library_of known d) name (without_standard c) None
-  library_at known d c name lib read h is = go (has_standard c.name) refl
+  -- a unit that was read, which has no name where that is standard
+  unit_at : (ds : List Datum) (u : source.UnitSource) (c : UnitSource) (d : Datum) (name : Option (List ℕ)) → FormsRead (forms_of c.forms) → IsSource n c u d → IfProper u.name → name ≡ option_map library_text u.name → Begins ds u c.span →
+      IsReadAt spelled ds n u name (without_standard c) None
+  unit_at ds u c d name read h proper is begins = go (has_standard c.name) refl
     where
-      by_name : (b : Bool) → has_standard c.name ≡ b → cond b None c.name ≡ option_map spelled (imported_as 0 (library_of known d))
+      by_name : (b : Bool) → has_standard c.name ≡ b → cond b None c.name ≡ option_map spelled (imported_as 0 u)
       by_name b e =
-          as_imported spelled (library_of known d).name b (sym (standard_told (library_of known d).name c.name (λ other k. source_spelled other k known n c d h)) ∙ e) c.name (source_spelled spelled written known n c d h)
-          ∙ ap (λ (o : Option LibraryName). option_map spelled (unless_standard o)) (sym (usable_name (library_of known d) (forms_of c.forms) h.forms))
+          as_imported spelled u.name b (sym (standard_told u.name c.name (λ other k. unit_spelled other k n c u d proper h)) ∙ e) c.name (unit_spelled spelled written n c u d proper h)
+          ∙ ap (λ (o : Option LibraryName). option_map spelled (unless_standard o)) (sym (usable_name u (forms_of c.forms) h.forms))
 
-      own : IsSourceOf spelled (prepared [] n (record { document = 0; source = library_of known d })) None c
-      own = source_of (library_of known d) c d h read
+      own : IsSourceOf spelled (prepared [] n (record { document = 0; source = u })) None c
+      own = source_of u c d h read
 
-      go : (b : Bool) → has_standard c.name ≡ b → IsReadAt spelled n (library_of known d) name (cond b (record c { name = None }) c) None
+      go : (b : Bool) → has_standard c.name ≡ b → IsReadAt spelled ds n u name (cond b (record c { name = None }) c) None
       go true e = record {
         name = is;
-        spells = λ whole. is ∙ (sym h.name ∙ source_spelled spelled written known n c d h);
+        spells = λ whole. is ∙ (sym h.name ∙ unit_spelled spelled written n c u d proper h);
         bad = ap (λ (f : Flat). option_map told (declared_fault n f None)) (sym h.forms);
         named = by_name true e;
-        span = h.span ∙ library_token known d lib;
-        source = record { kind = own.kind; forms = own.forms; imports = own.imports; exports = own.exports; single = own.single };
+        begins = begins;
+        source = record { kind = own.kind; forms = own.forms; imports = own.imports; exports = own.exports; single = own.single; lost = own.lost };
         read = read;
       }
       go false e = record {
         name = is;
-        spells = λ whole. is ∙ (sym h.name ∙ source_spelled spelled written known n c d h);
+        spells = λ whole. is ∙ (sym h.name ∙ unit_spelled spelled written n c u d proper h);
         bad = ap (λ (f : Flat). option_map told (declared_fault n f None)) (sym h.forms);
         named = by_name false e;
-        span = h.span ∙ library_token known d lib;
+        begins = begins;
         source = own;
         read = read;
       }
 
-  -- a library that has a bad declaration
-  blank_at : (known : Known) (d e : Datum) (c : UnitSource) (span : Span) (name : Option (List ℕ)) → true ≡ is_library d → c.span ≡ first_token d → IsBlankLibrary c → (library_of known d).forms ≡ Err e → span ≡ bytes_of e → name ≡ option_map library_text (library_of known d).name →
-      IsReadAt spelled n (library_of known d) name c (Some (fault.BadDeclaration n span))
-  blank_at known d e c span name lib token blank bad at is =
-      let nothing : forms_or_none (library_of known d).forms ≡ [] = ap forms_or_none bad in
+  -- a unit that has no forms
+  blank_at : (ds : List Datum) (u : source.UnitSource) (e : EarlyFault) (c : UnitSource) (name : Option (List ℕ)) → u.forms ≡ Err e → u.lost ≡ [] → kind_as c.kind ≡ u.kind → IsBlank c → name ≡ option_map library_text u.name → Begins ds u c.span →
+      IsReadAt spelled ds n u name c (Some (told (early_fault n e)))
+  blank_at ds u e c name bad none kind blank is begins =
+      let nothing : forms_or_none u.forms ≡ [] = ap forms_or_none bad in
       record {
         name = is;
-        spells = λ k. (let z : Some (model.BadDeclaration n e) ≡ None = sym (ap (λ (f : Flat). declared_fault n f None) bad) ∙ k in absurd cc);
-        bad = ap (λ (s : Span). Some (fault.BadDeclaration n s)) at ∙ ap (λ (f : Flat). option_map told (declared_fault n f None)) (sym bad);
-        named = blank.name ∙ ap (λ (o : Option LibraryName). option_map spelled (unless_standard o)) (sym (no_name_if (library_of known d) e bad));
-        span = token ∙ library_token known d lib;
+        spells = λ k. (let z : Some (early_fault n e) ≡ None = sym (ap (λ (f : Flat). declared_fault n f None) bad) ∙ k in absurd cc);
+        bad = ap (λ (f : Flat). option_map told (declared_fault n f None)) (sym bad);
+        named = blank.name ∙ ap (λ (o : Option LibraryName). option_map spelled (unless_standard o)) (sym (no_name_if u e bad));
+        begins = begins;
         source = record {
-          kind = ap kind_as blank.kind ∙ sym (library_kind known d (behind_head d));
+          kind = kind;
           forms = nothing ∙ ap forms_of (sym blank.forms);
-          imports = λ k. subst (λ (cs : List code_import.ImportSpec). AllMatch (IsSpec spelled) cs (specs_from n 0 (forms_or_none (library_of known d).forms))) (sym blank.imports)
+          imports = λ k. subst (λ (cs : List code_import.ImportSpec). AllMatch (IsSpec spelled) cs (specs_from n 0 (forms_or_none u.forms))) (sym blank.imports)
               (subst (λ (fs : List UnitForm). AllMatch (IsSpec spelled) [] (specs_from n 0 fs)) (sym nothing) tt);
-          exports = subst (λ (cs : List code_export.ExportSpec). AreExports cs (exports_from n 0 (forms_or_none (library_of known d).forms))) (sym blank.exports)
+          exports = subst (λ (cs : List code_export.ExportSpec). AreExports cs (exports_from n 0 (forms_or_none u.forms))) (sym blank.exports)
               (subst (λ (fs : List UnitForm). AreExports [] (exports_from n 0 fs)) (sym nothing) tt);
-          single = all_from n 0 (forms_or_none (library_of known d).forms);
+          single = all_from n 0 (forms_or_none u.forms);
+          lost = subst (λ (cs : List code_lost.LostString). AreLost cs u.lost) (sym blank.lost) (subst (λ (ls : List LostString). AreLost [] ls) (sym none) (record { all = tt; only = tt }));
         };
         read = subst (λ (fs : List code_form.UnitForm). FormsRead (forms_of fs)) (sym blank.forms) tt;
       }
 
-  -- a program
-  program_at : (ds rest : List Datum) (u : source.UnitSource) (c : UnitSource) (d : Datum) → ds ≡ d ∷ rest → FormsRead (forms_of c.forms) → program_in ds ≡ u ∷ [] → IsSource n c u d → IsReadAt spelled n u None c None
-  program_at ds rest u c d begins read one h =
-      let unnamed : u.name ≡ None = program_name ds u one in
-      record {
-        name = sym (ap (option_map library_text) unnamed);
-        spells = λ whole. sym (ap (option_map spelled) unnamed);
-        bad = ap (λ (f : Flat). option_map told (declared_fault n f None)) (sym h.forms);
-        named = h.name ∙ ap (option_map library_text) unnamed ∙ sym (ap (λ (o : Option LibraryName). option_map spelled (unless_standard o)) (usable_name u (forms_of c.forms) h.forms ∙ unnamed));
-        span = h.span ∙ program_token d rest u (ap program_in (sym begins) ∙ one);
-        source = source_of u c d h read;
-        read = read;
-      }
+pub unit_for : (n : ℕ) (ds : List Datum) (u : source.UnitSource) (c : UnitSource) (d : Datum) (name : Option (List ℕ)) → FormsRead (forms_of c.forms) → IsSource n c u d → IfProper u.name → name ≡ option_map library_text u.name → Begins ds u c.span →
+    IsReadFor ds n u name (without_standard c) None
+unit_for n ds u c d name read h proper is begins spelled written = unit_at spelled written n ds u c d name read h proper is begins
 
-pub library_for : (known : Known) (n : ℕ) (d : Datum) (c : UnitSource) (name : Option (List ℕ)) → true ≡ is_library d → FormsRead (forms_of c.forms) → IsSource n c (library_of known d) d → name ≡ option_map library_text (library_of known d).name → IsReadFor n (library_of known d) name (without_standard c) None
-library_for known n d c name lib read h is spelled written = library_at spelled written n known d c name lib read h is
+-- one that has no name
+pub nameless_for : (n : ℕ) (ds : List Datum) (u : source.UnitSource) (c : UnitSource) (d : Datum) → FormsRead (forms_of c.forms) → IsSource n c u d → u.name ≡ None → Begins ds u c.span → IsReadFor ds n u None c None
+nameless_for n ds u c d read h none begins =
+    let unnamed : c.name ≡ None = h.name ∙ ap (option_map library_text) none in
+    let same : without_standard c ≡ c = ap (λ (o : Option (List ℕ)). cond (has_standard o) (record c { name = None }) c) unnamed in
+    subst (λ (x : UnitSource). IsReadFor ds n u None x None) same (unit_for n ds u c d None read h (subst IfProper (sym none) tt) (sym (ap (option_map library_text) none)) begins)
 
-pub blank_for : (known : Known) (n : ℕ) (d e : Datum) (c : UnitSource) (span : Span) (name : Option (List ℕ)) → true ≡ is_library d → c.span ≡ first_token d → IsBlankLibrary c → (library_of known d).forms ≡ Err e → span ≡ bytes_of e → name ≡ option_map library_text (library_of known d).name →
-    IsReadFor n (library_of known d) name c (Some (fault.BadDeclaration n span))
-blank_for known n d e c span name lib token blank bad at is spelled written = blank_at spelled written n known d e c span name lib token blank bad at is
+pub blank_for : (n : ℕ) (ds : List Datum) (u : source.UnitSource) (e : EarlyFault) (c : UnitSource) (name : Option (List ℕ)) → u.forms ≡ Err e → u.lost ≡ [] → kind_as c.kind ≡ u.kind → IsBlank c → name ≡ option_map library_text u.name → Begins ds u c.span →
+    IsReadFor ds n u name c (Some (told (early_fault n e)))
+blank_for n ds u e c name bad none kind blank is begins spelled written = blank_at spelled written n ds u e c name bad none kind blank is begins
 
-pub program_for : (n : ℕ) (ds rest : List Datum) (u : source.UnitSource) (c : UnitSource) (d : Datum) → ds ≡ d ∷ rest → FormsRead (forms_of c.forms) → program_in ds ≡ u ∷ [] → IsSource n c u d → IsReadFor n u None c None
-program_for n ds rest u c d begins read one h spelled written = program_at spelled written n ds rest u c d begins read one h
+-- ---- why a unit has no forms
+
+pub broken_by : (n : ℕ) (d : Datum) (u : source.UnitSource) (f : LibraryFault) (w : WholeFault) → IsUnitRead n d u (Err f) → IsWholeOf f w → (e : EarlyFault) × (u.forms ≡ Err e) × (w ≡ told (early_fault n e))
+broken_by n d u library.Memory w h k = absurd k
+broken_by n d u (library.BadDeclaration m span) w h k = (BadAt h.0, h.1, k ∙ (λ j. fault.BadDeclaration (h.2 j) (h.3 j)))
+broken_by n d u library.TooManyTokens w h k = (TooManyTokens, h, k)
+broken_by n d u (library.Cycle names) w h k = absurd k
+broken_by n d u library.SameLibrary w h k = absurd k
+broken_by n d u (library.NotDefined s) w h k = absurd k
+broken_by n d u (library.SameExport s) w h k = absurd k
+
+-- what is listed is a unit's kind, name and start; without forms nothing of it is lost
+module _ (kind : UnitKind) (name : Option LibraryName) (start : Place) where
+  pub kind_by : (l : Listing) → (source_by kind name start l).kind ≡ kind
+  kind_by (Lists n fs ls) = refl
+  kind_by (BadAfter n h) = refl
+  kind_by TooLong = refl
+
+  pub name_by : (l : Listing) → (source_by kind name start l).name ≡ name
+  name_by (Lists n fs ls) = refl
+  name_by (BadAfter n h) = refl
+  name_by TooLong = refl
+
+  pub start_by : (l : Listing) → (source_by kind name start l).start ≡ start
+  start_by (Lists n fs ls) = refl
+  start_by (BadAfter n h) = refl
+  start_by TooLong = refl
+
+  pub none_lost : (l : Listing) (e : EarlyFault) → (source_by kind name start l).forms ≡ Err e → (source_by kind name start l).lost ≡ []
+  none_lost (Lists n fs ls) e h = absurd cc
+  none_lost (BadAfter n x) e h = refl
+  none_lost TooLong e h = refl
 
 -- ---- one unit more
 
@@ -210,28 +235,29 @@ program_for n ds rest u c d begins read one h spelled written = program_at spell
 abbrev pub fault_with : ℕ → Option WholeFault → Option WholeFault
 fault_with n bad = cond (nat_le max_units n) (Some fault.TooMany) bad
 
-module _ (spelled : LibraryName → List ℕ) (n : ℕ) (document : ℕ) (u : source.UnitSource) (name : Option (List ℕ)) (c : UnitSource) (bad : Option WholeFault) (is : IsReadAt spelled n u name c bad) where
+module _ (spelled : LibraryName → List ℕ) (n : ℕ) (document : ℕ) (u : source.UnitSource) (name : Option (List ℕ)) (c : UnitSource) (bad : Option WholeFault) (docs : List Document) (is : IsReadAt spelled (data_at docs document) n u name c bad) where
   faults : (b : Bool) → cond b (Some fault.TooMany) bad ≡ option_map told (cond b (Some model.TooMany) (declared_fault n u.forms None))
   faults true = refl
   faults false = is.bad
 
   names : (f : Flat) → u.forms ≡ f → (b : Bool) → nat_le max_units n ≡ b → cond b (Some model.TooMany) (declared_fault n f None) ≡ None → name ≡ option_map spelled (name_if n u)
   names f e true test whole = absurd cc
-  names (Err d) e false test whole = absurd cc
+  names (Err f) e false test whole = absurd cc
   names (Ok fs) e false test whole =
       let lt : n < max_units = grind (arith, nat_tests) in
       is.spells (ap (λ (f : Flat). declared_fault n f None) e) ∙ ap (option_map spelled) (sym (foremost_name n u lt ∙ usable_name u fs e))
 
-  one_of : (h : Head) → h.document ≡ document → h.kind ≡ c.kind → h.name ≡ name → h.span ≡ c.span → h.firsts.items ≡ map (λ f. f.datum.first) c.forms → h.homes.items ≡ map (λ f. unit_or n f.home) c.forms → h.names.items ≡ names_in_forms n 0 (forms_of c.forms) → h.imports ≡ [] → h.fault ≡ fault_with n bad → IsOne spelled n (placed_in document u) h c
-  one_of h doc kind called span firsts homes named imports broken = record {
+  one_of : (h : Head) → h.document ≡ document → h.kind ≡ c.kind → h.name ≡ name → h.span ≡ c.span → h.firsts.items ≡ map (λ f. f.datum.first) c.forms → h.homes.items ≡ map (λ f. unit_or n f.home) c.forms → h.names.items ≡ names_in_forms n 0 (forms_of c.forms) → h.imports ≡ [] → h.fault ≡ fault_with n bad → h.ranges.items ≡ ranges_from n 0 (forms_of c.forms) → IsOne docs spelled n (placed_in document u) h c
+  one_of h doc kind called span firsts homes named imports broken ranges = record {
     told = record {
       document = doc;
       kind = ap kind_as kind ∙ is.source.kind;
       name = called ∙ is.name;
-      span = span ∙ is.span;
+      begins = subst (λ (x : Span). Begins (data_at docs document) u x) (sym span) is.begins;
       firsts = firsts ∙ (firsts_seen c.forms ∙ ap (λ (fs : List UnitForm). map (λ (f : UnitForm). (place_of f.datum).first) fs) (sym is.source.forms));
       homes = homes ∙ (homes_seen n c.forms ∙ ap (λ (fs : List UnitForm). map (λ (f : UnitForm). unit_or n f.home) fs) (sym is.source.forms));
       names = named ∙ ap (λ (fs : List UnitForm). names_in_forms n 0 fs) (sym is.source.forms);
+      ranges = ranges ∙ ap (λ (fs : List UnitForm). ranges_from n 0 fs) (sym is.source.forms);
     };
     listed = record {
       fault = broken ∙ faults (nat_le max_units n);
@@ -259,23 +285,23 @@ module _ {A : Type 0} (xs : List A) (x : A) (m n : ℕ) (y : A) (many : length x
       go (inl h) = let low = slice_get_within xs n y h in absurd (omega (arith, low, e, many))
       go (inr h) = h.1
 
-module _ (spelled : LibraryName → List ℕ) (all : List Placed) (old new : Units) (p : Placed) (h : Head) (c : UnitSource) (far : AreSoFar spelled all old)
-    (heads : new.heads.items ≡ old.heads.items ++ h ∷ []) (sources : new.sources.items ≡ old.sources.items ++ c ∷ []) (one : IsOne spelled (length all) p h c) where
-  each_more : (n : ℕ) (q : Placed) (g : Head) (d : UnitSource) → slice_get (all ++ p ∷ []) n ≡ Some q → slice_get (old.heads.items ++ h ∷ []) n ≡ Some g → slice_get (old.sources.items ++ c ∷ []) n ≡ Some d → IsOne spelled n q g d
+module _ (docs : List Document) (spelled : LibraryName → List ℕ) (all : List Placed) (old new : Units) (p : Placed) (h : Head) (c : UnitSource) (far : AreSoFar docs spelled all old)
+    (heads : new.heads.items ≡ old.heads.items ++ h ∷ []) (sources : new.sources.items ≡ old.sources.items ++ c ∷ []) (one : IsOne docs spelled (length all) p h c) where
+  each_more : (n : ℕ) (q : Placed) (g : Head) (d : UnitSource) → slice_get (all ++ p ∷ []) n ≡ Some q → slice_get (old.heads.items ++ h ∷ []) n ≡ Some g → slice_get (old.sources.items ++ c ∷ []) n ≡ Some d → IsOne docs spelled n q g d
   each_more n q g d there head at = go (push_cases all p n q there)
     where
-      go : (slice_get all n ≡ Some q) ⊎ ((n ≡ length all) × (q ≡ p)) → IsOne spelled n q g d
+      go : (slice_get all n ≡ Some q) ⊎ ((n ≡ length all) × (q ≡ p)) → IsOne docs spelled n q g d
       go (inl k) =
           let lt : n < length all = slice_get_within all n q k in
           far.each n q g d k (is_old old.heads.items h (length all) n g far.heads lt head) (is_old old.sources.items c (length all) n d far.sources lt at)
       go (inr k) =
           let g_is : g ≡ h = is_last old.heads.items h (length all) n g far.heads k.0 head in
           let d_is : d ≡ c = is_last old.sources.items c (length all) n d far.sources k.0 at in
-          subst (λ (m : ℕ). IsOne spelled m q g d) (sym k.0)
-          (subst (λ (r : Placed). IsOne spelled (length all) r g d) (sym k.1)
-          (subst (λ (f : Head). IsOne spelled (length all) p f d) (sym g_is) (subst (λ (e : UnitSource). IsOne spelled (length all) p h e) (sym d_is) one)))
+          subst (λ (m : ℕ). IsOne docs spelled m q g d) (sym k.0)
+          (subst (λ (r : Placed). IsOne docs spelled (length all) r g d) (sym k.1)
+          (subst (λ (f : Head). IsOne docs spelled (length all) p f d) (sym g_is) (subst (λ (e : UnitSource). IsOne docs spelled (length all) p h e) (sym d_is) one)))
 
-  more_so_far : AreSoFar spelled (all ++ p ∷ []) new
+  more_so_far : AreSoFar docs spelled (all ++ p ∷ []) new
   more_so_far = record {
     heads = ap (λ (hs : List Head). length hs) heads ∙ length_push old.heads.items h ∙ ap (λ (n : ℕ). n + 1) far.heads ∙ sym (length_push all p);
     sources = ap (λ (cs : List UnitSource). length cs) sources ∙ length_push old.sources.items c ∙ ap (λ (n : ℕ). n + 1) far.sources ∙ sym (length_push all p);
@@ -283,33 +309,33 @@ module _ (spelled : LibraryName → List ℕ) (all : List Placed) (old new : Uni
   }
 
 -- a unit was added with its head
-pub unit_added : (document : ℕ) (u : source.UnitSource) (old new : Units) (h : Head) (c : UnitSource) (name : Option (List ℕ)) (bad : Option WholeFault) → IsReadFor (length old.sources.items) u name c bad →
+pub unit_added : (docs : List Document) (document : ℕ) (u : source.UnitSource) (old new : Units) (h : Head) (c : UnitSource) (name : Option (List ℕ)) (bad : Option WholeFault) → IsReadFor (data_at docs document) (length old.sources.items) u name c bad →
     h.document ≡ document → h.kind ≡ c.kind → h.name ≡ name → h.span ≡ c.span → h.firsts.items ≡ map (λ f. f.datum.first) c.forms → h.homes.items ≡ map (λ f. unit_or (length old.sources.items) f.home) c.forms →
-    h.names.items ≡ names_in_forms (length old.sources.items) 0 (forms_of c.forms) → h.imports ≡ [] → h.fault ≡ fault_with (length old.sources.items) bad →
-    new.heads.items ≡ old.heads.items ++ h ∷ [] → new.sources.items ≡ old.sources.items ++ c ∷ [] → AddsRead document (u ∷ []) old new
-unit_added document u old new h c name bad read doc kind called span firsts homes named imports broken heads sources spelled written all far =
-    more_so_far spelled all old new (placed_in document u) h c far heads sources
-    (subst (λ (n : ℕ). IsOne spelled n (placed_in document u) h c) far.sources
-    (one_of spelled (length old.sources.items) document u name c bad (read spelled written) h doc kind called span firsts homes named imports broken))
+    h.names.items ≡ names_in_forms (length old.sources.items) 0 (forms_of c.forms) → h.imports ≡ [] → h.fault ≡ fault_with (length old.sources.items) bad → h.ranges.items ≡ ranges_from (length old.sources.items) 0 (forms_of c.forms) →
+    new.heads.items ≡ old.heads.items ++ h ∷ [] → new.sources.items ≡ old.sources.items ++ c ∷ [] → AddsRead docs document (u ∷ []) old new
+unit_added docs document u old new h c name bad read doc kind called span firsts homes named imports broken ranges heads sources spelled written all far =
+    more_so_far docs spelled all old new (placed_in document u) h c far heads sources
+    (subst (λ (n : ℕ). IsOne docs spelled n (placed_in document u) h c) far.sources
+    (one_of spelled (length old.sources.items) document u name c bad docs (read spelled written) h doc kind called span firsts homes named imports broken ranges))
 
 -- ---- units of a document
 
-pub nothing_added : (document : ℕ) (u : Units) → AddsRead document [] u u
-nothing_added document u spelled written all far = subst (λ (ps : List Placed). AreSoFar spelled ps u) (sym (append-nil all)) far
+pub nothing_added : (docs : List Document) (document : ℕ) (u : Units) → AddsRead docs document [] u u
+nothing_added docs document u spelled written all far = subst (λ (ps : List Placed). AreSoFar docs spelled ps u) (sym (append-nil all)) far
 
-pub added_more : (document : ℕ) (us vs : List source.UnitSource) (old mid new : Units) → AddsRead document us old mid → AddsRead document vs mid new → AddsRead document (us ++ vs) old new
-added_more document us vs old mid new first next spelled written all far =
-    subst (λ (ps : List Placed). AreSoFar spelled ps new) (append_assoc all (map (placed_in document) us) (map (placed_in document) vs) ∙ ap (λ (ps : List Placed). all ++ ps) (sym (map-append (placed_in document) us vs)))
+pub added_more : (docs : List Document) (document : ℕ) (us vs : List source.UnitSource) (old mid new : Units) → AddsRead docs document us old mid → AddsRead docs document vs mid new → AddsRead docs document (us ++ vs) old new
+added_more docs document us vs old mid new first next spelled written all far =
+    subst (λ (ps : List Placed). AreSoFar docs spelled ps new) (append_assoc all (map (placed_in document) us) (map (placed_in document) vs) ∙ ap (λ (ps : List Placed). all ++ ps) (sym (map-append (placed_in document) us vs)))
     (next spelled written (all ++ map (placed_in document) us) (first spelled written all far))
 
 -- ---- all units
 
-module _ (spelled : LibraryName → List ℕ) (all : List Placed) (u : Units) (far : AreSoFar spelled all u) where
+module _ (docs : List Document) (spelled : LibraryName → List ℕ) (all : List Placed) (u : Units) (far : AreSoFar docs spelled all u) where
   head_at : (n : ℕ) (p : Placed) → slice_get all n ≡ Some p → (h : Head) × (slice_get u.heads.items n ≡ Some h)
-  head_at n p there = get_within u.heads.items n (let lt = slice_get_within all n p there in let many = far.heads in omega arith)
+  head_at n p there = get_within u.heads.items n (let lt = slice_get_within (units_of docs) n p there in let many = far.heads in omega arith)
 
   source_at : (n : ℕ) (p : Placed) → slice_get all n ≡ Some p → (c : UnitSource) × (slice_get u.sources.items n ≡ Some c)
-  source_at n p there = get_within u.sources.items n (let lt = slice_get_within all n p there in let many = far.sources in omega arith)
+  source_at n p there = get_within u.sources.items n (let lt = slice_get_within (units_of docs) n p there in let many = far.sources in omega arith)
 
   unit_of : (n : ℕ) (p : Placed) (c : UnitSource) → n < max_units → slice_get all n ≡ Some p → slice_get u.sources.items n ≡ Some c → IsUnit spelled n c p.source
   unit_of n p c lt there at =
@@ -336,15 +362,15 @@ units_up spelled (suc m) n (c ∷ cs) (p ∷ ps) many each = (
     moved : (k : ℕ) → n + suc k ≡ suc n + k
     moved k = omega arith
 
-pub all_listed : (spelled : LibraryName → List ℕ) (all : List Placed) (u : Units) → AreSoFar spelled all u → AreUnitsListed spelled all u
-all_listed spelled all u far = record {
-  units = units_up spelled max_units 0 u.sources.items all far.sources (λ k c p lt at there. subst (λ (i : ℕ). IsUnit spelled i c p.source) (from_zero k) (unit_of spelled all u far k p c lt there at));
+pub all_listed : (spelled : LibraryName → List ℕ) (docs : List Document) (u : Units) → AreSoFar docs spelled (units_of docs) u → AreUnitsListed spelled docs u
+all_listed spelled docs u far = record {
+  units = units_up spelled max_units 0 u.sources.items (units_of docs) far.sources (λ k c p lt at there. subst (λ (i : ℕ). IsUnit spelled i c p.source) (from_zero k) (unit_of docs spelled (units_of docs) u far k p c lt there at));
   listed = record {
     count = far.heads;
-    each = λ n p h there at. (let c = source_at spelled all u far n p there in (far.each n p h c.0 there at c.1).listed);
+    each = λ n p h there at. (let c = source_at docs spelled (units_of docs) u far n p there in (far.each n p h c.0 there at c.1).listed);
   };
-  read = λ n p c there at. (let h = head_at spelled all u far n p there in source_in spelled n c [] all p p refl (far.each n p h.0 c there h.1 at).source);
-  told = λ n p h there at. (let c = source_at spelled all u far n p there in (far.each n p h c.0 there at c.1).told);
+  read = λ n p c there at. (let h = head_at docs spelled (units_of docs) u far n p there in source_in spelled n c [] (units_of docs) p p refl (far.each n p h.0 c there h.1 at).source);
+  told = λ n p h there at. (let c = source_at docs spelled (units_of docs) u far n p there in (far.each n p h c.0 there at c.1).told);
   forms = λ n c at. forms_at n c at;
 }
   where
@@ -355,6 +381,6 @@ all_listed spelled all u far = record {
     forms_at n c at =
         let lt = slice_get_within u.sources.items n c at in
         let many = far.sources in
-        let p = get_within all n (omega arith) in
-        let h = head_at spelled all u far n p.0 p.1 in
+        let p = get_within (units_of docs) n (omega arith) in
+        let h = head_at docs spelled (units_of docs) u far n p.0 p.1 in
         (far.each n p.0 h.0 c p.1 h.1 at).read

@@ -5,7 +5,8 @@ use Rattle.std.proofs.lemmas.Bool.{eqb-true, or_cases, ltb-true}
 use Rattle.std.proofs.lemmas.Option.{same_Some}
 use Rattle.scheme_model.specs.Requirements.{LibraryName}
 use Rattle.scheme_model.specs.Entries.{library_in}
-use Rattle.scheme_model.specs.Program.{Placed, ImportSpec, Prepared, prepared, prepare, imports_at, imported_units, imported_as, unless_standard, is_named, unit_named, is_in, specs_from, forms_or_none}
+use Rattle.scheme_model.specs.IncludedUnits.{Placed}
+use Rattle.scheme_model.specs.Program.{ImportSpec, Prepared, prepared, prepare, imports_at, imported_units, imported_as, unless_standard, is_named, unit_named, is_in, specs_from, forms_or_none}
 
 one_more : (k i : ℕ) → suc k + i ≡ k + suc i
 one_more k i = omega arith

@@ -219,3 +219,22 @@ read_rises d w =
     let all = (parts_rise ps 0 [] begin).all none tt in
     let among : IsAmong d (row (parts_meant ps) none) = subst (λ (q : List Datum). IsAmong d (row q none)) w.reading.means w.among in
     among_rises d 0 (row (parts_meant ps) none) among all
+
+mutual
+  in_behind : (d e : Datum) → IsIn d e → Inner e → (place_of e).first ≤ (place_of d).first
+  in_behind d (atom p a) h q = let same = ap (λ (x : Datum). (place_of x).first) h in omega (arith, same)
+  in_behind d (list p ds) (inl h) q = let same = ap (λ (x : Datum). (place_of x).first) h in omega (arith, same)
+  in_behind d (list p ds) (inr h) q = among_behind d p.first ds h q
+  in_behind d (vector p ds) (inl h) q = let same = ap (λ (x : Datum). (place_of x).first) h in omega (arith, same)
+  in_behind d (vector p ds) (inr h) q = among_behind d p.first ds h q
+  in_behind d (bytes p texts) h q = let same = ap (λ (x : Datum). (place_of x).first) h in omega (arith, same)
+
+  among_behind : (d : Datum) (low : ℕ) (ds : Data) → IsAmong d ds → Rise low ds → low ≤ (place_of d).first
+  among_behind d low none h q = absurd h
+  among_behind d low (part e ds) (inl h) q = omega (arith, q.0, in_behind d e h q.1.0)
+  among_behind d low (part e ds) (inr h) q = omega (arith, q.0, among_behind d (suc (place_of e).first) ds h q.1.1.1)
+  among_behind d low (tail e) h q = omega (arith, q.0, in_behind d e h q.1)
+
+-- a part of what was read begins no earlier
+pub part_behind : (d e : Datum) → IsIn d e → WasRead e → (place_of e).first ≤ (place_of d).first
+part_behind d e h w = in_behind d e h (read_rises e w)

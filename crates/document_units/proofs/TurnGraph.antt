@@ -7,8 +7,8 @@ use Rattle.std.proofs.lemmas.Option.{same_Some, slice_get_within}
 use Rattle.std.proofs.lemmas.List.{length-map}
 use Rattle.scheme_model.specs.Requirements.{LibraryName}
 use Rattle.scheme_model.specs.Declarations.{UnitForm}
-use Rattle.scheme_model.specs.Data.{Datum}
-use Rattle.scheme_model.specs.Program.{Placed, Prepared, prepared, prepare, imports_at, unit_named, is_in, reached, on_circle, WholeFault, TooMany, DefinedTwice, ImportCycle, declared_fault, fault_before, first_ready}
+use Rattle.scheme_model.specs.IncludedUnits.{EarlyFault, Placed}
+use Rattle.scheme_model.specs.Program.{Prepared, prepared, prepare, imports_at, unit_named, is_in, reached, on_circle, WholeFault, TooMany, DefinedTwice, ImportCycle, declared_fault, fault_before, first_ready}
 use Rattle.import_sets.specs.InTurn.{is_open, and_then, in_turn, ComesAfter}
 use Rattle.import_sets.specs.Graphs.{AreNumbered, is_circular}
 use Rattle.import_sets.proofs.ReachLaws.{IsWithin, reached_closed, reached_start, reached_within}
@@ -139,7 +139,7 @@ waiting_within all n m h = low_waits all m (row_low all n m (waits_for_fewer all
 unbroken : (all : List Placed) (ps : List Prepared) (p : Prepared) → fault_before all ps p ≡ None → on_circle ps p ≡ false
 unbroken all ps p h = go _ p.placed.source.forms _ (on_circle ps p) h
   where
-    go : (a : Bool) (fs : Result (List UnitForm) Datum) (r c : Bool) → cond a (Some TooMany) (declared_fault p.number fs (cond r (Some DefinedTwice) (cond c (Some ImportCycle) None))) ≡ None → c ≡ false
+    go : (a : Bool) (fs : Result (List UnitForm) EarlyFault) (r c : Bool) → cond a (Some TooMany) (declared_fault p.number fs (cond r (Some DefinedTwice) (cond c (Some ImportCycle) None))) ≡ None → c ≡ false
     go true fs r c e = absurd cc
     go false (Err d) r c e = absurd cc
     go false (Ok fs) true c e = absurd cc

@@ -8,8 +8,8 @@ use Rattle.document_units.specs.declared.documents.Unread.{Unread}
 use Rattle.document_units.specs.Readings.{Read, Reads, Stops, IsReadAs, AreReadAs, IsReadSo, IsUnread, IsDocument, AreDocuments, first_unread}
 
 abbrev stops : Read → Bool
-stops (Reads ds spans) = false
-stops (Stops f) = true
+stops (Reads u ds spans) = false
+stops (Stops u f) = true
 
 unread : (u : Option Unread) (f : Stop) → IsUnread u f → is_some u ≡ true
 unread None f h = absurd h
@@ -17,26 +17,26 @@ unread (Some u) f h = refl
 
 -- the fault tells whether the document stops
 fault_tells : (c : code.Document) (r : Read) → IsReadSo c r → is_some c.fault ≡ stops r
-fault_tells c (Reads ds spans) so = ap is_some so.2
-fault_tells c (Stops f) so = unread c.fault f so.2
+fault_tells c (Reads u ds spans) so = ap is_some so.2
+fault_tells c (Stops u f) so = unread c.fault f so.2
 
 -- and so does each other reading
 same_kind : (text : List ℕ) (r q : Read) → IsReadAs text r → IsReadAs text q → stops r ≡ stops q
-same_kind text (Reads ds spans) (Reads es ss) h k = refl
-same_kind text (Stops f) (Stops g) h k = refl
-same_kind text (Reads ds spans) (Stops g) h k = absurd (never_reads_and_stops (chars text) ds g h.3 k)
-same_kind text (Stops f) (Reads es ss) h k = absurd (never_reads_and_stops (chars text) es f k.3 h)
+same_kind text (Reads u ds spans) (Reads v es ss) h k = refl
+same_kind text (Stops u f) (Stops v g) h k = refl
+same_kind text (Reads u ds spans) (Stops v g) h k = absurd (never_reads_and_stops (chars text) ds g h.3 k)
+same_kind text (Stops u f) (Reads v es ss) h k = absurd (never_reads_and_stops (chars text) es f k.3 h)
 
 tells : (d : List ℕ × Document) (c : code.Document) (r : Read) → IsDocument d c → IsReadAs d.1.1 r → is_some c.fault ≡ stops r
 tells d c r is rd = fault_tells c is.read is.so ∙ same_kind d.1.1 is.read r is.is_read rd
 
 reads_on : (d : List ℕ × Document) (ds : List (List ℕ × Document)) (r : Read) (rs : List Read) → stops r ≡ false → first_unread (d ∷ ds) (r ∷ rs) ≡ first_unread ds rs
-reads_on d ds (Reads es spans) rs h = refl
-reads_on d ds (Stops f) rs h = cc
+reads_on d ds (Reads u es spans) rs h = refl
+reads_on d ds (Stops u f) rs h = cc
 
 stops_here : (d : List ℕ × Document) (ds : List (List ℕ × Document)) (r : Read) (rs : List Read) → stops r ≡ true → first_unread (d ∷ ds) (r ∷ rs) ≡ Some d.0
-stops_here d ds (Reads es spans) rs h = cc
-stops_here d ds (Stops f) rs h = refl
+stops_here d ds (Reads u es spans) rs h = cc
+stops_here d ds (Stops u f) rs h = refl
 
 pub goes_on : (ds : List (List ℕ × Document)) (cs : List code.Document) (rs : List Read) (k : ℕ) (c : code.Document) → AreDocuments ds cs → AreReadAs ds rs → slice_get cs k ≡ Some c → is_some c.fault ≡ false →
     first_unread (drop k ds) (drop k rs) ≡ first_unread (drop (suc k) ds) (drop (suc k) rs)

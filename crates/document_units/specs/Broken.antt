@@ -2,9 +2,11 @@
 use Rattle.std.specs.Prelude.{◌≡◌, ◌⊎◌, ℕ, nat_le, List, [], length, slice_get, Bool, false, Option, Some, None, if◌then◌else◌}
 use Rattle.std.specs.Option.{is_some, option_map}
 use Rattle.scheme_model.specs.Requirements.{LibraryName}
-use Rattle.scheme_model.specs.Declarations as source
+use Rattle.scheme_model.specs.IncludedUnits as included
 use Rattle.scheme_model.specs.Program as model
-use Rattle.scheme_model.specs.Program.{Placed, prepared, prepare, is_in, name_if, max_units, declared_fault, fault_before}
+use Rattle.scheme_model.specs.Includes.{max_units}
+use Rattle.scheme_model.specs.IncludedUnits.{Placed}
+use Rattle.scheme_model.specs.Program.{prepared, prepare, is_in, name_if, declared_fault, fault_before}
 use Rattle.datum_reader.specs.Looks.{bytes_of}
 use Rattle.core_tree.specs.Units.{imports_of}
 use Rattle.base_library.specs.Texts.{names_of}
@@ -52,7 +54,7 @@ BreaksStandard old new = Changes (λ n h g. g ≡ broken_if (has_standard h.name
 -- ---- units as they are listed, and as they are judged
 
 -- what breaks a unit whatever the others are
-abbrev pub fault_alone : ℕ → source.UnitSource → Option model.WholeFault
+abbrev pub fault_alone : ℕ → included.UnitSource → Option model.WholeFault
 fault_alone n u = if nat_le max_units n then Some model.TooMany else declared_fault n u.forms None
 
 -- a unit is broken by itself, or has its library's name; nothing is known yet of what it imports

@@ -40,8 +40,8 @@ abbrev pub of_stop : ℕ → Stop → Diagnostic
 of_stop place f = record { document = place; start = f.start; end = f.end; code = f.number; text = worded f.number [] }
 
 abbrev pub found_in : List Diagnostic → ℕ → Read → List Diagnostic
-found_in all place (Reads ds spans) = in_document place all
-found_in all place (Stops f) = of_stop place f ∷ []
+found_in all place (Reads uri ds spans) = in_document place all
+found_in all place (Stops uri f) = of_stop place f ∷ []
 
 -- the diagnostics of a document that is read so, among others
 abbrev pub found_of : List Read → ℕ → Read → List Diagnostic

@@ -12,6 +12,7 @@ use Rattle.document_units.specs.declared.findings.Finding.{Finding}
 use Rattle.document_units.specs.declared.listing.Head.{Head}
 use Rattle.document_units.specs.declared.places.Places as code
 use Rattle.document_units.specs.Changed.{Changes}
+use Rattle.document_units.specs.UnitsListed.{ranges_from}
 use Rattle.document_units.specs.declared.documents.Document.{Document}
 
 abbrev pub bytes_at : code_at.At → Bytes
@@ -36,6 +37,7 @@ pub record SameHead (h g : Head) : Type 0 where
   pub firsts : g.firsts ≡ h.firsts
   pub homes : g.homes ≡ h.homes
   pub names : g.names ≡ h.names
+  pub ranges : g.ranges ≡ h.ranges
 
 abbrev pub HeadsStay : List Head → List Head → Type 0
 HeadsStay old new = Changes (λ n. SameHead) old new
@@ -82,6 +84,7 @@ pub record IsHead (rs : List Read) (place : ℕ) (h : Head) (r : UnitResult) : T
   pub firsts : h.firsts.items ≡ map (λ f. (place_of f.datum).first) r.unit.forms
   pub homes : h.homes.items ≡ map (λ f. unit_or place f.home) r.unit.forms
   pub names : h.names.items ≡ names_in_forms r.unit.number 0 r.unit.forms
+  pub ranges : h.ranges.items ≡ ranges_from place 0 r.unit.forms
 
 abbrev pub AreHeads : List Read → ℕ → List Head → List UnitResult → Type 0
 AreHeads rs n [] [] = Unit {0}

@@ -2,7 +2,9 @@
 use Rattle.std.specs.Prelude.{ℕ, List, [], map, take, drop, length, slice_get, Option, Some, None}
 use Rattle.std.specs.List.{fold}
 use Rattle.scheme_model.specs.Requirements.{Known}
-use Rattle.scheme_model.specs.Program.{Placed, Prepared, prepare, WholeFault, TooMany, max_units, fault_before, UnitResult, broken_result, Progress, worked, progress_before}
+use Rattle.scheme_model.specs.Includes.{max_units}
+use Rattle.scheme_model.specs.IncludedUnits.{Placed}
+use Rattle.scheme_model.specs.Program.{Prepared, prepare, WholeFault, TooMany, fault_before, UnitResult, broken_result, Progress, worked, progress_before}
 use Rattle.scheme_model.specs.ScopedProgram.{ScopedProgress, scoped_worked, scoped_before}
 use Rattle.import_sets.specs.InTurn.{in_turn}
 

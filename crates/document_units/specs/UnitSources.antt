@@ -1,14 +1,15 @@
 -- The sources of units, as the code has them (R7RS 5.1, 5.2, 5.6.1).
 use Rattle.std.specs.Prelude.{◌≡◌, ℕ, List, [], ◌∷◌, false, slice_get, Option, Some, None}
 use Rattle.scheme_model.specs.Requirements.{LibraryName}
-use Rattle.scheme_model.specs.Program.{ImportSpec, ExportSpec, Placed, Prepared, prepared, prepare, WholeFault, fault_before}
+use Rattle.scheme_model.specs.IncludedUnits.{Placed}
+use Rattle.scheme_model.specs.Program.{ImportSpec, ExportSpec, Prepared, prepared, prepare, WholeFault, fault_before}
 use Rattle.datum_reader.specs.Looks.{bytes_of}
 use Rattle.import_sets.specs.Sets.{IsSetOf}
 use Rattle.library_table.specs.declared.units.ImportSpec as code_import
 use Rattle.core_tree.specs.Names.{AllMatch}
 use Rattle.core_tree.specs.Units.{kind_as}
 use Rattle.library_table.specs.Sources.{AreExports}
-use Rattle.library_table.specs.UnitsRead.{forms_of}
+use Rattle.library_table.specs.UnitsRead.{forms_of, AreLost}
 use Rattle.library_table.specs.declared.units.UnitSource.{UnitSource}
 
 -- an import set, with its unit and the bytes of the set and of its library's name
@@ -30,6 +31,7 @@ pub record IsSourceOf (spelled : LibraryName → List ℕ) (p : Prepared) (broke
   pub imports : broken ≡ None → AllMatch (IsSpec spelled) c.imports p.specs
   pub exports : AreExports c.exports p.exports
   pub single : HaveOneIfSame p.exports
+  pub lost : AreLost c.lost p.placed.source.lost
 
 -- each unit has one
 abbrev pub AreSourcesOf : (LibraryName → List ℕ) → List Placed → List UnitSource → Type 0

@@ -3,7 +3,9 @@ ghost use Rattle.std.specs.Prelude.{◌≡◌, ◌<◌, ◌≤◌, ◌++◌, ℕ
 ghost use Rattle.std.specs.Option.{option_map, option_to_list};
 ghost use Rattle.std.specs.BTreeMap.{get_by_text};
 ghost use Rattle.scheme_model.specs.Requirements.{LibraryName};
-ghost use Rattle.scheme_model.specs.Program.{Placed, Prepared, is_in, max_units, on_circle};
+ghost use Rattle.scheme_model.specs.Includes.{max_units};
+ghost use Rattle.scheme_model.specs.IncludedUnits.{Placed};
+ghost use Rattle.scheme_model.specs.Program.{Prepared, is_in, on_circle};
 ghost use Rattle.base_library.specs.Texts.{SpellsStandard};
 ghost use Rattle.library_table.specs.Named.{place_named, imported_places};
 ghost use Rattle.library_table.specs.Orders.{with_imports, AreInTurn, ArePlaces};

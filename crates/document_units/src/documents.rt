@@ -8,7 +8,7 @@ ghost use Rattle.scheme_model.specs.Kinds.{Token as ModelToken};
 ghost use Rattle.datum_reader.specs.Texts.{TextReads, IsReading, StopsAt, Explains};
 ghost use Rattle.datum_reader.specs.Views.{data_of};
 ghost use Rattle.document_store.specs.Texts.{Document as Entry};
-ghost use Rattle.document_units.specs.Readings.{Read, span_of, stop_of, span_seen, first_unread, AreReadAs, IsReadAs, IsToldSo, IsDocument, AreDocuments, AddsDocument};
+ghost use Rattle.document_units.specs.Readings.{Read, uri_of, span_of, stop_of, span_seen, first_unread, AreReadAs, IsReadAs, IsToldSo, IsDocument, AreDocuments, AddsDocument};
 ghost use Rattle.document_units.specs.Stored.{opened as seen};
 ghost use Rattle.document_units.specs.DataRead.{AreReadIn, DataWereRead};
 
@@ -87,7 +87,7 @@ fn document_of(
     fault: Option<Unread>,
 ) -> Mem<Document>
     requires { length opened.text.now ≤ max_text }
-    ensures document { (read : Read) → IsReadAs opened.entry.text.now read → IsToldSo items spans.items fault read → IfOk result (IsDocument (seen opened.entry)) }
+    ensures document { (read : Read) → IsReadAs opened.entry.text.now read → uri_of read ≡ opened.entry.uri.now → IsToldSo items spans.items fault read → IfOk result (IsDocument (seen opened.entry)) }
     ensures read { DataWereRead items → IfOk result (λ document. DataWereRead document.items) }
 {
     let Opened { uri, version, text } = opened;

@@ -3,7 +3,7 @@ ghost use Rattle.std.specs.Prelude.{◌≡◌, ◌++◌, ◌∷◌, [], List, Op
 ghost use Rattle.std.specs.Option.{option_map, option_to_list};
 ghost use Rattle.scheme_model.specs.Data.{row};
 ghost use Rattle.scheme_model.specs.Declarations.{library_names};
-ghost use Rattle.scheme_model.specs.Program.{Document as ModelDocument};
+ghost use Rattle.scheme_model.specs.Includes.{Document as ModelDocument};
 ghost use Rattle.scheme_model.specs.StandardLibraries.{standard_libraries};
 ghost use Rattle.base_library.specs.Texts.{name_text};
 ghost use Rattle.datum_reader.specs.Views.{datum_of, data_of};

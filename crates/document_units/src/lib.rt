@@ -7,6 +7,7 @@ pub mod documents;
 pub mod findings;
 pub mod form_numbers;
 mod identifiers;
+pub mod included;
 pub mod known;
 pub mod listing;
 pub mod opened;

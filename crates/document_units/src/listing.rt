@@ -1,27 +1,29 @@
 //! The units of the documents, in their order (R7RS 5.1, 5.6): the libraries of a document, and then its program.
-ghost use Rattle.std.specs.Prelude.{◌≡◌, ℕ, ◌+◌, ◌<◌, ◌^◌, [], ◌∷◌, List, filter, not, length, map, nat_le, if◌then◌else◌, Some, vec_len, IfOk, OnOk};
-ghost use Rattle.scheme_model.specs.Declarations.{UnitSource as Source, unit_or, is_library, libraries_in, program_in};
-ghost use Rattle.scheme_model.specs.Program.{Document as ModelDocument, known_in, max_units, units_of};
-ghost use Rattle.scheme_model.specs.Requirements.{Known, LibraryName};
-ghost use Rattle.datum_reader.specs.FirstTokens.{first_token};
+ghost use Rattle.std.specs.Prelude.{◌≡◌, ℕ, ◌+◌, ◌<◌, ◌^◌, [], ◌∷◌, List, true, false, length, map, nat_le, if◌then◌else◌, Some, IfOk, OnOk};
+ghost use Rattle.scheme_model.specs.Declarations.{unit_or, is_library};
+ghost use Rattle.scheme_model.specs.Included.{Sources, all_texts};
+ghost use Rattle.scheme_model.specs.IncludedUnits.{UnitSource as Source, unless_circular, library_of, libraries_in, program_in, units_with};
+ghost use Rattle.scheme_model.specs.Includes.{Document as ModelDocument, naming, program_data, max_units};
+ghost use Rattle.scheme_model.specs.Program.{known_in};
+ghost use Rattle.scheme_model.specs.Requirements.{LibraryName};
 ghost use Rattle.datum_reader.specs.Views.{datum_of, data_of};
 ghost use Rattle.datum_reader.specs.WellFormed.{WasRead};
-ghost use Rattle.library_table.specs.PartsRead.{Knows};
+ghost use Rattle.known_libraries.specs.PartsRead.{Knows};
 ghost use Rattle.library_table.specs.UnitsRead.{forms_of};
 ghost use Rattle.document_units.specs.Sound.{IsSound};
-ghost use Rattle.document_units.specs.DataRead.{AreReadIn, DataWereRead, HaveData};
-ghost use Rattle.document_units.specs.UnitsListed.{AddsRead, AreUnitsListed, IsBlankLibrary, IsReadFor, WritesProper, without_standard};
+ghost use Rattle.document_units.specs.DataRead.{AreOpened, AreReadIn, DataWereRead, data_at};
+ghost use Rattle.document_units.specs.Listing.{IsReader, IsAt, AreAt, CanRead, CanReadIn, CanReadAll, IsOneOf, BeginsWith, IsWholeOf};
+ghost use Rattle.document_units.specs.UnitsListed.{AddsRead, AreSoFar, AreUnitsListed, IsBlank, IsReadFor, WritesProper, ranges_from, without_standard};
 ghost use Rattle.document_units.specs.WereRead.{WereRead};
 ghost use Rattle.document_units.specs.declared.listing.WholeFault.TheVariants as fault;
 
 use crate::documents::Document;
 use crate::identifiers::names_of;
+use crate::included::{Reader, place_of, reader_of, texts_of, uris_of, views_of};
 use crate::known::{has_standard_name, library_name};
 use core_tree::units::TokenRange;
 use datum_reader::Datum;
 use datum_reader::heads::{first_token, is_headed};
-use included_documents::Uris;
-use included_forms::{Documents, Table, Text as IncludedText};
 use known_libraries::KnownLibraries;
 use library_table::{
     LibraryFault, UnitForm, UnitSource, first_of_program, read_part, read_program, read_unit,
@@ -31,10 +33,7 @@ use ls_base::{Items, Mem, Memory, Span, Text};
 use scheme_model::{Home, Occ};
 use std::alloc::Global;
 use syntax_tree::units::UnitKind;
-use text_parts::{TextPart, TextParts, TextRead, text_parts};
-
-/// The most tokens that the forms of a unit have.
-const MAX_TOKENS: u32 = 1_048_576;
+use text_parts::{TextPart, text_parts};
 
 /// Why a unit is broken as a whole.
 #[derive(Clone, Copy, Debug, PartialEq, Eq)]
@@ -71,128 +70,67 @@ pub struct Units {
     pub sources: Vec<UnitSource>,
 }
 
-/// What units are read by: the documents, the texts among them that can be included, and which documents are parts or on circles.
-#[derive(Drop)]
-struct Reader<'a> {
-    documents: Documents<'a>,
-    table: Table<'a>,
-    parts: &'a [TextPart],
-}
-
 /// The units of all documents.
 pub fn list_units(alloc: Global, documents: &[Document], known: &KnownLibraries) -> Mem<Units>
     requires { AreReadIn documents.now }
     ensures sound { IfOk result (IsSound (length documents.now)) }
     // The units are those of the documents' data.
-    ensures listed { (ds : List ModelDocument) → HaveData ds documents.now → Knows known.now.names (known_in ds) → (spelled : LibraryName → List ℕ) → WritesProper spelled →
-        IfOk result (AreUnitsListed spelled (units_of ds)) }
+    ensures listed { (ds : List ModelDocument) → AreOpened ds documents.now → Knows known.now.names (known_in ds) → (spelled : LibraryName → List ℕ) → WritesProper spelled →
+        IfOk result (AreUnitsListed spelled ds) }
 {
     let uris = uris_of(alloc, documents)?;
     let views = views_of(alloc, documents)?;
     let parts = text_parts(alloc, views.as_slice(), &uris)?;
-    let TextParts {
-        documents: parts,
-        order,
-    } = parts;
-    let texts = texts_of(alloc, documents, parts.as_slice())?;
-    let included = Documents {
-        limit: MAX_TOKENS,
-        known,
-        uris: &uris,
-        texts: texts.as_slice(),
-    };
-    let usable = usable_of(alloc, parts.as_slice())?;
-    let order = numbers_of(alloc, order.as_slice())?;
-    let table = Table::of(alloc, &included, usable.as_slice(), order.as_slice())?;
-    let reader = Reader {
-        documents: included,
-        table,
-        parts: parts.as_slice(),
-    };
+    let texts = texts_of(alloc, documents, parts.documents.as_slice())?;
+    let reader = reader_of(alloc, known, &uris, texts.as_slice(), &parts)?;
+    add_documents(alloc, documents, parts.documents.as_slice(), &reader)
+}
+
+/// The units of documents that are this to one another.
+fn add_documents<'a>(
+    alloc: Global,
+    documents: &'a [Document],
+    parts: &[TextPart],
+    reader: &Reader<'a>,
+) -> Mem<Units>
+    requires read { AreReadIn documents.now }
+    requires parts { length parts.now ≡ length documents.now }
+    requires can { CanReadAll reader.now documents.now parts.now }
+    ensures sound { IfOk result (IsSound (length documents.now)) }
+    ensures listed { (o : Sources) → IsReader o reader.now → AreAt o 0 documents.now parts.now → (spelled : LibraryName → List ℕ) → WritesProper spelled →
+        IfOk result (AreSoFar o.documents spelled (units_with o (naming o.documents))) }
+{
     let mut units = Units {
         heads: Vec::new(alloc),
         sources: Vec::new(alloc),
     };
-    for (number, document) in documents.iter().enumerate() {
-        add_libraries(alloc, &mut units, number, document.items.as_slice(), &reader)?;
-        add_program(alloc, &mut units, number, document.items.as_slice(), &reader)?;
+    for (place, document) in documents.iter().enumerate() {
+        let number = place_of(place)?;
+        let items = document.items.as_slice();
+        add_libraries(alloc, &mut units, number, items, parts[place], reader)?;
+        add_program(alloc, &mut units, number, items, parts[place], reader)?;
     }
     Ok(units)
-}
-
-/// The uris of documents, each read once.
-fn uris_of(alloc: Global, documents: &[Document]) -> Mem<Uris> {
-    let mut uris = Vec::new(alloc);
-    for document in documents {
-        uris.push(document.uri.as_str())?;
-    }
-    Uris::of(alloc, uris.as_slice())
-}
-
-/// Documents as they are seen where it is asked what they name.
-fn views_of<'a>(alloc: Global, documents: &'a [Document]) -> Mem<Vec<TextRead<'a>>> {
-    let mut views = Vec::new(alloc);
-    for document in documents {
-        views.push(TextRead {
-            data: document.items.as_slice(),
-            reads: document.fault.is_none(),
-        })?;
-    }
-    Ok(views)
-}
-
-/// Documents as they are included, each with the number of its program.
-fn texts_of<'a>(
-    alloc: Global,
-    documents: &'a [Document],
-    parts: &[TextPart],
-) -> Mem<Vec<IncludedText<'a>>> {
-    let mut texts = Vec::new(alloc);
-    for (place, document) in documents.iter().enumerate() {
-        texts.push(IncludedText {
-            data: document.items.as_slice(),
-            unit: program_of(parts, place),
-        })?;
-    }
-    Ok(texts)
-}
-
-/// The number of a document's program.
-fn program_of(parts: &[TextPart], place: usize) -> u32 {
-    match parts.get(place) {
-        None => 0,
-        Some(part) => part.program as u32,
-    }
-}
-
-/// Which documents can be included.
-fn usable_of(alloc: Global, parts: &[TextPart]) -> Mem<Vec<bool>> {
-    let mut usable = Vec::new(alloc);
-    for part in parts {
-        usable.push(part.is_usable)?;
-    }
-    Ok(usable)
-}
-
-/// Places as numbers.
-fn numbers_of(alloc: Global, places: &[usize]) -> Mem<Vec<u32>> {
-    let mut numbers = Vec::new(alloc);
-    for place in places {
-        numbers.push(*place as u32)?;
-    }
-    Ok(numbers)
 }
 
 /// Adds the libraries of a document.
 fn add_libraries<'a>(
     alloc: Global,
     units: &mut Units,
-    document: usize,
+    document: u32,
     items: &'a [Datum],
+    part: TextPart,
     reader: &Reader<'a>,
-) -> Mem<()> {
+) -> Mem<()>
+    requires units { IsSound (document + 1) units.old }
+    requires read { DataWereRead items.now }
+    requires can { CanRead reader.now document items.now part }
+    ensures sound { OnOk result (IsSound (document + 1) units.new) }
+    ensures added { (o : Sources) → IsReader o reader.now → IsAt o document items.now part →
+        OnOk result (AddsRead o.documents document (map (unless_circular part.on_circle) (libraries_in (all_texts o) o.known document (data_of items.now))) units.old units.new) }
+{
     for datum in items {
-        add_library(alloc, units, document, datum, reader)?;
+        add_library(alloc, units, document, datum, part.on_circle, reader)?;
     }
     Ok(())
 }
@@ -201,58 +139,76 @@ fn add_libraries<'a>(
 fn add_library<'a>(
     alloc: Global,
     units: &mut Units,
-    document: usize,
+    document: u32,
     datum: &'a Datum,
+    circular: bool,
     reader: &Reader<'a>,
-) -> Mem<()> {
+) -> Mem<()>
+    requires units { IsSound (document + 1) units.old }
+    requires read { WasRead (datum_of datum.now) }
+    requires can { CanReadIn reader.now document }
+    ensures sound { OnOk result (IsSound (document + 1) units.new) }
+    ensures added { (o : Sources) → IsReader o reader.now → IsOneOf (data_at o.documents document) (datum_of datum.now) →
+        OnOk result (AddsRead o.documents document (map (unless_circular circular) (libraries_in (all_texts o) o.known document (datum_of datum.now ∷ []))) units.old units.new) }
+{
     if !is_headed("define-library", datum) {
         return Ok(());
     }
-    let name = library_name(alloc, datum)?;
-    let span = first_token(datum);
-    let blank = unread(alloc, UnitKind::Library, span);
-    if reader.is_circular(document) {
-        return add(alloc, units, document, name, blank, Some(WholeFault::IncludeCycle));
+    if circular {
+        let name = library_name(alloc, datum)?;
+        let blank = unread(alloc, UnitKind::Library, first_token(datum));
+        let fault = Some(WholeFault::IncludeCycle);
+        return Ok(add(alloc, units, document as usize, name, blank, fault)?);
     }
+    Ok(add_read_library(alloc, units, document, datum, reader)?)
+}
+
+/// Adds the library that a datum is.
+fn add_read_library<'a>(
+    alloc: Global,
+    units: &mut Units,
+    document: u32,
+    datum: &'a Datum,
+    reader: &Reader<'a>,
+) -> Mem<()>
+    requires units { IsSound (document + 1) units.old }
+    requires read { WasRead (datum_of datum.now) }
+    requires can { CanReadIn reader.now document }
+    requires library { is_library (datum_of datum.now) ≡ true }
+    ensures sound { OnOk result (IsSound (document + 1) units.new) }
+    ensures added { (o : Sources) → IsReader o reader.now → let d = datum_of datum.now in IsOneOf (data_at o.documents document) d →
+        OnOk result (AddsRead o.documents document (library_of (all_texts o) o.known document d ∷ []) units.old units.new) }
+{
+    let name = library_name(alloc, datum)?;
     let number = units.sources.len() as u32;
-    let Reader {
-        documents, table, ..
-    } = reader;
-    match read_unit(alloc, documents, table, document as u32, datum, number) {
+    let Reader { documents, table } = reader;
+    match read_unit(alloc, documents, table, document, datum, number) {
         Ok(source) => {
             let source = unless_standard(alloc, source)?;
-            add(alloc, units, document, name, source, None)
+            Ok(add(alloc, units, document as usize, name, source, None)?)
         }
-        Err(fault) => add(alloc, units, document, name, blank, Some(whole(fault)?)),
+        Err(fault) => {
+            let blank = unread(alloc, UnitKind::Library, first_token(datum));
+            let fault = Some(whole(fault)?);
+            Ok(add(alloc, units, document as usize, name, blank, fault)?)
+        }
     }
 }
 
 /// Why a unit is broken as a whole that couldn't be read.
-fn whole(fault: LibraryFault) -> Mem<WholeFault> {
+fn whole(fault: LibraryFault) -> Mem<WholeFault>
+    ensures { IfOk result (IsWholeOf fault) }
+{
     match fault {
         LibraryFault::BadDeclaration { unit, span } => {
             Ok(WholeFault::BadDeclaration { unit, span })
         }
         LibraryFault::TooManyTokens => Ok(WholeFault::TooLarge),
-        _ => Err(Memory),
-    }
-}
-
-impl Reader<'_> {
-    /// Whether a document is on a circle of documents that include one another.
-    fn is_circular(&self, document: usize) -> bool {
-        match self.parts.get(document) {
-            None => false,
-            Some(part) => part.on_circle,
-        }
-    }
-
-    /// Whether a document is a part of another one.
-    fn is_part(&self, document: usize) -> bool {
-        match self.parts.get(document) {
-            None => false,
-            Some(part) => part.is_part,
-        }
+        LibraryFault::Memory => Err(Memory),
+        LibraryFault::Cycle(_) => Err(Memory),
+        LibraryFault::SameLibrary => Err(Memory),
+        LibraryFault::NotDefined(_) => Err(Memory),
+        LibraryFault::SameExport(_) => Err(Memory),
     }
 }
 
@@ -268,7 +224,11 @@ fn unless_standard(alloc: Global, source: UnitSource) -> Mem<UnitSource>
 }
 
 /// The source of a unit that isn't read.
-fn unread(alloc: Global, kind: UnitKind, span: Span) -> UnitSource {
+fn unread(alloc: Global, kind: UnitKind, span: Span) -> UnitSource
+    ensures kind { result.kind ≡ kind }
+    ensures span { result.span ≡ span }
+    ensures blank { IsBlank result }
+{
     UnitSource {
         kind,
         name: None,
@@ -284,29 +244,60 @@ fn unread(alloc: Global, kind: UnitKind, span: Span) -> UnitSource {
 fn add_program<'a>(
     alloc: Global,
     units: &mut Units,
-    document: usize,
+    document: u32,
     items: &'a [Datum],
+    part: TextPart,
     reader: &Reader<'a>,
-) -> Mem<()> {
+) -> Mem<()>
+    requires units { IsSound (document + 1) units.old }
+    requires read { DataWereRead items.now }
+    requires can { CanRead reader.now document items.now part }
+    ensures sound { OnOk result (IsSound (document + 1) units.new) }
+    ensures added { (o : Sources) → IsReader o reader.now → IsAt o document items.now part →
+        OnOk result (AddsRead o.documents document (map (unless_circular part.on_circle) (program_in (all_texts o) document part.is_part (program_data (data_of items.now)))) units.old units.new) }
+{
     let Some(first) = first_of_program(items) else {
         return Ok(());
     };
     let span = first_token(first);
-    let blank = unread(alloc, UnitKind::Program, span);
-    if reader.is_circular(document) {
-        return add(alloc, units, document, None, blank, Some(WholeFault::IncludeCycle));
+    if part.on_circle {
+        let blank = unread(alloc, UnitKind::Program, span);
+        let fault = Some(WholeFault::IncludeCycle);
+        return Ok(add(alloc, units, document as usize, None, blank, fault)?);
     }
-    if reader.is_part(document) {
+    if part.is_part {
         let source = read_part(alloc, items, span)?;
-        return add(alloc, units, document, None, source, None);
+        return Ok(add(alloc, units, document as usize, None, source, None)?);
     }
+    Ok(add_read_program(alloc, units, document, items, span, reader)?)
+}
+
+/// Adds the program of a document that is no part, with its first token's bytes.
+fn add_read_program<'a>(
+    alloc: Global,
+    units: &mut Units,
+    document: u32,
+    items: &'a [Datum],
+    span: Span,
+    reader: &Reader<'a>,
+) -> Mem<()>
+    requires units { IsSound (document + 1) units.old }
+    requires read { DataWereRead items.now }
+    requires can { CanReadIn reader.now document }
+    requires program { BeginsWith span (program_data (data_of items.now)) }
+    ensures sound { OnOk result (IsSound (document + 1) units.new) }
+    ensures added { (o : Sources) → IsReader o reader.now → data_at o.documents document ≡ data_of items.now →
+        OnOk result (AddsRead o.documents document (program_in (all_texts o) document false (program_data (data_of items.now))) units.old units.new) }
+{
     let number = units.sources.len() as u32;
-    let Reader {
-        documents, table, ..
-    } = reader;
-    match read_program(alloc, documents, table, document as u32, items, span, number) {
-        Ok(source) => add(alloc, units, document, None, source, None),
-        Err(fault) => add(alloc, units, document, None, blank, Some(whole(fault)?)),
+    let Reader { documents, table } = reader;
+    match read_program(alloc, documents, table, document, items, span, number) {
+        Ok(source) => Ok(add(alloc, units, document as usize, None, source, None)?),
+        Err(fault) => {
+            let blank = unread(alloc, UnitKind::Program, span);
+            let fault = Some(whole(fault)?);
+            Ok(add(alloc, units, document as usize, None, blank, fault)?)
+        }
     }
 }
 
@@ -322,7 +313,7 @@ fn add(
     requires units { IsSound (document + 1) units.old }
     requires read { WereRead (forms_of source.forms) }
     ensures sound { OnOk result (IsSound (document + 1) units.new) }
-    ensures added { (u : Source) → IsReadFor (length units.old.sources.items) u name source bad → OnOk result (AddsRead document (u ∷ []) units.old units.new) }
+    ensures added { (ds : List ModelDocument) (u : Source) → IsReadFor (data_at ds document) (length units.old.sources.items) u name source bad → OnOk result (AddsRead ds document (u ∷ []) units.old units.new) }
 {
     let place = units.sources.len();
     if place >= u32::MAX as usize {
@@ -366,12 +357,15 @@ fn firsts_of(alloc: Global, forms: &[UnitForm]) -> Mem<Vec<u32>>
     Ok(firsts)
 }
 
-/// The tokens of the forms of a unit.
-fn ranges_of(alloc: Global, unit: u32, forms: &[UnitForm]) -> Mem<Vec<TokenRange>> {
+/// The tokens of the forms of a unit, with the homes of their texts.
+fn ranges_of(alloc: Global, unit: u32, forms: &[UnitForm]) -> Mem<Vec<TokenRange>>
+    ensures { IfOk result (λ ranges. ranges.items ≡ ranges_from unit 0 (forms_of forms.now)) }
+{
     let mut ranges = Vec::new(alloc);
-    for (number, form) in forms.iter().enumerate() {
+    for (place, form) in forms.iter().enumerate() {
+        let number = place_of(place)?;
         ranges.push(TokenRange {
-            home: form.home_in(unit, number as u32),
+            home: form.home_in(unit, number),
             first: form.datum.first,
             last: form.datum.last,
         })?;

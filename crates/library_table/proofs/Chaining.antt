@@ -3,33 +3,14 @@ use Rattle.std.proofs.Common.{◌≡◌, ℕ, List, [], ◌∷◌, ◌++◌, app
 use Rattle.std.specs.Result.{IsErrAnd}
 use Rattle.scheme_model.specs.Trees.{Tree, Trees, no_trees, tree}
 use Rattle.scheme_model.specs.ExpansionFaults.{Fault, ◌>>◌}
-use Rattle.scheme_model.specs.Requirements.{LibraryPart, LibraryName}
 use Rattle.datum_reader.specs.declared.shape_fault.ShapeFault.{ShapeFault}
 use Rattle.datum_reader.specs.declared.shape_fault.ShapeFault.TheVariants as fault
-use Rattle.library_table.specs.PartsRead.{Fails, Reads, Puts, PutsAll, map_ok}
+use Rattle.known_libraries.specs.PartsRead.{Fails, Reads}
 
 -- a fault that a call hands on
 pub reads_err : {X A B : Type 0} (view : X → A) (x : Result X ShapeFault) (e : ShapeFault) (r : Result A (Fault B)) → IsErrAnd x (λ f. f ≡ e) → Fails e r → Reads view x r
 reads_err view (Ok y) e r h p = absurd h
 reads_err view (Err f) e r h p = subst (λ (f : ShapeFault). Fails f r) (sym h) p
-
-pub puts_err : {B : Type 0} (old new : List ℕ) (x : Result Unit ShapeFault) (e : ShapeFault) (r : Result LibraryPart (Fault B)) → IsErrAnd x (λ f. f ≡ e) → Fails e r → Puts old new x r
-puts_err old new (Ok y) e r h p = absurd h
-puts_err old new (Err f) e r h p = subst (λ (f : ShapeFault). Fails f r) (sym h) p
-
-pub puts_all_err : {B : Type 0} (old new : List ℕ) (x : Result Unit ShapeFault) (e : ShapeFault) (r : Result LibraryName (Fault B)) → IsErrAnd x (λ f. f ≡ e) → Fails e r → PutsAll old new x r
-puts_all_err old new (Ok y) e r h p = absurd h
-puts_all_err old new (Err f) e r h p = subst (λ (f : ShapeFault). Fails f r) (sym h) p
-
--- a fault as that of what is made of the answer
-pub fails_map : {A B C : Type 0} (e : ShapeFault) (f : A → B) (r : Result A (Fault C)) → Fails e r → Fails e (map_ok f r)
-fails_map fault.BadForm f r h = ap (map_ok f) h
-fails_map fault.Memory f r h = tt
-
--- a fault of what is read first
-pub fails_then : {A B C : Type 0} (e : ShapeFault) (r : Result A (Fault C)) (f : A → Result B (Fault C)) → Fails e r → Fails e (r >> f)
-fails_then fault.BadForm r f h = ap (λ x. x >> f) h
-fails_then fault.Memory r f h = tt
 
 pub fails_same : {A B : Type 0} (e : ShapeFault) (r s : Result A (Fault B)) → s ≡ r → Fails e r → Fails e s
 fails_same fault.BadForm r s same h = same ∙ h

@@ -7,7 +7,8 @@ use Rattle.std.proofs.lemmas.Option.{same_Some}
 use Rattle.std.proofs.lemmas.List.{length-map, take_more, map_push}
 use Rattle.scheme_model.specs.Requirements.{LibraryName}
 use Rattle.scheme_model.specs.Entries as model
-use Rattle.scheme_model.specs.Program.{Placed, ImportSpec, Prepared, prepared, prepare, imports_at, imported_units, unit_named, is_in, specs_from, forms_or_none}
+use Rattle.scheme_model.specs.IncludedUnits.{Placed}
+use Rattle.scheme_model.specs.Program.{ImportSpec, Prepared, prepared, prepare, imports_at, imported_units, unit_named, is_in, specs_from, forms_or_none}
 use Rattle.import_sets.specs.declared.set.ImportSet as code_set
 use Rattle.import_sets.specs.Sets.{IsSetOf}
 use Rattle.library_table.specs.declared.units.ImportSpec as code_import

@@ -3,11 +3,13 @@ use Rattle.std.proofs.Common.{◌≡◌, ℕ, Bool, true, false, cond, List, [],
 use Rattle.std.specs.Prelude.{◌||◌}
 use Rattle.std.specs.Str.{bytes_eq}
 use Rattle.scheme_model.specs.Data.{Datum, Data, none, part, tail}
-use Rattle.scheme_model.specs.Declarations.{symbol_tree, name_or, library_with, library_of, behind_head, is_library, library_names}
+use Rattle.scheme_model.specs.Declarations.{symbol_tree, name_or, behind_head, is_library, library_name, library_name_in, library_names}
+use Rattle.scheme_model.specs.Includes.{Document, data_of}
+use Rattle.scheme_model.specs.IncludedUnits.{library_of}
 use Rattle.scheme_model.specs.ExpansionFaults.{Fault}
 use Rattle.scheme_model.specs.Order.{is_some}
-use Rattle.scheme_model.specs.Program.{Document, data_of, all_names, is_listed, known_in, has_name}
-use Rattle.scheme_model.specs.Requirements.{LibraryName, Known, same_library, library_name_of}
+use Rattle.scheme_model.specs.Program.{all_names, is_listed, known_in, has_name}
+use Rattle.scheme_model.specs.Requirements.{LibraryName, same_library, library_name_of}
 use Rattle.scheme_model.specs.StandardLibraries.{StandardLibrary, standard_libraries, names_in}
 use Rattle.scheme_tokens.specs.LibraryNames.{library_text, IsProper}
 use Rattle.scheme_tokens.proofs.EveryName.{text_of, text_tells, text_of-proper}
@@ -29,19 +31,19 @@ or_proper : (r : Result LibraryName (Fault (List ℕ))) → IfOk r IsProper → 
 or_proper (Ok n) h = h
 or_proper (Err e) h = tt
 
-pub unit_proper : (known : Known) (d : Datum) (ds : Data) → IfProper (library_with known d ds).name
-unit_proper known d none = tt
-unit_proper known d (tail e) = tt
-unit_proper known d (part n ds) = or_proper (library_name_of (λ s. s) (symbol_tree n)) (datum_name_proper n)
+pub name_proper : (ds : Data) → IfProper (library_name_in ds)
+name_proper none = tt
+name_proper (tail e) = tt
+name_proper (part n ds) = or_proper (library_name_of (λ s. s) (symbol_tree n)) (datum_name_proper n)
 
-one_more : (d : Datum) (ds : List Datum) (b : Bool) → is_library d ≡ b → (o : Option LibraryName) → (library_of (λ n. false) d).name ≡ o → IfProper o → AllProper (library_names ds) → AllProper (library_names (d ∷ ds))
+one_more : (d : Datum) (ds : List Datum) (b : Bool) → is_library d ≡ b → (o : Option LibraryName) → library_name d ≡ o → IfProper o → AllProper (library_names ds) → AllProper (library_names (d ∷ ds))
 one_more d ds true e None f h k = rw (e, f) k
 one_more d ds true e (Some n) f h k = rw (e, f) (h, k)
 one_more d ds false e o f h k = rw e k
 
 names_proper : (ds : List Datum) → AllProper (library_names ds)
 names_proper [] = tt
-names_proper (d ∷ ds) = one_more d ds (is_library d) refl (library_of (λ n. false) d).name refl (unit_proper (λ n. false) d (behind_head d)) (names_proper ds)
+names_proper (d ∷ ds) = one_more d ds (is_library d) refl (library_name d) refl (name_proper (behind_head d)) (names_proper ds)
 
 both_proper : (ms ns : List LibraryName) → AllProper ms → AllProper ns → AllProper (ms ++ ns)
 both_proper [] ns h k = k

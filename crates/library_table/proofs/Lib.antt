@@ -8,16 +8,10 @@ mod OrderLaws  -- What a call on the order of units answers
 mod WorkLaws  -- The turns are the order in which the definition of a program works on its units
 mod Chaining  -- How readings are put together
 mod TreeRows  -- The trees of data in a row
-mod NameTexts  -- The texts of libraries' names, and rows of one identifier
 mod SetRows  -- Import sets as they are read
 mod Gathering  -- What is gathered from the items of a list, each with its number
+mod ListingRows  -- What texts list, as units have it
 mod ExportRows  -- Exports as they are read
-mod ProgramRows  -- The program that data are
-mod RequirementRows  -- Requirements as they are read
-mod FlatRows  -- Declarations as they are flattened
-mod ClauseRows  -- The clauses of `cond-expand` as they are read
-mod ChoiceRows  -- The clauses of a `cond-expand` one after another
-mod LibraryRows  -- The library that a datum is, by its parts
 mod PlaceLaws  -- The turns of any graph are its places, each of them once; and so are the places of names that stand twice
 mod ProperNames  -- Names that are read are proper
 pub mod KnownTexts  -- Which libraries there are, by the texts of their names

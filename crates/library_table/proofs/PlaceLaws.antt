@@ -6,7 +6,8 @@ use Rattle.std.proofs.lemmas.Bool.Decides.{nat_tests}
 use Rattle.std.proofs.lemmas.Option.{slice_get_within}
 use Rattle.scheme_model.specs.Data.{Place}
 use Rattle.scheme_model.specs.Declarations.{IsProgram}
-use Rattle.scheme_model.specs.Program.{Placed, Prepared, imports_at, is_in, first_ready}
+use Rattle.scheme_model.specs.IncludedUnits.{Placed}
+use Rattle.scheme_model.specs.Program.{Prepared, imports_at, is_in, first_ready}
 use Rattle.import_sets.specs.InTurn.{is_open, and_then, in_turn}
 use Rattle.import_sets.specs.Graphs.{row, IsGraph, AreNumbered}
 use Rattle.import_sets.proofs.CircleLaws.{plus_one}

@@ -1,25 +1,18 @@
--- Names that are read are proper: a requirement is met as a set of texts knows libraries, and what a datum is as a library rests on
--- which proper names there are, and on no others.
-use Rattle.std.proofs.Common.{◌≡◌, ℕ, Bool, true, cond, List, [], ◌∷◌, length, arith, Option, Result, Ok, Err, IfOk, refl, sym, ap, ◌∙◌}
-use Rattle.std.specs.Prelude.{◌&&◌, ◌||◌, not, codes, String}
-use Rattle.std.specs.declared.alloc.Global.{Global}
-use Rattle.std.specs.BTreeSet.{BTreeSet, contains_text}
+-- Names that are read are proper: what a datum is as a library rests on which proper names there are, and on no others.
+use Rattle.std.proofs.Common.{◌≡◌, ℕ, Bool, true, cond, List, [], ◌∷◌, Option, Some, None, Result, Ok, Err, IfOk, refl, ap, ◌∙◌}
+use Rattle.std.specs.Prelude.{◌&&◌, ◌||◌, not, codes}
 use Rattle.std.specs.Str.{bytes_eq}
 use Rattle.scheme_model.specs.Data.{Datum, atom as atom_datum, list as list_datum, vector as vector_datum, bytes, Data, none, part, tail, place_of}
 use Rattle.scheme_model.specs.Trees.{Tree, name, atom, list, vector, Trees, no_trees, tree, proper, dotted}
 use Rattle.scheme_model.specs.ExpansionFaults.{Fault, BadForm, ◌>>◌}
 use Rattle.scheme_model.specs.Shapes.{one_of}
 use Rattle.scheme_model.specs.Requirements.{LibraryName, Known, library_name_of, holds, all_hold, some_holds, none_holds, is_else, clause_holds}
-use Rattle.scheme_model.specs.Declarations.{symbol_in, proper_parts, symbol_tree, Flat, ◌>>=◌, or_bad, Clause, later_clauses, picked, chosen_clause, flat_of, some_clauses, both, parts_or, Declared, Exports, Imports, Begins, Chooses, Includes, Undeclared, declared_by, declared_as, declaration, declarations, clauses, clause_of, UnitSource, IsLibrary, name_or, no_name, library_with, behind_head, library_of}
-use Rattle.scheme_model.specs.declared.Occ.{Occ}
-use Rattle.datum_reader.specs.declared.datum.Datum as code
-use Rattle.datum_reader.specs.Views.{datum_of}
-use Rattle.datum_reader.specs.Looks.{tree_at, trees_at}
-use Rattle.scheme_tokens.specs.LibraryNames.{library_text, IsProper}
+use Rattle.scheme_model.specs.Declarations.{symbol_in, proper_parts, Declared, Exports, Imports, Begins, Chooses, Includes, Undeclared, declared_by, IsLibrary, behind_head, library_name, library_name_in}
+use Rattle.scheme_model.specs.Included.{Homed, inside, Listing, Texts, followed, Clause, later_clauses, chosen, choice, declared_as, if_proper, with_clause, clause_with, declaration, declarations, clauses, clause_of}
+use Rattle.scheme_model.specs.IncludedUnits.{source_by, own, if_named, library_listing, library_of}
+use Rattle.scheme_tokens.specs.LibraryNames.{IsProper}
 use Rattle.scheme_tokens.specs.Symbols.{HasEncoded, HaveEncoded}
-use Rattle.scheme_tokens.proofs.NameTrees.{name_proper, tree_encoded, datum_encoded}
-use Rattle.library_table.specs.Chosen.{library_holds}
-use Rattle.library_table.specs.PartsRead.{Knows, map_ok}
+use Rattle.scheme_tokens.proofs.NameTrees.{name_proper, datum_encoded}
 
 abbrev itself : List ℕ → List ℕ
 itself s = s
@@ -27,28 +20,45 @@ itself s = s
 abbrev F : Type 0
 F = Fault (List ℕ)
 
-abbrev named_unit : Datum → Option LibraryName → Flat → UnitSource
-named_unit d n forms = record { kind = IsLibrary; name = n; start = place_of d; forms = no_name n d forms }
-
 abbrev told_by : Known → LibraryName → Result Bool F
 told_by known n = Ok (known n)
 
-abbrev clause_with : Datum → Flat → List Datum → Result Clause Datum
-clause_with d forms rest = Ok (record { requirement = symbol_tree d; forms = forms })
+-- ---- requirements that are data's trees
 
--- ---- a requirement by a library's name
+abbrev AreSpelled : List Clause → Type 0
+AreSpelled [] = Unit {0}
+AreSpelled (c ∷ cs) = HasEncoded itself c.requirement × AreSpelled cs
 
-answered : (texts : BTreeSet (String Global)) (has : Known) → Knows texts has → (r : Result LibraryName F) → IfOk r IsProper → (s : List ℕ) → map_ok library_text r ≡ Ok s → (r >> told_by has) ≡ Ok (contains_text texts s)
-answered texts has knows (Ok n) h s e = let same : library_text n ≡ s = cc in ap Ok (knows n h ∙ ap (contains_text texts) same)
-answered texts has knows (Err f) h s e = absurd cc
+abbrev IfSpelled : Option (List Clause) → Type 0
+IfSpelled None = Unit {0}
+IfSpelled (Some cs) = AreSpelled cs
 
-pub library_known : (texts : BTreeSet (String Global)) (has : Known) (place : ℕ → Occ) (ds : List code.Datum) (d : code.Datum) (es : List code.Datum) (s : List ℕ) (here : Bool) → Knows texts has → ds ≡ d ∷ es → length es ≡ 0 →
-    map_ok library_text (library_name_of itself (tree_at place d)) ≡ Ok s → here ≡ contains_text texts s → library_holds has (trees_at place ds) ≡ Ok here
-library_known texts has place ds d [] s here knows is few named there =
-    ap (λ (xs : List code.Datum). library_holds has (trees_at place xs)) is
-    ∙ answered texts has knows (library_name_of itself (tree_at place d)) (name_proper itself (tree_at place d) (tree_encoded place (datum_of d))) s named
-    ∙ ap Ok (sym there)
-library_known texts has place ds d (e ∷ es) s here knows is few named there = absurd (omega (arith, few))
+abbrev IfOneSpelled : Option Clause → Type 0
+IfOneSpelled None = Unit {0}
+IfOneSpelled (Some c) = HasEncoded itself c.requirement
+
+with_spelled : (c : Option Clause) (cs : Option (List Clause)) → IfOneSpelled c → IfSpelled cs → IfSpelled (with_clause c cs)
+with_spelled None cs h k = tt
+with_spelled (Some c) None h k = tt
+with_spelled (Some c) (Some cs) h k = (h, k)
+
+headed_spelled : (o : Option (List Datum)) (d : Datum) (l : Listing) → IfOneSpelled (clause_with o d l)
+headed_spelled None d l = tt
+headed_spelled (Some ds) d l = datum_encoded d
+
+module _ (t : Texts) (known : Known) where
+  clause_spelled : (x : Homed) (d : Datum) → IfOneSpelled (clause_of t known x d)
+  clause_spelled x (atom_datum p k) = tt
+  clause_spelled x (vector_datum p ds) = tt
+  clause_spelled x (bytes p texts) = tt
+  clause_spelled x (list_datum p none) = tt
+  clause_spelled x (list_datum p (tail d)) = tt
+  clause_spelled x (list_datum p (part d ds)) = headed_spelled (proper_parts ds) d (declarations t known x (list_datum p (part d ds)) ds)
+
+  clauses_spelled : (x : Homed) (ds : Data) → IfSpelled (clauses t known x ds)
+  clauses_spelled x none = tt
+  clauses_spelled x (part d ds) = with_spelled (clause_of t known x d) (clauses t known x ds) (clause_spelled x d) (clauses_spelled x ds)
+  clauses_spelled x (tail d) = tt
 
 -- ---- libraries that agree on proper names
 
@@ -98,88 +108,61 @@ module _ (a b : Known) (agree : (n : LibraryName) → IsProper n → a n ≡ b n
   clause_same t no_trees h = ap (λ r. cond (is_else itself t) (Ok true) r) (holds_same t h)
   clause_same t (tree u us) h = ap (λ r. cond (is_else itself t) (Err BadForm) r) (holds_same t h)
 
-  abbrev AreSpelled : List Clause → Type 0
-  AreSpelled [] = Unit {0}
-  AreSpelled (c ∷ cs) = HasEncoded itself c.requirement × AreSpelled cs
+  chosen_same : (cs : List Clause) → AreSpelled cs → chosen a cs ≡ chosen b cs
+  chosen_same [] h = refl
+  chosen_same (c ∷ cs) h = rw (clause_same c.requirement (later_clauses cs) h.0, chosen_same cs h.1) refl
 
-  chosen_same : (whole : Datum) (cs : List Clause) → AreSpelled cs → chosen_clause a whole cs ≡ chosen_clause b whole cs
-  chosen_same whole [] h = refl
-  chosen_same whole (c ∷ cs) h =
-      λ j. or_bad whole (clause_same c.requirement (later_clauses cs) h.0 j) >>= λ x. chosen_same whole cs h.1 j >>= λ later. Ok (picked x c.forms later)
-
-  chooses_same : (d : Datum) (r : Result (List Clause) Datum) → IfOk r AreSpelled → flat_of (r >>= some_clauses d >>= chosen_clause a d) ≡ flat_of (r >>= some_clauses d >>= chosen_clause b d)
-  chooses_same d (Ok []) h = refl
-  chooses_same d (Ok (c ∷ cs)) h = ap flat_of (chosen_same d (c ∷ cs) h)
-  chooses_same d (Err e) h = refl
-
-  declared_same : (k : Declared) (d : Datum) (parts : Option (List Datum)) (r s : Result (List Clause) Datum) → r ≡ s → IfOk r AreSpelled → declared_as a k d parts r ≡ declared_as b k d parts s
-  declared_same Exports d parts r s e h = refl
-  declared_same Imports d parts r s e h = refl
-  declared_same Begins d parts r s e h = refl
-  declared_same Chooses d parts r s e h = chooses_same d r h ∙ ap (λ q. flat_of (q >>= some_clauses d >>= chosen_clause b d)) e
-  declared_same Includes d parts r s e h = refl
-  declared_same Undeclared d parts r s e h = refl
-
-  -- each clause's requirement is a datum's tree
-  one_spelled : (r : Result Clause Datum) (rest : Result (List Clause) Datum) → IfOk r (λ c. HasEncoded itself c.requirement) → IfOk rest AreSpelled → IfOk (r >>= λ c. rest >>= λ cs. Ok (c ∷ cs)) AreSpelled
-  one_spelled (Ok c) (Ok cs) h k = (h, k)
-  one_spelled (Ok c) (Err e) h k = tt
-  one_spelled (Err e) rest h k = tt
-
-  headed_spelled : (r : Result (List Datum) Datum) (d : Datum) (forms : Flat) → IfOk (r >>= clause_with d forms) (λ c. HasEncoded itself c.requirement)
-  headed_spelled (Ok rest) d forms = datum_encoded d
-  headed_spelled (Err e) d forms = tt
-
-  clause_spelled : (whole d : Datum) → IfOk (clause_of a whole d) (λ c. HasEncoded itself c.requirement)
-  clause_spelled whole (atom_datum p k) = tt
-  clause_spelled whole (vector_datum p ds) = tt
-  clause_spelled whole (bytes p texts) = tt
-  clause_spelled whole (list_datum p none) = tt
-  clause_spelled whole (list_datum p (tail d)) = tt
-  clause_spelled whole (list_datum p (part d ds)) = headed_spelled (parts_or whole (proper_parts ds)) d (declarations a whole ds)
-
-  clauses_spelled : (whole : Datum) (ds : Data) → IfOk (clauses a whole ds) AreSpelled
-  clauses_spelled whole none = tt
-  clauses_spelled whole (part d ds) = one_spelled (clause_of a whole d) (clauses a whole ds) (clause_spelled whole d) (clauses_spelled whole ds)
-  clauses_spelled whole (tail d) = tt
+  choice_same : (x : Homed) (cs : Option (List Clause)) → IfSpelled cs → choice a x cs ≡ choice b x cs
+  choice_same x None h = refl
+  choice_same x (Some []) h = refl
+  choice_same x (Some (c ∷ cs)) h = rw (chosen_same (c ∷ cs) h) refl
 
   -- ---- declarations
 
-  mutual
-    declaration_same : (d : Datum) → declaration a d ≡ declaration b d
-    declaration_same (atom_datum p k) = refl
-    declaration_same (vector_datum p ds) = refl
-    declaration_same (bytes p texts) = refl
-    declaration_same (list_datum p none) = refl
-    declaration_same (list_datum p (tail d)) = refl
-    declaration_same (list_datum p (part d ds)) =
-        let whole = list_datum p (part d ds) in
-        declared_same (declared_by (symbol_in d)) whole (proper_parts ds) (clauses a whole ds) (clauses b whole ds) (clauses_same whole ds) (clauses_spelled whole ds)
+  module _ (t : Texts) where
+    declared_same : (k : Declared) (x : Homed) (ds : List Datum) (r s : Option (List Clause)) → r ≡ s → IfSpelled r → declared_as t a k x ds r ≡ declared_as t b k x ds s
+    declared_same Exports x ds r s e h = refl
+    declared_same Imports x ds r s e h = refl
+    declared_same Begins x ds r s e h = refl
+    declared_same Chooses x ds r s e h = choice_same x r h ∙ ap (choice b x) e
+    declared_same Includes x ds r s e h = refl
+    declared_same Undeclared x ds r s e h = refl
 
-    declarations_same : (whole : Datum) (ds : Data) → declarations a whole ds ≡ declarations b whole ds
-    declarations_same whole none = refl
-    declarations_same whole (part d ds) = λ j. both (declaration_same d j) (declarations_same whole ds j)
-    declarations_same whole (tail d) = refl
+    mutual
+      declaration_same : (x : Homed) (d : Datum) → declaration t a x d ≡ declaration t b x d
+      declaration_same x (atom_datum p k) = refl
+      declaration_same x (vector_datum p ds) = refl
+      declaration_same x (bytes p texts) = refl
+      declaration_same x (list_datum p none) = refl
+      declaration_same x (list_datum p (tail d)) = refl
+      declaration_same x (list_datum p (part d ds)) =
+          let whole = inside x (list_datum p (part d ds)) in
+          λ j. if_proper whole (proper_parts ds) (λ parts. declared_same (declared_by (symbol_in d)) whole parts (clauses t a x ds) (clauses t b x ds) (clauses_same x ds) (clauses_spelled t a x ds) j)
 
-    clauses_same : (whole : Datum) (ds : Data) → clauses a whole ds ≡ clauses b whole ds
-    clauses_same whole none = refl
-    clauses_same whole (part d ds) = λ j. clause_of_same whole d j >>= λ c. clauses_same whole ds j >>= λ cs. Ok (c ∷ cs)
-    clauses_same whole (tail d) = refl
+      declarations_same : (x : Homed) (whole : Datum) (ds : Data) → declarations t a x whole ds ≡ declarations t b x whole ds
+      declarations_same x whole none = refl
+      declarations_same x whole (part d ds) = λ j. followed t.limit (declaration_same x d j) (declarations_same x whole ds j)
+      declarations_same x whole (tail d) = refl
 
-    clause_of_same : (whole d : Datum) → clause_of a whole d ≡ clause_of b whole d
-    clause_of_same whole (atom_datum p k) = refl
-    clause_of_same whole (vector_datum p ds) = refl
-    clause_of_same whole (bytes p texts) = refl
-    clause_of_same whole (list_datum p none) = refl
-    clause_of_same whole (list_datum p (tail d)) = refl
-    clause_of_same whole (list_datum p (part d ds)) = λ j. parts_or whole (proper_parts ds) >>= λ rest. Ok (record { requirement = symbol_tree d; forms = declarations_same whole ds j })
+      clauses_same : (x : Homed) (ds : Data) → clauses t a x ds ≡ clauses t b x ds
+      clauses_same x none = refl
+      clauses_same x (part d ds) = λ j. with_clause (clause_of_same x d j) (clauses_same x ds j)
+      clauses_same x (tail d) = refl
 
-  -- ---- units
+      clause_of_same : (x : Homed) (d : Datum) → clause_of t a x d ≡ clause_of t b x d
+      clause_of_same x (atom_datum p k) = refl
+      clause_of_same x (vector_datum p ds) = refl
+      clause_of_same x (bytes p texts) = refl
+      clause_of_same x (list_datum p none) = refl
+      clause_of_same x (list_datum p (tail d)) = refl
+      clause_of_same x (list_datum p (part d ds)) = λ j. clause_with (proper_parts ds) d (declarations_same x (list_datum p (part d ds)) ds j)
 
-  with_same : (d : Datum) (ds : Data) → library_with a d ds ≡ library_with b d ds
-  with_same d none = refl
-  with_same d (tail e) = refl
-  with_same d (part n ds) = ap (named_unit d (name_or (library_name_of (λ s. s) (symbol_tree n)))) (declarations_same d ds)
+    -- ---- units
 
-  pub unit_same : (d : Datum) → library_of a d ≡ library_of b d
-  unit_same d = with_same d (behind_head d)
+    listing_same : (x : Homed) (ds : Data) → library_listing t a x ds ≡ library_listing t b x ds
+    listing_same x none = refl
+    listing_same x (tail e) = refl
+    listing_same x (part n ds) = ap (if_named x (library_name_in (part n ds))) (declarations_same x x.datum ds)
+
+    pub unit_same : (document : ℕ) (d : Datum) → library_of t a document d ≡ library_of t b document d
+    unit_same document d = ap (source_by IsLibrary (library_name d) (place_of d)) (listing_same (own document d) (behind_head d))

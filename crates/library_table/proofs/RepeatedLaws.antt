@@ -7,7 +7,8 @@ use Rattle.std.proofs.lemmas.Option.{same_Some}
 use Rattle.scheme_model.specs.Requirements.{LibraryName}
 use Rattle.scheme_model.specs.Order.{is_some}
 use Rattle.scheme_model.specs.StandardLibraries.{standard}
-use Rattle.scheme_model.specs.Program.{Placed, prepared, is_in, name_if, unless_standard, imported_as, unit_named, is_repeated}
+use Rattle.scheme_model.specs.IncludedUnits.{Placed}
+use Rattle.scheme_model.specs.Program.{prepared, is_in, name_if, unless_standard, imported_as, unit_named, is_repeated}
 use Rattle.library_table.specs.Repeated.{is_repeated_name, repeated_from, repeated_places, has_standard_name}
 
 -- from a place on, places aren't before it

@@ -17,10 +17,9 @@ use Rattle.datum_reader.specs.declared.shape_fault.ShapeFault.TheVariants as fau
 use Rattle.library_table.specs.declared.sets.Modifier as code_modifier
 use Rattle.library_table.specs.declared.sets.Modified.{Modified}
 use Rattle.datum_reader.specs.Looks.{plain, tree_at, trees_at, word_of, symbol_now, IsWord, IsListOf, end_with}
-use Rattle.library_table.specs.PartsRead.{Fails}
+use Rattle.known_libraries.specs.PartsRead.{Fails}
 use Rattle.library_table.specs.SetsRead.{modifier_as, modifier_seen, modifier_for, IsModified, IsModifiedBy, IsSetText, IsSetMade}
 use Rattle.datum_reader.specs.Looks.{is_list}
-use Rattle.library_table.specs.Weights.{weight, weights}
 
 -- ---- modifiers
 
@@ -109,24 +108,3 @@ set_failed (Err fault.Memory) e r f h k = tt
 
 pub made_as : (c : ImportSet) (s t : model.ImportSet) → t ≡ s → IsSetText c s → IsSetText c t
 made_as c s t e h = subst (λ (x : model.ImportSet). IsSetText c x) (sym e) h
-
--- ---- what is inside is lighter
-
-weight_some : (d : Datum) → 0 < weight d
-weight_some (atom_datum p a) = omega arith
-weight_some (list_datum p ds) = omega arith
-weight_some (vector_datum p ds) = omega arith
-weight_some (bytes_datum p bs) = omega arith
-
-pub row_lighter : (ds : List code.Datum) (end : Option Datum) → weights (row (data_of ds) none) ≤ weights (row (data_of ds) (end_with end))
-row_lighter [] None = omega arith
-row_lighter [] (Some d) = omega arith
-row_lighter (d ∷ ds) end = omega (arith, row_lighter ds end)
-
--- the parts of a list
-pub parts_lighter : (ds : List code.Datum) (b : Bool) (d : Datum) → IsListOf ds b d → weights (row (data_of ds) none) < weight d
-parts_lighter ds b d h = let e = ap weight h.1 in omega (arith, row_lighter ds h.0)
-
--- the first of a row, and the others
-pub first_lighter : (ds : List code.Datum) (d : code.Datum) (es : List code.Datum) → ds ≡ d ∷ es → (weight (datum_of d) ≤ weights (row (data_of ds) none)) × (weights (row (data_of es) none) < weights (row (data_of ds) none))
-first_lighter ds d es e = let f = ap (λ (xs : List code.Datum). weights (row (data_of xs) none)) e in (omega arith, omega (arith, weight_some (datum_of d)))

@@ -2,11 +2,13 @@
 use Rattle.std.proofs.Common.{◌≡◌, ℕ, suc, Bool, true, false, cond, List, [], ◌∷◌, ◌++◌, map, Option, Some, None, Result, Ok, Err, IfOk, refl, sym, ap, ◌∙◌, subst}
 use Rattle.std.specs.Prelude.{◌&&◌, codes}
 use Rattle.std.specs.Option.{option_map}
-use Rattle.scheme_model.specs.Data.{Datum}
+use Rattle.scheme_model.specs.Data.{Datum, Place, place_of}
 use Rattle.scheme_model.specs.DataTrees.{tree_of}
-use Rattle.scheme_model.specs.Declarations.{UnitForm, home_of, UnitSource, is_headed, list_parts, behind_head, library_of}
+use Rattle.scheme_model.specs.Declarations.{UnitForm, UnitKind, IsLibrary, home_of, is_headed, list_parts, behind_head, library_name}
 use Rattle.scheme_model.specs.Entries.{ImportSet, Library, Only, Except, Prefix, Rename, Bad, Modifier, IsOnly, IsExcept, IsPrefix, IsRename, modifier_named, pairs_of, or_bad, modified_set, library_set, by_modifier, set_of, library_in}
 use Rattle.scheme_model.specs.ExpansionFaults.{Fault, ◌>>◌}
+use Rattle.scheme_model.specs.Included.{Texts, Listing, Lists, BadAfter, TooLong}
+use Rattle.scheme_model.specs.IncludedUnits.{UnitSource, source_by, library_of, library_listing, own}
 use Rattle.scheme_model.specs.Program.{ImportSpec, spec_of, behind_first, specs_in, specs_from, forms_or_none}
 use Rattle.scheme_model.specs.Requirements.{LibraryName, Known, library_name_of}
 use Rattle.scheme_model.specs.Shapes.{proper_of, one_of, name_of, names_of}
@@ -21,7 +23,7 @@ use Rattle.library_table.specs.Sources.{AreImports}
 use Rattle.library_table.specs.UnitsRead.{IsSource, AreSpecs, forms_of}
 use Rattle.library_table.specs.declared.units.ImportSpec as code_import
 use Rattle.library_table.specs.declared.units.UnitSource as code
-use Rattle.library_table.proofs.KnownTexts.{IfProper, unit_proper}
+use Rattle.library_table.proofs.KnownTexts.{IfProper, name_proper as library_name_proper}
 
 abbrev itself : List ℕ → List ℕ
 itself s = s
@@ -95,6 +97,13 @@ all_proper : (unit form : ℕ) (fs : List UnitForm) → AreProperSpecs (specs_fr
 all_proper unit form [] = tt
 all_proper unit form (f ∷ fs) = both_proper (specs_in unit form f) (specs_from unit (suc form) fs) (form_proper unit form f) (all_proper unit (suc form) fs)
 
+-- ---- the name of a unit
+
+source_name : (kind : UnitKind) (n : Option LibraryName) (start : Place) (l : Listing) → (source_by kind n start l).name ≡ n
+source_name kind n start (Lists m fs ls) = refl
+source_name kind n start (BadAfter m h) = refl
+source_name kind n start TooLong = refl
+
 -- ---- other texts for the names
 
 module _ (spelled : LibraryName → List ℕ) (written : (n : LibraryName) → IsProper n → spelled n ≡ library_text n) where
@@ -122,5 +131,11 @@ module _ (spelled : LibraryName → List ℕ) (written : (n : LibraryName) → I
   name_spelled None h = refl
   name_spelled (Some n) h = ap Some (sym (written n h))
 
-  pub source_spelled : (known : Known) (unit : ℕ) (c : code.UnitSource) (d : Datum) → IsSource unit c (library_of known d) d → c.name ≡ option_map spelled (library_of known d).name
-  source_spelled known unit c d h = h.name ∙ name_spelled (library_of known d).name (unit_proper known d (behind_head d))
+  -- a unit's name, where it is proper
+  pub unit_spelled : (unit : ℕ) (c : code.UnitSource) (u : UnitSource) (d : Datum) → IfProper u.name → IsSource unit c u d → c.name ≡ option_map spelled u.name
+  unit_spelled unit c u d proper h = h.name ∙ name_spelled u.name proper
+
+  pub source_spelled : (t : Texts) (known : Known) (unit document : ℕ) (c : code.UnitSource) (d : Datum) → IsSource unit c (library_of t known document d) d → c.name ≡ option_map spelled (library_of t known document d).name
+  source_spelled t known unit document c d h =
+      let named = source_name IsLibrary (library_name d) (place_of d) (library_listing t known (own document d) (behind_head d)) in
+      unit_spelled unit c (library_of t known document d) d (subst IfProper (sym named) (library_name_proper (behind_head d))) h

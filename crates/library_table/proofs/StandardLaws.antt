@@ -3,7 +3,8 @@ use Rattle.std.proofs.Common.{◌≡◌, ℕ, suc, Bool, true, false, cond, List
 use Rattle.scheme_model.specs.Requirements.{LibraryName, same_library}
 use Rattle.scheme_model.specs.Order.{is_some}
 use Rattle.scheme_model.specs.StandardLibraries.{standard}
-use Rattle.scheme_model.specs.Program.{Placed, name_if, unless_standard, is_named, unit_named}
+use Rattle.scheme_model.specs.IncludedUnits.{Placed}
+use Rattle.scheme_model.specs.Program.{name_if, unless_standard, is_named, unit_named}
 use Rattle.library_table.proofs.NamedLaws.{library_told}
 
 not_same : (m n : LibraryName) → is_some (standard m) ≡ false → is_some (standard n) ≡ true → same_library m n ≡ false

@@ -1,7 +1,8 @@
 -- The order of units, each after what it imports, and the libraries that import one another in a circle (R7RS 5.6).
 use Rattle.std.specs.Prelude.{◌≡◌, ◌≢◌, ℕ, ◌<◌, List, [], ◌∷◌, ◌++◌, map, filter, length, slice_get, true, false, Option, Some, None, Result, Ok, Err}
 use Rattle.scheme_model.specs.Requirements.{LibraryName}
-use Rattle.scheme_model.specs.Program.{Placed, Prepared, prepare, is_in, on_circle, imported_as, UnitResult, fault_before}
+use Rattle.scheme_model.specs.IncludedUnits.{Placed}
+use Rattle.scheme_model.specs.Program.{Prepared, prepare, is_in, on_circle, imported_as, UnitResult, fault_before}
 use Rattle.import_sets.specs.InTurn.{in_turn, ComesAfter}
 use Rattle.library_table.specs.declared.fault.LibraryFault.{LibraryFault}
 use Rattle.library_table.specs.declared.fault.LibraryFault.TheVariants as fault

@@ -3,7 +3,8 @@ use Rattle.std.specs.Prelude.{ℕ, suc, ◌==◌, List, [], ◌∷◌, Bool, fal
 use Rattle.scheme_model.specs.Requirements.{LibraryName}
 use Rattle.scheme_model.specs.Order.{is_some}
 use Rattle.scheme_model.specs.StandardLibraries.{standard}
-use Rattle.scheme_model.specs.Program.{Placed, imported_as, unit_named}
+use Rattle.scheme_model.specs.IncludedUnits.{Placed}
+use Rattle.scheme_model.specs.Program.{imported_as, unit_named}
 
 abbrev pub is_at : ℕ → Option ℕ → Bool
 is_at n None = false

@@ -19,7 +19,7 @@ use Rattle.library_table.specs.declared.sets.Modified.{Modified}
 use Rattle.datum_reader.specs.declared.shape_fault.ShapeFault.{ShapeFault}
 use Rattle.datum_reader.specs.declared.shape_fault.ShapeFault.TheVariants as fault
 use Rattle.datum_reader.specs.Looks.{tree_at, trees_at, bytes_of, is_list}
-use Rattle.library_table.specs.PartsRead.{library_text}
+use Rattle.scheme_tokens.specs.LibraryNames.{library_text}
 
 -- the code's set is this one, its library's name as a text
 abbrev pub IsSetText : ImportSet → model.ImportSet → Type 0

@@ -2,8 +2,8 @@
 use Rattle.std.specs.Prelude.{◌≡◌, ℕ, suc, List, [], ◌∷◌, not}
 use Rattle.std.specs.Option.{option_map}
 use Rattle.scheme_model.specs.Requirements.{LibraryName}
-use Rattle.scheme_model.specs.Program.{Placed, ImportSpec, ExportSpec, imported_as, forms_or_none, specs_from, exports_from}
-use Rattle.scheme_model.specs.Declarations.{UnitSource}
+use Rattle.scheme_model.specs.IncludedUnits.{Placed, UnitSource}
+use Rattle.scheme_model.specs.Program.{ImportSpec, ExportSpec, imported_as, forms_or_none, specs_from, exports_from}
 use Rattle.import_sets.specs.Sets.{named, IsSetOf}
 use Rattle.import_sets.specs.Given.{same_place}
 use Rattle.library_table.specs.declared.units.ImportSpec as code_import

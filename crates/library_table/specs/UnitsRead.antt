@@ -1,21 +1,30 @@
--- What units that are read stand for (R7RS 5.1, 5.6.1): their forms, imports and exports, and the bytes of their first tokens.
-use Rattle.std.specs.Prelude.{◌≡◌, ℕ, List, [], ◌∷◌, ◌++◌, map, Bool, true, false, not, ◌&&◌, Option, Some, None, Ok, codes}
+-- What units that are read stand for (R7RS 5.1, 5.6.1): their forms, imports and exports, the strings that give them nothing, and the
+-- bytes of their first tokens.
+use Rattle.std.specs.Prelude.{◌≡◌, ◌==◌, ℕ, List, [], ◌∷◌, ◌++◌, map, Contains, Bool, true, false, ◌&&◌, Option, Some, None, Result, Ok, Err, codes}
+use Rattle.std.specs.List.{list_any}
 use Rattle.std.specs.Option.{option_map}
 use Rattle.scheme_model.specs.Data.{Datum}
 use Rattle.scheme_model.specs.Trees.{Tree, name, atom as atom_tree, list as list_tree, vector as vector_tree}
 use Rattle.scheme_model.specs.ExpansionFaults.{Named}
 use Rattle.scheme_model.specs.Program.{ImportSpec, ExportSpec, specs_from, exports_from}
-use Rattle.scheme_model.specs.Declarations.{UnitForm, UnitKind, IsLibrary, IsProgram, IsPart, UnitSource, is_headed, is_proper, is_library, program_forms, plain_form, program_in}
+use Rattle.scheme_model.specs.Declarations.{UnitForm, UnitKind, IsLibrary, IsProgram, IsPart, is_headed, is_proper, unit_or}
+use Rattle.scheme_model.specs.Included.{Homed, FlatForm, LostString, Listing, Lists, BadAfter, TooLong}
+use Rattle.scheme_model.specs.IncludedUnits.{UnitSource, BadAt, TooManyTokens, unit_form, with_imports, importing}
 use Rattle.syntax_tree.specs.declared.units.UnitKind as code_kind
 use Rattle.syntax_tree.specs.declared.units.UnitKind.TheVariants as kinds
 use Rattle.import_sets.specs.Sets.{named}
 use Rattle.datum_reader.specs.Views.{datum_of}
-use Rattle.datum_reader.specs.FirstTokens.{first_token}
+use Rattle.datum_reader.specs.FirstTokens.{first_token, span_of}
+use Rattle.datum_reader.specs.Looks.{bytes_of}
 use Rattle.library_table.specs.declared.units.ImportSpec as code_import
 use Rattle.library_table.specs.declared.units.ExportSpec as code_export
 use Rattle.library_table.specs.declared.units.UnitForm as code_form
+use Rattle.library_table.specs.declared.units.LostString as code_lost
 use Rattle.library_table.specs.declared.units.UnitSource as code
-use Rattle.library_table.specs.PartsRead.{library_text}
+use Rattle.library_table.specs.declared.reading.Lists as code_lists
+use Rattle.library_table.specs.declared.fault.LibraryFault.{LibraryFault}
+use Rattle.library_table.specs.declared.fault.LibraryFault.TheVariants as fault
+use Rattle.scheme_tokens.specs.LibraryNames.{library_text}
 use Rattle.library_table.specs.SetsRead.{IsImportSpec}
 
 -- ---- forms
@@ -71,6 +80,30 @@ AreExportsRead cs xs = Pairs IsExportRead cs xs
 abbrev pub AddsExports : List code_export.ExportSpec → List code_export.ExportSpec → List ExportSpec → Type 0
 AddsExports old new xs = Adds IsExportRead old new xs
 
+-- ---- strings that mean no text
+
+-- a string as the code keeps it
+abbrev pub lost_as : LostString → code_lost.LostString
+lost_as l = record { document = l.document; span = span_of l.string.place; characters = l.string.characters }
+
+-- both begin at one byte of one document
+abbrev pub begins_as : code_lost.LostString → LostString → Bool
+begins_as c l = (c.document == l.document) && (c.span.start == l.string.place.start)
+
+-- each of these strings is kept
+abbrev pub KeepsAll : List code_lost.LostString → List LostString → Type 0
+KeepsAll cs [] = Unit {0}
+KeepsAll cs (l ∷ ls) = Contains cs (lost_as l) × KeepsAll cs ls
+
+-- each that is kept begins where one of these does
+abbrev pub KeepsOnly : List code_lost.LostString → List LostString → Type 0
+KeepsOnly [] ls = Unit {0}
+KeepsOnly (c ∷ cs) ls = (list_any (begins_as c) ls ≡ true) × KeepsOnly cs ls
+
+pub record AreLost (cs : List code_lost.LostString) (ls : List LostString) : Type 0 where
+  pub all : KeepsAll cs ls
+  pub only : KeepsOnly cs ls
+
 -- ---- units
 
 abbrev pub kind_of : code_kind.UnitKind → UnitKind
@@ -86,21 +119,45 @@ pub record IsSource (unit : ℕ) (c : code.UnitSource) (u : UnitSource) (d : Dat
   pub span : c.span ≡ first_token d
   pub imports : AreSpecs c.imports (specs_from unit 0 (forms_of c.forms))
   pub exports : AreExportsRead c.exports (exports_from unit 0 (forms_of c.forms))
+  pub lost : AreLost c.lost u.lost
 
--- ---- programs
+-- a unit was read; or its first bad declaration, with a unit of the document where it stands, or that its forms have too many tokens;
+-- want of memory may come with any
+abbrev pub IsUnitRead : ℕ → Datum → UnitSource → Result code.UnitSource LibraryFault → Type 0
+IsUnitRead unit d u (Ok c) = IsSource unit c u d
+IsUnitRead unit d u (Err fault.Memory) = Unit {0}
+IsUnitRead unit d u (Err (fault.BadDeclaration n span)) = (h : Homed) × (u.forms ≡ Err (BadAt h)) × (n ≡ unit_or unit h.home) × (span ≡ bytes_of h.datum)
+IsUnitRead unit d u (Err fault.TooManyTokens) = u.forms ≡ Err TooManyTokens
+IsUnitRead unit d u (Err (fault.Cycle names)) = ⊥
+IsUnitRead unit d u (Err fault.SameLibrary) = ⊥
+IsUnitRead unit d u (Err (fault.NotDefined s)) = ⊥
+IsUnitRead unit d u (Err (fault.SameExport s)) = ⊥
+
+-- ---- what texts list
 
 abbrev pub is_import : Datum → Bool
 is_import d = is_headed (codes "import") d && is_proper d
 
-abbrev pub not_library : Datum → Bool
-not_library d = not (is_library d)
+-- the forms of what is left of a unit, whose imports are declared where only imports came before
+abbrev pub forms_left : Bool → List FlatForm → List UnitForm
+forms_left true fs = map unit_form (with_imports fs)
+forms_left false fs = map unit_form fs
 
--- the forms of what is left of a program, where only imports came before or not
-abbrev pub rest_forms : Bool → List Datum → List UnitForm
-rest_forms true ds = program_forms ds
-rest_forms false ds = map plain_form ds
+abbrev pub listing_left : Bool → Listing → Listing
+listing_left true l = importing l
+listing_left false l = l
 
--- the program of these data, which are no libraries
-abbrev pub IsProgramRead : ℕ → List Datum → Option code.UnitSource → Type 0
-IsProgramRead unit ds None = ds ≡ []
-IsProgramRead unit ds (Some c) = (d : Datum) × (rest : List Datum) × (u : UnitSource) × (ds ≡ d ∷ rest) × (program_in ds ≡ u ∷ []) × IsSource unit c u d
+-- the forms and the strings of a listing, or its end
+abbrev pub IsListingRead : ℕ → Bool → Listing → Result code_lists.Lists LibraryFault → Type 0
+IsListingRead unit leading l (Ok c) = (n : ℕ) × (fs : List FlatForm) × (ls : List LostString) × (l ≡ Lists n fs ls) × (forms_of c.forms.items ≡ forms_left leading fs) × AreLost c.lost ls
+IsListingRead unit leading l (Err fault.Memory) = Unit {0}
+IsListingRead unit leading l (Err (fault.BadDeclaration m span)) = (n : ℕ) × (h : Homed) × (l ≡ BadAfter n h) × (m ≡ unit_or unit h.home) × (span ≡ bytes_of h.datum)
+IsListingRead unit leading l (Err fault.TooManyTokens) = l ≡ TooLong
+IsListingRead unit leading l (Err (fault.Cycle names)) = ⊥
+IsListingRead unit leading l (Err fault.SameLibrary) = ⊥
+IsListingRead unit leading l (Err (fault.NotDefined s)) = ⊥
+IsListingRead unit leading l (Err (fault.SameExport s)) = ⊥
+
+-- the end of a listing by the datum where it is bad
+abbrev pub IsBadAt : ℕ → Homed → LibraryFault → Type 0
+IsBadAt unit h e = e ≡ fault.BadDeclaration (unit_or unit h.home) (bytes_of h.datum)

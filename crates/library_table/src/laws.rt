@@ -1,9 +1,11 @@
 //! Laws of what the calls answer. Each is the contract of a function that does nothing.
 ghost use Rattle.std.specs.Option.{option_map};
 ghost use Rattle.std.specs.Prelude.{◌≡◌, ◌||◌, ◌++◌, [], ℕ, List, Some, None, true, length, map, reverse, slice_get};
-ghost use Rattle.scheme_model.specs.Program.{Document, Placed, all_names, has_name, known_in, forms_or_none, prepared, specs_from, is_in, name_if, unit_named, is_repeated, Progress, work};
+ghost use Rattle.scheme_model.specs.Included.{Texts};
+ghost use Rattle.scheme_model.specs.IncludedUnits.{Placed, UnitSource, library_of};
+ghost use Rattle.scheme_model.specs.Includes.{Document};
+ghost use Rattle.scheme_model.specs.Program.{all_names, has_name, known_in, forms_or_none, prepared, specs_from, is_in, name_if, unit_named, is_repeated, Progress, work};
 ghost use Rattle.scheme_model.specs.Data.{Datum};
-ghost use Rattle.scheme_model.specs.Declarations.{UnitSource, library_of};
 ghost use Rattle.scheme_model.specs.Requirements.{Known, LibraryName};
 ghost use Rattle.scheme_model.specs.StandardLibraries.{standard_libraries};
 ghost use Rattle.scheme_tokens.specs.LibraryNames.{library_text, IsProper};
@@ -33,7 +35,8 @@ pub fn turns_are_the_order_of_work()
 
 /// What a datum is as a library rests on which proper names there are, and on no others (R7RS 4.2.1, 5.6.1).
 pub fn units_by_proper_names()
-    ensures { (known others : Known) → ((n : LibraryName) → IsProper n → known n ≡ others n) → (d : Datum) → library_of known d ≡ library_of others d }
+    ensures { (known others : Known) → ((n : LibraryName) → IsProper n → known n ≡ others n) → (t : Texts) (document : ℕ) (d : Datum) →
+        library_of t known document d ≡ library_of t others document d }
 {}
 
 /// Whether a library is there is told by the text of its name, among those of the standard libraries and of the documents'
@@ -49,5 +52,6 @@ pub fn names_are_read()
     ensures imports { (spelled : LibraryName → List ℕ) → ((n : LibraryName) → IsProper n → spelled n ≡ library_text n) →
         (unit : ℕ) (c : CodeSource) (u : UnitSource) (d : Datum) → IsSource unit c u d → AreImports spelled c.imports (specs_from unit 0 (forms_or_none u.forms)) }
     ensures name { (spelled : LibraryName → List ℕ) → ((n : LibraryName) → IsProper n → spelled n ≡ library_text n) →
-        (known : Known) (unit : ℕ) (c : CodeSource) (d : Datum) → IsSource unit c (library_of known d) d → c.name ≡ option_map spelled (library_of known d).name }
+        (t : Texts) (known : Known) (unit document : ℕ) (c : CodeSource) (d : Datum) → IsSource unit c (library_of t known document d) d →
+        c.name ≡ option_map spelled (library_of t known document d).name }
 {}

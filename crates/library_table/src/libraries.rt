@@ -1,13 +1,16 @@
 //! A library as it is written (R7RS 5.6.1).
-ghost use Rattle.std.specs.Prelude.{◌≡◌, ◌<◌, ℕ, length, Option, IfOk};
+ghost use Rattle.std.specs.Prelude.{◌≡◌, ◌<◌, length, Option, IfOk};
 ghost use Rattle.std.specs.Option.{option_map};
-ghost use Rattle.scheme_model.specs.Declarations.{library_name};
+ghost use Rattle.scheme_model.specs.Data.{Datum as ModelDatum, Place, list, row};
+ghost use Rattle.scheme_model.specs.Declarations.{library_name, name_or, symbol_tree};
 ghost use Rattle.scheme_model.specs.Included.{Sources, Texts};
 ghost use Rattle.scheme_model.specs.IncludedUnits.{library_of};
-ghost use Rattle.datum_reader.specs.Views.{datum_of};
+ghost use Rattle.scheme_model.specs.Requirements.{library_name_of};
+ghost use Rattle.scheme_tokens.specs.LibraryNames.{library_text};
+ghost use Rattle.datum_reader.specs.Looks.{end_with};
+ghost use Rattle.datum_reader.specs.Views.{datum_of, data_of};
 ghost use Rattle.included_forms.specs.Tables.{Serve};
 ghost use Rattle.included_forms.specs.Built.{AreDocuments, IsTable};
-ghost use Rattle.scheme_tokens.specs.LibraryNames.{library_text};
 ghost use Rattle.library_table.specs.UnitsRead.{IsUnitRead};
 
 use crate::fault::LibraryFault;
@@ -37,7 +40,9 @@ pub fn library_name(alloc: Global, datum: &Datum) -> Mem<Option<Text>>
 }
 
 /// The name that the second part of a list is.
-fn second_name(alloc: Global, parts: &[Datum]) -> Mem<Option<Text>> {
+fn second_name(alloc: Global, parts: &[Datum]) -> Mem<Option<Text>>
+    ensures { (p : Place) (end : Option ModelDatum) → IfOk result (λ name. name ≡ option_map library_text (library_name (list p (row (data_of parts.now) (end_with end))))) }
+{
     match row_of(parts) {
         Row::Empty => Ok(None),
         Row::Parts(_, behind) => match row_of(behind) {
@@ -48,7 +53,9 @@ fn second_name(alloc: Global, parts: &[Datum]) -> Mem<Option<Text>> {
 }
 
 /// The text of the name that a datum is.
-fn text_of(alloc: Global, name: &Datum) -> Mem<Option<Text>> {
+fn text_of(alloc: Global, name: &Datum) -> Mem<Option<Text>>
+    ensures { IfOk result (λ text. text ≡ option_map library_text (name_or (library_name_of (λ s. s) (symbol_tree (datum_of name.now))))) }
+{
     match library_names::library_name(alloc, name) {
         Ok(text) => Ok(Some(text)),
         Err(ShapeFault::BadForm) => Ok(None),
@@ -69,11 +76,12 @@ pub fn read_unit<'a>(
     unit: u32,
 ) -> Result<UnitSource, LibraryFault>
     requires { document < length documents.now.uris.now }
-    ensures { (o : Sources) (t : Texts) → AreDocuments o documents.now → IsTable o table.now → Serve o t →
-        IsUnitRead unit (library_of t o.known document (datum_of datum.now)) result }
+    ensures { (o : Sources) (t : Texts) → AreDocuments o documents.now → IsTable o table.now → Serve o t → let d = datum_of datum.now in
+        IsUnitRead unit d (library_of t o.known document d) result }
 {
     let listed = table.library(alloc, documents, document, datum)?;
-    let lists = forms_listed(alloc, unit, listed)?;
+    let lists = forms_listed(alloc, unit, listed, false)?;
     let name = library_name(alloc, datum)?;
-    source(alloc, UnitKind::Library, name, first_token(datum), unit, lists)
+    let span = first_token(datum);
+    Ok(source(alloc, UnitKind::Library, name, span, unit, lists)?)
 }

@@ -6,7 +6,8 @@ ghost use Rattle.scheme_model.specs.Entries.{pair_of, pairs_of};
 ghost use Rattle.import_sets.specs.Sets.{named, paired};
 ghost use Rattle.datum_reader.specs.Looks.{tree_at, trees_at, is_dotted};
 ghost use Rattle.datum_reader.specs.Forms.{place};
-ghost use Rattle.library_table.specs.PartsRead.{Reads, names_in, pairs_in, only_name, pair_in};
+ghost use Rattle.known_libraries.specs.PartsRead.{Reads};
+ghost use Rattle.library_table.specs.PartsRead.{names_in, pairs_in, only_name, pair_in};
 
 use datum_reader::Datum;
 use datum_reader::look::{Look, Row, look_at, row_of};

@@ -1,7 +1,7 @@
 //! The order of units, each after what it imports (R7RS 5.6).
 ghost use Rattle.std.specs.Prelude.{◌<◌, ◌^◌, ℕ, List, length, IfOk};
 ghost use Rattle.scheme_model.specs.Requirements.{LibraryName};
-ghost use Rattle.scheme_model.specs.Program.{Placed};
+ghost use Rattle.scheme_model.specs.IncludedUnits.{Placed};
 ghost use Rattle.library_table.specs.Sources.{TellsNames, AreUnits};
 ghost use Rattle.library_table.specs.Orders.{Answers, ArePlaces};
 

@@ -1,42 +1,30 @@
 //! The program of a document (R7RS 5.1): all that is no library.
-ghost use Rattle.std.specs.Prelude.{◌≡◌, ◌<◌, filter, length, map, List, Option, IfOk};
+ghost use Rattle.std.specs.Prelude.{◌≡◌, ◌∷◌, ◌++◌, ◌<◌, [], ℕ, false, length, map, slice_get, List, IfOk, OnOk};
+ghost use Rattle.std.specs.Option.{option_map};
+ghost use Rattle.scheme_model.specs.Data.{Datum as ModelDatum, place_of};
+ghost use Rattle.scheme_model.specs.Declarations.{plain_form};
 ghost use Rattle.scheme_model.specs.Included.{Sources, Texts};
-ghost use Rattle.scheme_model.specs.IncludedUnits.{program_in};
+ghost use Rattle.scheme_model.specs.IncludedUnits.{UnitSource as ModelSource, part_of, program_in};
 ghost use Rattle.scheme_model.specs.Includes.{program_data};
+ghost use Rattle.datum_reader.specs.FirstTokens.{first_token};
 ghost use Rattle.datum_reader.specs.Views.{datum_of, data_of};
 ghost use Rattle.included_forms.specs.Tables.{Serve};
 ghost use Rattle.included_forms.specs.Built.{AreDocuments, IsTable};
-ghost use Rattle.library_table.specs.UnitsRead.{forms_of, is_import, IsProgramRead};
+ghost use Rattle.library_table.specs.UnitsRead.{forms_of, IsSource, IsUnitRead};
 
 use crate::fault::LibraryFault;
-use crate::reading::{Lists, forms_listed, push_form, source};
+use crate::reading::{forms_listed, push_form, source};
 use crate::units::{UnitForm, UnitSource};
 use datum_reader::Datum;
-use datum_reader::heads::{first_token, is_headed, is_proper};
+use datum_reader::heads::is_headed;
 use included_forms::{Documents, Table};
 use ls_base::{Items, Mem, Span};
 use std::alloc::Global;
 use syntax_tree::units::UnitKind;
 
-/// Whether a datum imports, where it stands before all that doesn't.
-fn is_import(datum: &Datum) -> bool
-    ensures { result ≡ is_import (datum_of datum.now) }
-{
-    is_headed("import", datum) && is_proper(datum)
-}
-
-/// Makes the leading imports among forms declarations.
-fn declare_imports(forms: &mut [UnitForm]) {
-    for form in forms {
-        if !is_import(&form.datum) {
-            return;
-        }
-        form.declared = true;
-    }
-}
-
 /// The first datum of a document that is no library.
 pub fn first_of_program(data: &[Datum]) -> Option<&Datum>
+    ensures { option_map (λ d. datum_of d.now) result ≡ slice_get (program_data (data_of «data».now)) 0 }
 {
     for datum in data {
         if !is_headed("define-library", datum) {
@@ -46,21 +34,32 @@ pub fn first_of_program(data: &[Datum]) -> Option<&Datum>
     None
 }
 
+/// Adds a datum to the forms of a part, unless it is a library.
+fn add_plain(alloc: Global, forms: &mut Vec<UnitForm>, datum: &Datum) -> Mem<()>
+    ensures { OnOk result (forms_of forms.new.items ≡ forms_of forms.old.items ++ map plain_form (program_data (datum_of datum.now ∷ []))) }
+{
+    if is_headed("define-library", datum) {
+        return Ok(());
+    }
+    push_form(alloc, forms, datum, false, None)
+}
+
 /// The data of a document that are no libraries, as forms.
 fn plain_forms(alloc: Global, data: &[Datum]) -> Mem<Vec<UnitForm>>
     ensures { IfOk result (λ forms. forms_of forms.items ≡ map plain_form (program_data (data_of «data».now))) }
 {
     let mut forms = Vec::new(alloc);
     for datum in data {
-        if !is_headed("define-library", datum) {
-            push_form(alloc, &mut forms, datum, false, None)?;
-        }
+        add_plain(alloc, &mut forms, datum)?;
     }
     Ok(forms)
 }
 
-/// The program of a text that others include: its data, which are worked on where they are included.
-pub fn read_part(alloc: Global, data: &[Datum], span: Span) -> Mem<UnitSource> {
+/// The program of a text that others include, whose first token has these bytes: its data, which are worked on where they are included.
+pub fn read_part(alloc: Global, data: &[Datum], span: Span) -> Mem<UnitSource>
+    ensures { (d : ModelDatum) (rest : List ModelDatum) → program_data (data_of «data».now) ≡ d ∷ rest → span ≡ first_token d →
+        IfOk result (λ source. (unit : ℕ) → IsSource unit source (part_of (place_of d) (d ∷ rest)) d) }
+{
     let forms = plain_forms(alloc, data)?;
     Ok(UnitSource {
         kind: UnitKind::Part,
@@ -85,16 +84,11 @@ pub fn read_program<'a>(
     unit: u32,
 ) -> Result<UnitSource, LibraryFault>
     requires { document < length documents.now.uris.now }
+    ensures { (o : Sources) (t : Texts) → AreDocuments o documents.now → IsTable o table.now → Serve o t →
+        (d : ModelDatum) (rest : List ModelDatum) → program_data (data_of «data».now) ≡ d ∷ rest → span ≡ first_token d →
+        (u : ModelSource) → program_in t document false (d ∷ rest) ≡ u ∷ [] → IsUnitRead unit d u result }
 {
     let listed = table.program(alloc, documents, document, data)?;
-    let Lists { mut forms, lost } = forms_listed(alloc, unit, listed)?;
-    declare_imports(forms.as_mut_slice());
-    source(
-        alloc,
-        UnitKind::Program,
-        None,
-        span,
-        unit,
-        Lists { forms, lost },
-    )
+    let lists = forms_listed(alloc, unit, listed, true)?;
+    Ok(source(alloc, UnitKind::Program, None, span, unit, lists)?)
 }

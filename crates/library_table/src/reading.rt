@@ -1,14 +1,20 @@
 //! The forms of units as texts list them, with what they import and export (R7RS 5.1, 5.6.1).
-ghost use Rattle.std.specs.Prelude.{◌≡◌, ◌++◌, ◌∷◌, [], map, ℕ, List, IfOk, OnOk};
-ghost use Rattle.scheme_model.specs.IncludedUnits.{unit_form};
-ghost use Rattle.included_forms.specs.Steps.{form_of as listed_form};
-ghost use Rattle.library_table.specs.UnitsRead.{forms_of};
+ghost use Rattle.std.specs.Prelude.{◌≡◌, ◌++◌, ◌∷◌, [], map, IfOk, OnOk};
+ghost use Rattle.scheme_model.specs.Declarations.{unit_or};
+ghost use Rattle.scheme_model.specs.Included.{Listing};
+ghost use Rattle.scheme_model.specs.Program.{specs_from, exports_from};
+ghost use Rattle.datum_reader.specs.Views.{datum_of};
+ghost use Rattle.included_forms.specs.Counted.{lost_of};
+ghost use Rattle.included_forms.specs.Listed.{IsListed};
+ghost use Rattle.included_forms.specs.Steps.{homed_of, form_of as listed_form};
+ghost use Rattle.library_table.specs.UnitsRead.{forms_of, forms_left, is_import, lost_as, AreSpecs, AreExportsRead, IsBadAt, IsListingRead};
 
 use crate::export_specs::exports_read;
 use crate::fault::LibraryFault;
 use crate::parts::imports_of;
 use crate::units::{LostString, UnitForm, UnitSource};
 use datum_reader::Datum;
+use datum_reader::heads::{is_headed, is_proper};
 use included_forms::Listed;
 use included_forms::given::LostString as Lost;
 use included_forms::steps::{FlatForm, Source};
@@ -43,48 +49,83 @@ pub fn push_form(
     Ok(())
 }
 
-/// Forms as they are listed, each with its datum copied.
-fn copied(alloc: Global, listed: &[FlatForm<'_>]) -> Mem<Vec<UnitForm>>
-    ensures { IfOk result (λ forms. forms_of forms.items ≡ map (λ f. unit_form (listed_form f)) listed.now) }
+/// Whether a datum imports, where it stands before all that doesn't.
+fn is_import(datum: &Datum) -> bool
+    ensures { result ≡ is_import (datum_of datum.now) }
+{
+    is_headed("import", datum) && is_proper(datum)
+}
+
+/// Forms as they are listed, each with its datum copied. Imports that lead are declared, where they are asked for.
+#[tactic(auto, using(crate::proofs::ListingRows::copied_more))]
+fn copied(alloc: Global, listed: &[FlatForm<'_>], leading: bool) -> Mem<Vec<UnitForm>>
+    ensures { IfOk result (λ forms. forms_of forms.items ≡ forms_left leading (map listed_form listed.now)) }
 {
     let mut forms = Vec::new(alloc);
+    let mut leads = leading;
     for form in listed {
         let Source { origin, datum } = form.source;
-        push_form(alloc, &mut forms, datum, form.declared, origin.home)?;
+        leads = leads && is_import(datum);
+        push_form(alloc, &mut forms, datum, leads || form.declared, origin.home)?;
     }
     Ok(forms)
 }
 
-/// Strings that mean no text, each with its characters copied.
-fn lost_strings(alloc: Global, lost: &[Lost<'_>]) -> Mem<Items<LostString>> {
+/// A string that means no text, with its characters copied.
+fn lost_string(alloc: Global, lost: &Lost<'_>) -> Mem<LostString>
+    ensures { IfOk result (λ string. string ≡ lost_as (lost_of lost.now)) }
+{
+    Ok(LostString {
+        document: lost.document,
+        span: lost.string.datum.span,
+        characters: Text::of(alloc, lost.string.characters)?,
+    })
+}
+
+/// Strings that mean no text.
+fn lost_strings(alloc: Global, lost: &[Lost<'_>]) -> Mem<Items<LostString>>
+    ensures { IfOk result (λ strings. strings ≡ map lost_as (map lost_of lost.now)) }
+{
     let mut strings = Items::new(alloc);
     for it in lost {
-        strings.push(LostString {
-            document: it.document,
-            span: it.string.datum.span,
-            characters: Text::of(alloc, it.string.characters)?,
-        })?;
+        let string = lost_string(alloc, it)?;
+        strings.push(string)?;
     }
     Ok(strings)
 }
 
-/// A bad declaration, with a unit of the document where it stands.
-fn bad(unit: u32, source: Source<'_>) -> LibraryFault {
-    let unit = match source.origin.home {
+/// The unit of a home, or this one where there is none.
+fn unit_or(unit: u32, home: Option<Home>) -> u32
+    ensures { result ≡ unit_or unit home }
+{
+    match home {
         None => unit,
         Some(home) => home.unit,
-    };
+    }
+}
+
+/// A bad declaration, with a unit of the document where it stands.
+fn bad(unit: u32, source: Source<'_>) -> LibraryFault
+    ensures { IsBadAt unit (homed_of source.entry) result }
+{
     LibraryFault::BadDeclaration {
-        unit,
+        unit: unit_or(unit, source.origin.home),
         span: source.datum.span,
     }
 }
 
-/// What a unit gives, or why it has no forms.
-pub fn forms_listed(alloc: Global, unit: u32, listed: Listed<'_>) -> Result<Lists, LibraryFault> {
+/// What a unit gives, or why it has no forms. Imports that lead are declared, where they are asked for.
+pub fn forms_listed(
+    alloc: Global,
+    unit: u32,
+    listed: Listed<'_>,
+    leading: bool,
+) -> Result<Lists, LibraryFault>
+    ensures { (l : Listing) → IsListed listed.entry l → IsListingRead unit leading l result }
+{
     match listed {
         Listed::Lists { forms, lost } => {
-            let forms = copied(alloc, forms.as_slice())?;
+            let forms = copied(alloc, forms.as_slice(), leading)?;
             let lost = lost_strings(alloc, lost.as_slice())?;
             Ok(Lists { forms, lost })
         }
@@ -101,7 +142,15 @@ pub fn source(
     span: Span,
     unit: u32,
     lists: Lists,
-) -> Result<UnitSource, LibraryFault> {
+) -> Mem<UnitSource>
+    ensures kind { IfOk result (λ source. source.kind ≡ kind) }
+    ensures name { IfOk result (λ source. source.name ≡ name) }
+    ensures span { IfOk result (λ source. source.span ≡ span) }
+    ensures forms { IfOk result (λ source. source.forms ≡ lists.forms.items) }
+    ensures lost { IfOk result (λ source. source.lost ≡ lists.lost) }
+    ensures imports { IfOk result (λ source. AreSpecs source.imports (specs_from unit 0 (forms_of lists.forms.items))) }
+    ensures exports { IfOk result (λ source. AreExportsRead source.exports (exports_from unit 0 (forms_of lists.forms.items))) }
+{
     let Lists { forms, lost } = lists;
     let imports = imports_of(alloc, unit, forms.as_slice())?;
     let exports = exports_read(alloc, unit, forms.as_slice())?;

@@ -2,7 +2,8 @@
 ghost use Rattle.std.specs.Prelude.{◌≡◌, ◌<◌, ◌^◌, ◌++◌, ◌∷◌, [], ℕ, List, IfOk, OnOk, length, true, if◌then◌else◌};
 ghost use Rattle.std.specs.BTreeMap.{get_by_text};
 ghost use Rattle.scheme_model.specs.Requirements.{LibraryName};
-ghost use Rattle.scheme_model.specs.Program.{Placed, is_in};
+ghost use Rattle.scheme_model.specs.IncludedUnits.{Placed};
+ghost use Rattle.scheme_model.specs.Program.{is_in};
 ghost use Rattle.library_table.specs.Named.{place_named, is_other, is_later, later_from};
 ghost use Rattle.library_table.specs.Sources.{TellsNames, AreUnits};
 ghost use Rattle.library_table.specs.Repeated.{repeated_places};

@@ -1,5 +1,5 @@
 use Rattle.std.proofs.Common.{take, sym, ap, ◌∙◌, arith}
-use Rattle.scheme_model.specs.Program.{max_units}
+use Rattle.scheme_model.specs.Includes.{max_units}
 use Rattle.library_table.specs.declared.units.UnitSource.{UnitSource}
 use Rattle.library_table.specs.Named.{is_name, place_named}
 use Rattle.document_units.proofs.BrokenLaws.{first_below, few_taken, taken_within}

@@ -1,6 +1,6 @@
 use Rattle.std.proofs.Common.{sym, arith}
 use Rattle.std.proofs.lemmas.List.{length-take-le}
-use Rattle.scheme_model.specs.Program.{max_units}
+use Rattle.scheme_model.specs.Includes.{max_units}
 use Rattle.document_units.proofs.BrokenLaws.{all_taken}
 use Rattle.document_units.proofs.breaking.foremost.Goals as goal
 

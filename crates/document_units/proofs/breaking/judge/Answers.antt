@@ -1,6 +1,7 @@
 use Rattle.std.proofs.Common.{ℕ, List, length, take, vec_len, sym, ap, ◌∙◌, subst, arith}
 use Rattle.scheme_model.specs.Requirements.{LibraryName}
-use Rattle.scheme_model.specs.Program.{Placed, max_units}
+use Rattle.scheme_model.specs.Includes.{max_units}
+use Rattle.scheme_model.specs.IncludedUnits.{Placed}
 use Rattle.base_library.specs.Texts.{SpellsStandard}
 use Rattle.library_table.specs.declared.units.UnitSource.{UnitSource}
 use Rattle.library_table.specs.Named.{place_named}

@@ -5,7 +5,7 @@ use Rattle.document_units.proofs.DocumentLaws.{no_data}
 use Rattle.document_units.proofs.documents.stopped.Goals as goal
 
 pub returns-clause-document : goal.returns-clause-document
-returns-clause-document c = λ stops. c.document_of.ensures.document (Stops (stop_of c.args.unread)) stops (c.new-items.ensures, c.new-spans.ensures.items, (refl, refl, refl))
+returns-clause-document c = λ stops. c.document_of.ensures.document (Stops c.args.opened.uri.now (stop_of c.args.unread)) stops refl (c.new-items.ensures, c.new-spans.ensures.items, (refl, refl, refl))
 
 pub returns-clause-read : goal.returns-clause-read
 returns-clause-read c = c.document_of.ensures.read (no_data c.new-items.result c.new-items.ensures)

@@ -1,8 +1,8 @@
-use Rattle.std.proofs.Common.{◌+◌, take}
-use Rattle.scheme_model.specs.Declarations.{libraries_in}
-use Rattle.scheme_model.specs.Requirements.{Known}
+use Rattle.std.proofs.Common.{◌+◌, map, take}
+use Rattle.scheme_model.specs.Included.{Sources, all_texts}
+use Rattle.scheme_model.specs.IncludedUnits.{unless_circular, libraries_in}
 use Rattle.datum_reader.specs.Views.{data_of}
-use Rattle.library_table.specs.PartsRead.{Knows}
+use Rattle.document_units.specs.Listing.{IsReader, IsAt}
 use Rattle.document_units.specs.Sound.{IsSound}
 use Rattle.document_units.specs.UnitsListed.{AddsRead}
 use Rattle.document_units.proofs.listing.add_libraries.Given as goal
@@ -11,5 +11,6 @@ use Rattle.document_units.proofs.listing.add_libraries.Given as goal
 abbrev pub invariant-loop-datum : goal.invariant-loop-datum
 invariant-loop-datum l = record {
   sound : IsSound (l.document + 1) l.units;
-  added : (has : Known) → Knows l.known.names has → AddsRead l.document (libraries_in has (data_of (take l.datum-index l.items))) l.fn.units l.units;
+  added : (o : Sources) → IsReader o l.reader → IsAt o l.document l.items l.part →
+      AddsRead o.documents l.document (map (unless_circular l.part.on_circle) (libraries_in (all_texts o) o.known l.document (data_of (take l.datum-index l.items)))) l.fn.units l.units;
 }

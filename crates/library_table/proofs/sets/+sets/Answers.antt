@@ -7,7 +7,7 @@ use Rattle.datum_reader.specs.Forms.{place}
 use Rattle.datum_reader.specs.Looks.{tree_at, trees_at}
 use Rattle.library_table.specs.SetsRead.{modifier_as, IsSetText}
 use Rattle.datum_reader.proofs.LookLaws.{list_seen}
-use Rattle.library_table.proofs.SetRows.{parts_lighter}
+use Rattle.known_libraries.proofs.WeightLaws.{parts_lighter}
 use Rattle.library_table.proofs.sets.+sets.Goals as goal
 
 pub set_of-set_of_list-requires : goal.set_of-set_of_list-requires

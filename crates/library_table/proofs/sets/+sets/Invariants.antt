@@ -1,6 +1,6 @@
 use Rattle.std.proofs.Common.{◌*◌, ◌+◌}
 use Rattle.datum_reader.specs.Views.{datum_of, data_of}
-use Rattle.library_table.specs.Weights.{weight, row_weight}
+use Rattle.known_libraries.specs.Weights.{weight, row_weight}
 use Rattle.library_table.proofs.sets.+sets.Given as goal
 
 abbrev pub decreases-set_of : goal.decreases-set_of

@@ -2,8 +2,8 @@ use Rattle.std.proofs.Common.{sym, ap}
 use Rattle.scheme_model.specs.Requirements.{library_name_of}
 use Rattle.scheme_model.specs.Entries.{Library, or_bad}
 use Rattle.datum_reader.specs.Looks.{tree_at}
-use Rattle.library_table.specs.PartsRead.{library_text}
-use Rattle.library_table.proofs.NameTexts.{ok_of}
+use Rattle.scheme_tokens.specs.LibraryNames.{library_text}
+use Rattle.known_libraries.proofs.NameTexts.{ok_of}
 use Rattle.library_table.proofs.sets.library_set.Goals as goal
 
 pub returns-in-Ok : goal.returns-in-Ok

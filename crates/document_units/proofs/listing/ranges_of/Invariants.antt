@@ -1,0 +1,7 @@
+use Rattle.std.proofs.Common.{◌≡◌, take}
+use Rattle.library_table.specs.UnitsRead.{forms_of}
+use Rattle.document_units.specs.UnitsListed.{ranges_from}
+use Rattle.document_units.proofs.listing.ranges_of.Given as goal
+
+abbrev pub invariant-loop-place : goal.invariant-loop-place
+invariant-loop-place l = l.ranges.items ≡ ranges_from l.unit 0 (forms_of (take l.place l.forms))
