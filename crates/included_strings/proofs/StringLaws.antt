@@ -78,7 +78,7 @@ included_other word d [] e is h = absurd cc
 included_other word d (x ∷ xs) e is h = headed word d (data_of (x ∷ xs)) e is ∙ some_other _ (data_of xs) h
 
 pub included_all : (word : List ℕ) (d : Datum) (ds : Bor (List code.Datum)) → is_headed word d ≡ true → data_of ds.now ≡ behind_first (list_parts d) → 0 < length ds.now → list_all is_string (data_of ds.now) ≡ true → AreStrings (Some ds) (included_by word d)
-included_all word d ds e is some h = go ds.now is some h
+included_all word d ds e is some h = (go ds.now is some h, h)
   where
     go : (xs : List code.Datum) → data_of xs ≡ behind_first (list_parts d) → 0 < length xs → list_all is_string (data_of xs) ≡ true → included_by word d ≡ Some (strings_among (data_of xs))
     go [] q s k = absurd (omega arith)

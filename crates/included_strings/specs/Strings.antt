@@ -1,7 +1,7 @@
 -- Strings as they are read.
-use Rattle.std.specs.Prelude.{◌≡◌, ℕ, List, [], ◌∷◌, map, Bool, Option, Some, None}
+use Rattle.std.specs.Prelude.{◌≡◌, ℕ, List, [], ◌∷◌, map, Bool, true, Option, Some, None}
 use Rattle.std.specs.Option.{is_some}
-use Rattle.std.specs.List.{flat_map}
+use Rattle.std.specs.List.{flat_map, list_all}
 use Rattle.std.specs.Global.{Box}
 use Rattle.std.specs.Borrow.{Bor}
 use Rattle.scheme_model.specs.Data.{Datum, spelled, implied, atom, list, vector, bytes}
@@ -29,10 +29,10 @@ strings_among (d ∷ ds) = with_some (string_in d) (strings_among ds)
     with_some None ss = ss
     with_some (Some s) ss = s ∷ ss
 
--- the data are those strings, where a list includes
+-- the data are those strings and nothing else, where a list includes
 abbrev pub AreStrings : Option (Bor (List code.Datum)) → Option (List StringAt) → Type 0
 AreStrings None ss = ss ≡ None
-AreStrings (Some ds) ss = ss ≡ Some (strings_among (data_of ds.now))
+AreStrings (Some ds) ss = (ss ≡ Some (strings_among (data_of ds.now))) × (list_all is_string (data_of ds.now) ≡ true)
 
 -- ---- texts of strings
 
