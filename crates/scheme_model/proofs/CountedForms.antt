@@ -1,10 +1,10 @@
 -- The forms of a body or a unit, gone through on the third side of counted expansion and on each other side alike.
-use Rattle.std.proofs.Common.{arith, ◌≡◌, List, [], ◌∷◌, ◌++◌, map, Bool, true, false, cond, Option, Some, None, Result, Ok, Err, refl, sym, ap, ◌∙◌, subst}
+use Rattle.std.proofs.Common.{arith, ◌≡◌, List, [], ◌∷◌, map, Bool, true, false, cond, Option, Some, None, Result, Ok, Err, refl, sym, ap, ◌∙◌, subst}
 use Rattle.scheme_model.specs.Identifiers.{Number}
 use Rattle.scheme_model.specs.Ident.{Ident, same_ident}
 use Rattle.scheme_model.specs.Trees.{Tree, name, atom, list, vector, Trees, no_trees, tree, map_tree, map_trees, map_tail}
 use Rattle.scheme_model.specs.Measures.{tree_size}
-use Rattle.scheme_model.specs.ExpansionFaults.{Named, named, named_map, BadForm}
+use Rattle.scheme_model.specs.ExpansionFaults.{Named, named_map, BadForm}
 use Rattle.scheme_model.specs.Meaning.{Meaning, Head, is_keyword}
 use Rattle.scheme_model.specs.Shapes.{Formals, Clause, DefinitionShape, Variable, Procedure, FieldShape, RecordShape}
 use Rattle.scheme_model.specs.RulesShape.{Rules, rules_map, rules_of, option_map}

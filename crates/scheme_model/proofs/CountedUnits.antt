@@ -9,7 +9,7 @@ use Rattle.scheme_model.specs.Meaning.{Meaning, Local, Global, Standard, Free, s
 use Rattle.scheme_model.specs.Requirements.{Known}
 use Rattle.scheme_model.specs.RulesShape.{Rules, rules_map, option_map}
 use Rattle.scheme_model.specs.Cores.{Parts, no_parts, Part}
-use Rattle.scheme_model.specs.Steps.{Broken, ◌>>=◌}
+use Rattle.scheme_model.specs.Steps.{Broken}
 use Rattle.scheme_model.specs.Order.{Item, Expression, Value, Function, Assigned, AssignedFunction, ValuesOf, Record, Macro, Note, LookedUp, Compared, WaitingUse, Left, Pending, Renamed, Pass, Ops, is_some, meet_all, run}
 use Rattle.scheme_model.specs.Expression.{expand, item_part}
 use Rattle.scheme_model.specs.UnitExpansion.{Formed as FormResult, max_depth, Work, ◌then◌, going, unless_over, one_form, passes, with_part, before_parts, items_parts, form_parts, finished, unit}

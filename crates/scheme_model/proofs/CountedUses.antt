@@ -4,7 +4,7 @@ use Rattle.std.specs.Prelude.{nat_lt, nat_le}
 use Rattle.scheme_model.specs.declared.Occ.{Occ}
 use Rattle.scheme_model.specs.Identifiers.{Number}
 use Rattle.scheme_model.specs.Ident.{Ident, Inserted}
-use Rattle.scheme_model.specs.Trees.{Trees, Tail, map_tree, map_trees, map_tail}
+use Rattle.scheme_model.specs.Trees.{Trees, Tail, map_trees, map_tail}
 use Rattle.scheme_model.specs.ExpansionFaults.{Named, named_map, NodeBudget, UseBudget}
 use Rattle.scheme_model.specs.Keywords.{core_named, auxiliary_named}
 use Rattle.scheme_model.specs.Meaning.{Meaning, Local, Global, Standard, Free, Head, IsCore, IsAuxiliary, IsMacro, IsNone, macro_or_none, standard_head, head_as, same_meaning}

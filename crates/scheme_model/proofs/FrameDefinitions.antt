@@ -1,5 +1,5 @@
 -- Definitions at a place: of a variable or a procedure, of several names, of a record; both sides go on alike.
-use Rattle.std.proofs.Common.{◌≡◌, ℕ, suc, List, [], ◌∷◌, ◌++◌, map, Bool, true, false, cond, Option, Some, None, Result, refl, sym, ap, ◌∙◌, subst}
+use Rattle.std.proofs.Common.{◌≡◌, ℕ, suc, List, [], ◌∷◌, map, Bool, true, false, cond, Option, Some, None, Result, refl, sym, ap, ◌∙◌, subst}
 use Rattle.scheme_model.specs.Identifiers.{Number, Name, same_name}
 use Rattle.scheme_model.specs.Ident.{Ident, erase, same_ident}
 use Rattle.scheme_model.specs.Trees.{Tree, map_tree}

@@ -13,7 +13,7 @@ use Rattle.scheme_model.specs.Matching.{compared}
 use Rattle.scheme_model.specs.Cores.{Target}
 use Rattle.scheme_model.specs.Steps.{Broken}
 use Rattle.scheme_model.specs.Order.{Here, Form, Expression, Note, LookedUp, Compared, Instance, Pending, Pass, Transformer, is_some, head_of, target_of, here_at, comparisons, use_of, has_use, put, waiting, noted, first, caught, or_none, splice, read_then, run_define, run_values, run_record, run_syntax, run_core, run_use, run_head, run_form, run_next, run}
-use Rattle.scheme_model.specs.Substitution.{State, at_form, form_map, item_map, note_map, model}
+use Rattle.scheme_model.specs.Substitution.{State, at_form, form_map, model}
 use Rattle.scheme_model.specs.ScopedExpansion.{Frames, FramedIdent, ScopedState, means_at, macro_at, scoped}
 use Rattle.scheme_model.specs.Renaming.{Renames, pair_map}
 use Rattle.scheme_model.proofs.FrameEras.{Era}
@@ -24,7 +24,7 @@ use Rattle.scheme_model.proofs.Distinct.{definition_distinct}
 use Rattle.scheme_model.proofs.FrameAsks.{AllOf}
 use Rattle.scheme_model.proofs.FrameStates.{names, view, Grows, grows_itself, names_later}
 use Rattle.scheme_model.proofs.FrameGrowth.{used_state, use_grows}
-use Rattle.scheme_model.proofs.FrameLeaves.{TreeAll, TreesAll, TailAll, tree_more, trees_more, tail_more, Holding, held, lift_trees, lift_tail, lifted_trees, lifted_tail, Held, held_more, tree_held, trees_held}
+use Rattle.scheme_model.proofs.FrameLeaves.{TreeAll, TreesAll, TailAll, trees_more, tail_more, Holding, held, lift_trees, lift_tail, lifted_trees, lifted_tail, Held, held_more, tree_held, trees_held}
 use Rattle.scheme_model.proofs.FrameAgrees.{Agrees, agree, break}
 use Rattle.scheme_model.proofs.FrameHeads.{seen_transformer, transformer_seen, IfMacro, HeadOf, head_is, head_seen, target_seen, here_seen}
 use Rattle.scheme_model.proofs.FrameUses.{named_in, placed, comparisons_seen}

@@ -1,5 +1,5 @@
 -- The law of one macro use: both sides choose the same rule, and build what is the same instance.
-use Rattle.std.proofs.Common.{◌≡◌, ℕ, ◌+◌, ◌-◌, List, ◌∷◌, map, Bool, true, false, cond, Option, Some, None, Result, Ok, Err, refl, sym, ap, ◌∙◌, subst}
+use Rattle.std.proofs.Common.{◌≡◌, ℕ, ◌+◌, ◌-◌, List, map, Bool, true, false, cond, Option, Some, None, Result, Ok, Err, refl, sym, ap, ◌∙◌, subst}
 use Rattle.std.specs.Prelude.{nat_lt}
 use Rattle.scheme_model.specs.Identifiers.{Number, Name, Inserted as InsertedName, same_name, strip}
 use Rattle.scheme_model.specs.Ident.{Ident, Inserted, erase, same_ident, symbol_of}
@@ -23,7 +23,7 @@ use Rattle.scheme_model.proofs.RulesLaws.{role_of-map, dots_of-map}
 use Rattle.scheme_model.proofs.MatchLaws.{first_match-map}
 use Rattle.scheme_model.proofs.BuildLaws.{build-map}
 use Rattle.scheme_model.proofs.ScopeLaws.{map_map}
-use Rattle.scheme_model.proofs.IdentKinds.{Kind, pointwise, mapped_same, faults_fused, tree_kind, trees_kind, tail_kind, rules_kind, instance_map, instance_kind}
+use Rattle.scheme_model.proofs.IdentKinds.{Kind, pointwise, mapped_same, faults_fused, trees_kind, tail_kind, rules_kind, instance_map, instance_kind}
 use Rattle.scheme_model.proofs.Clocks.{leq_counted}
 use Rattle.scheme_model.proofs.FrameNames.{same_frame_image, strip_frame_image, erase_frame_image}
 use Rattle.scheme_model.proofs.FrameAsks.{BindersCounted}

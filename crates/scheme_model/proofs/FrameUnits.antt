@@ -4,7 +4,7 @@ use Rattle.scheme_model.specs.Identifiers.{Number, Name}
 use Rattle.scheme_model.specs.Ident.{Ident}
 use Rattle.scheme_model.specs.Trees.{Tree, map_tree}
 use Rattle.scheme_model.specs.Requirements.{Known}
-use Rattle.scheme_model.specs.Cores.{Parts, no_parts, Part}
+use Rattle.scheme_model.specs.Cores.{no_parts, Part}
 use Rattle.scheme_model.specs.Steps.{Broken}
 use Rattle.scheme_model.specs.Order.{Item, Left, Note, Pass, run}
 use Rattle.scheme_model.specs.Expression.{Expander, expand, item_part}

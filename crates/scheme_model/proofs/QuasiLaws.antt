@@ -1,6 +1,5 @@
 -- Reading a quasiquotation commutes with a renaming under which each identifier marks the same.
 use Rattle.std.proofs.Common.{◌≡◌, ℕ, zero, suc, [], ◌∷◌, map, Option, Some, None, Result, Ok, Err, refl, sym, ap, ◌∙◌, subst}
-use Rattle.scheme_model.specs.declared.Occ.{Occ}
 use Rattle.scheme_model.specs.Trees.{Tree, name, atom, list, vector, Trees, no_trees, tree, Tail, proper, dotted, map_tree, map_trees, map_tail}
 use Rattle.scheme_model.specs.ExpansionFaults.{Fault}
 use Rattle.scheme_model.specs.Shapes.{one_of}

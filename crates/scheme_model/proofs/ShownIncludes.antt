@@ -1,17 +1,17 @@
 -- Programs of texts that include others in the notation of rows: forms and strings by the bytes where they stand.
-use Rattle.std.specs.Prelude.{ℕ, zero, suc, ◌==◌, nat_le, List, [], ◌∷◌, map, filter, Bool, true, false, ◌&&◌, not, Option, Some, None, Result, Ok, Err, if◌then◌else◌}
+use Rattle.std.specs.Prelude.{ℕ, zero, suc, ◌==◌, nat_le, List, [], ◌∷◌, map, filter, Bool, ◌&&◌, Option, Some, None, Result, Ok, Err, if◌then◌else◌}
 use Rattle.std.specs.List.{list_any}
 use Rattle.std.specs.Str.{bytes_eq}
 use Rattle.scheme_model.specs.declared.Home.{Home}
 use Rattle.scheme_model.specs.declared.Occ.{Occ}
 use Rattle.scheme_model.specs.Data.{Datum, Place, place_of}
 use Rattle.scheme_model.specs.Trees.{placed_by}
-use Rattle.scheme_model.specs.Declarations.{UnitForm, home_of, unit_or, one_holds, UnitKind, IsLibrary, IsProgram, IsPart}
+use Rattle.scheme_model.specs.Declarations.{UnitForm, home_of, UnitKind, IsLibrary, IsProgram, IsPart}
 use Rattle.scheme_model.specs.Includes.{Document, max_units}
-use Rattle.scheme_model.specs.Included.{Homed, LostString}
+use Rattle.scheme_model.specs.Included.{LostString}
 use Rattle.scheme_model.specs.IncludedUnits.{EarlyFault, OnCircle, BadAt, TooManyTokens, Placed, units_within}
 use Rattle.scheme_model.specs.Program.{known_in, program_of, forms_or_none}
-use Rattle.scheme_model.specs.Diagnostics.{Span, Bytes, Diagnostic, diagnostics_of}
+use Rattle.scheme_model.specs.Diagnostics.{Span, Diagnostic, diagnostics_of}
 use Rattle.scheme_model.specs.Session.{Query}
 use Rattle.scheme_model.specs.Answers.{Answer}
 use Rattle.scheme_model.proofs.Shown.{ArrowRow, PartRow, arrows_between, class_in, answered}

@@ -1,9 +1,9 @@
 -- What is answered about a program (LSP 3.17, "Language Features"): where a name is bound and used, and what arrows a document has.
-use Rattle.std.specs.Prelude.{ℕ, ◌==◌, nat_lt, List, [], ◌∷◌, ◌++◌, map, filter, length, Bool, true, false, not, ◌&&◌, ◌||◌, Option, Some, None, if◌then◌else◌}
+use Rattle.std.specs.Prelude.{ℕ, ◌==◌, nat_lt, List, [], ◌∷◌, ◌++◌, map, filter, length, Bool, not, ◌&&◌, ◌||◌, Option, Some, None, if◌then◌else◌}
 use Rattle.std.specs.List.{flat_map}
 use Rattle.scheme_model.specs.declared.Occ.{Occ}
 use Rattle.scheme_model.specs.IncludedUnits.{Placed}
-use Rattle.scheme_model.specs.Program.{UnitResult, Program}
+use Rattle.scheme_model.specs.Program.{Program}
 use Rattle.scheme_model.specs.ProgramArrows.{Arrow, arrows_of, binders_in, binders_at, uses_at}
 use Rattle.scheme_model.specs.Spelling.{Link, links_of, class_of, is_member, standard_origins, is_joined}
 use Rattle.scheme_model.specs.Diagnostics.{Span, Bytes, bytes_of}

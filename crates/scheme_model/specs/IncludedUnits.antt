@@ -1,6 +1,6 @@
 -- The units of documents that include texts (R7RS 4.1.7, 5.1, 5.6.1): the forms of each with their homes, or why it has none, and the
 -- strings in it that mean no text.
-use Rattle.std.specs.Prelude.{ℕ, suc, List, [], ◌∷◌, ◌++◌, map, Bool, true, false, ◌&&◌, Option, Some, None, Result, Ok, Err, codes, if◌then◌else◌, ◌^◌}
+use Rattle.std.specs.Prelude.{ℕ, suc, List, [], ◌∷◌, ◌++◌, map, Bool, true, ◌&&◌, Option, Some, None, Result, Ok, Err, codes, if◌then◌else◌, ◌^◌}
 use Rattle.scheme_model.specs.Data.{Datum, Data, none, part, tail, Place, place_of}
 use Rattle.scheme_model.specs.Requirements.{LibraryName, Known}
 use Rattle.scheme_model.specs.Declarations.{UnitForm, plain_form, UnitKind, IsLibrary, IsProgram, IsPart, behind_head, library_name_in, library_name, is_headed, is_library, is_proper}

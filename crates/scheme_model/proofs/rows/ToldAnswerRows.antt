@@ -1,15 +1,7 @@
 -- Documents that include one another, and what is answered about a place in one of them, from outside.
 -- Written by tests/definitions/rows; each row is checked by computing it.
-use Rattle.std.specs.Prelude.{◌≡◌, ℕ, Bool, true, false, List, [], ◌∷◌, Option, Some, None, codes, refl}
-use Rattle.scheme_model.specs.declared.Occ.{Occ}
+use Rattle.std.specs.Prelude.{◌≡◌, ℕ, true, false, [], ◌∷◌, Some, None, codes, refl}
 use Rattle.scheme_model.specs.StandardNames.{base_names}
-use Rattle.scheme_model.specs.Identifiers as i
-use Rattle.scheme_model.specs.Identifiers.{Number}
-use Rattle.scheme_model.specs.Ident as x
-use Rattle.scheme_model.specs.Trees as t
-use Rattle.scheme_model.specs.Meaning as m
-use Rattle.scheme_model.specs.Cores as c
-use Rattle.scheme_model.specs.Expression.{no_rules}
 use Rattle.scheme_model.proofs.ShownIncludes.{told_answer}
 use Rattle.std.specs.Char.{encode_utf8}
 use Rattle.scheme_model.specs.StandardLibraries.{standard_libraries}
@@ -17,8 +9,8 @@ use Rattle.scheme_model.specs.Prelude.{prelude}
 use Rattle.scheme_model.specs.Kinds as k
 use Rattle.scheme_model.specs.Data as g
 use Rattle.scheme_model.specs.Diagnostics.{Span, Bytes}
-use Rattle.scheme_model.specs.Session.{Definition, References, Highlights, Prepare, Arrows}
-use Rattle.scheme_model.specs.Answers.{Answer, Nothing, Places, Lit, Prepared, Drawn}
+use Rattle.scheme_model.specs.Session.{Definition, References, Prepare, Arrows}
+use Rattle.scheme_model.specs.Answers.{Places, Prepared, Drawn}
 use Rattle.std.specs.Prelude.{true, false}
 
 abbrev s : ℕ → ℕ → Span

@@ -1,16 +1,15 @@
 -- Open documents, and what their units come to, from outside.
 -- Written by tests/definitions/rows; each row is checked by computing it.
-use Rattle.std.specs.Prelude.{◌≡◌, ℕ, Bool, true, false, List, [], ◌∷◌, Option, Some, None, codes, refl}
+use Rattle.std.specs.Prelude.{◌≡◌, ℕ, Bool, false, List, [], ◌∷◌, Option, Some, None, codes, refl}
 use Rattle.scheme_model.specs.declared.Occ.{Occ}
 use Rattle.scheme_model.specs.StandardNames.{base_names}
-use Rattle.scheme_model.specs.Identifiers as i
 use Rattle.scheme_model.specs.Identifiers.{Number}
 use Rattle.scheme_model.specs.Ident as x
 use Rattle.scheme_model.specs.Trees as t
 use Rattle.scheme_model.specs.Meaning as m
 use Rattle.scheme_model.specs.Cores as c
 use Rattle.scheme_model.specs.Expression.{no_rules}
-use Rattle.scheme_model.proofs.Shown.{hole, FaultRow, FormRow, UnitRow, unit_rows}
+use Rattle.scheme_model.proofs.Shown.{FaultRow, FormRow, UnitRow, unit_rows}
 use Rattle.std.specs.Char.{encode_utf8}
 use Rattle.scheme_model.specs.StandardLibraries.{standard_libraries}
 use Rattle.scheme_model.specs.Prelude.{prelude}
