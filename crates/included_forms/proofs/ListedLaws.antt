@@ -1,7 +1,7 @@
 -- What is written out by what is counted.
 use Rattle.std.proofs.Common.{◌≡◌, ℕ, zero, suc, List, [], ◌∷◌, ◌++◌, length, take, map, Bool, true, false, Option, Some, refl, sym, ap, ◌∙◌, subst, arith}
 use Rattle.scheme_model.specs.Included as model
-use Rattle.scheme_model.specs.Included.{Listing, Lists, BadAfter, TooLong, in_a_row}
+use Rattle.scheme_model.specs.Included.{Listing, Lists, BadAfter, TooLong, with_lost, in_a_row}
 use Rattle.included_forms.specs.declared.steps.FlatForm.{FlatForm}
 use Rattle.included_forms.specs.declared.given.Given.{Given}
 use Rattle.included_forms.specs.declared.given.LostString.{LostString}
@@ -10,9 +10,10 @@ use Rattle.included_forms.specs.declared.given.Written.{Written}
 use Rattle.included_forms.specs.declared.losing.Visit.{Visit}
 use Rattle.included_forms.specs.Steps.{form_of}
 use Rattle.included_forms.specs.Counted.{Tally, Counted, BadBehind, TooMany, tally_of, listing_of, IsWritten}
-use Rattle.included_forms.specs.Losses.{HoldsAll, AllSame, AreFresh, AreSeen, Loses}
+use Rattle.included_forms.specs.Losses.{lost_in, AreFresh, AreSeen}
 use Rattle.included_forms.specs.Listed.{IsLists}
 use Rattle.included_forms.proofs.WritingLaws.{without_bad}
+use Rattle.included_forms.proofs.LosingLaws.{row_once}
 
 pub counted_lists : (l : Listing) (n : ℕ) (e : Bool) → Counted n e ≡ tally_of l → IsLists l
 counted_lists (Lists m fs ls) n e h = (m, fs, ls, refl)
@@ -44,9 +45,9 @@ steps_list limit gs parts w l n fs ls many h e =
 pub fresh_seen : (gs : List model.Given) (visits : List Visit) (parts : List Part) (found : List LostString) → AreFresh visits parts → AreSeen gs visits found
 fresh_seen gs visits parts found h = λ k v w is was n fs ls e. let no_visit = h.none k v w is in absurd cc
 
-pub only_added : (gs : List model.Given) (old new : List LostString) (visits : List Visit) (l : Listing) (h : Loses gs old visits new l) (n : ℕ) (fs : List model.FlatForm) (ls : List model.LostString) → old ≡ [] → l ≡ Lists n fs ls → AllSame new ls
-only_added gs old new visits l h n fs ls none e =
-    subst (λ (xs : List LostString). AllSame xs ls) (sym (h.more ∙ ap (λ (xs : List LostString). xs ++ h.added) none)) (h.only n fs ls e)
+-- all that was found, where nothing was before
+pub only_strings : (limit : ℕ) (xs : List Listing) (n : ℕ) (fs : List model.FlatForm) (ls : List model.LostString) (old new : List LostString) → in_a_row limit xs ≡ Lists n fs ls → old ≡ [] → lost_in new ≡ with_lost ls (lost_in old) → lost_in new ≡ ls
+only_strings limit xs n fs ls old new e none h = h ∙ ap (λ (found : List LostString). with_lost ls (lost_in found)) none ∙ row_once limit xs n fs ls e
 
 pub only_forms : (old new : List FlatForm) (fs : List model.FlatForm) → old ≡ [] → map form_of new ≡ map form_of old ++ fs → map form_of new ≡ fs
 only_forms old new fs none e = e ∙ ap (λ (xs : List FlatForm). map form_of xs ++ fs) none

@@ -1,50 +1,47 @@
--- The strings that steps lose, one step after another.
-use Rattle.std.proofs.Common.{◌≡◌, ℕ, zero, suc, ◌+◌, ◌<◌, ◌≤◌, List, [], ◌∷◌, ◌++◌, append_assoc, append-nil, length, get_or, take, drop, set, map, Bool, true, false, Option, Some, None, slice_get, refl, sym, ap, ◌∙◌, subst, arith, ◌⊎◌, inl, inr}
-use Rattle.std.specs.Prelude.{Contains, ◌||◌, if◌then◌else◌}
+-- The strings that steps lose, from the last step to the first.
+use Rattle.std.proofs.Common.{◌≡◌, ℕ, zero, suc, ◌+◌, ◌<◌, ◌≤◌, List, [], ◌∷◌, ◌++◌, length, get_or, take, drop, set, map, reverse, Bool, true, false, Some, slice_get, refl, sym, ap, ◌∙◌, subst, arith, ◌⊎◌, inl, inr}
+use Rattle.std.specs.Prelude.{◌||◌, if◌then◌else◌}
 use Rattle.std.specs.List.{list_any}
-use Rattle.std.proofs.lemmas.List.{drop_more, at_drop_all, map-append}
-use Rattle.std.proofs.lemmas.List.Elements.{Contains-append_left, Contains-append_right}
+use Rattle.std.proofs.lemmas.List.{drop_more, at_drop_all, map-append, reverse-append}
+use Rattle.std.proofs.lemmas.Slice.Eq.{bytes_eq-Decides}
+use Rattle.scheme_model.specs.Data.{Place}
 use Rattle.scheme_model.specs.Included as model
-use Rattle.scheme_model.specs.Included.{Listing, Lists, nothing, is_same_string, with_one, with_lost, in_a_row, given_at}
-use Rattle.included_forms.specs.declared.steps.Source.{Source}
+use Rattle.scheme_model.specs.Included.{Listing, Lists, nothing, is_same_place, is_same_string, with_one, with_lost, in_a_row, given_at}
 use Rattle.included_forms.specs.declared.steps.Way.{Way}
 use Rattle.included_forms.specs.declared.steps.Way.TheVariants as way
 use Rattle.included_forms.specs.declared.given.LostString.{LostString}
 use Rattle.included_forms.specs.declared.given.Given.{Given}
 use Rattle.included_forms.specs.declared.losing.Visit.{Visit}
 use Rattle.included_forms.specs.Counted.{lost_of, in_way, listing_of}
-use Rattle.included_forms.specs.Losses.{HoldsAll, AllSame, visited_in, same_way, AreSeen, Loses}
-use Rattle.included_forms.specs.Planned.{bad_one}
+use Rattle.included_forms.specs.Listed.{IsLists}
+use Rattle.included_forms.specs.Losses.{lost_in, AreAmong, visited_in, same_way, AreSeen, Loses}
 use Rattle.included_forms.proofs.TableLaws.{splits}
-use Rattle.included_forms.proofs.WritingLaws.{without_bad}
 use Rattle.included_forms.proofs.BuildLaws.{there_or_last, set_same, set_other, same_or_other}
-
--- ---- strings that are found
-
-pub holds_more : (found more : List LostString) (ls : List model.LostString) → HoldsAll found ls → HoldsAll (found ++ more) ls
-holds_more found more [] h = tt
-holds_more found more (l ∷ ls) h =
-    (subst (λ (xs : List model.LostString). Contains xs l) (sym (map-append lost_of found more)) (Contains-append_left (map lost_of found) (map lost_of more) l h.0), holds_more found more ls h.1)
-
-pub holds_with : (found : List LostString) (ls ks : List model.LostString) → HoldsAll found ls → HoldsAll found ks → HoldsAll found (with_lost ls ks)
-holds_with found [] ks h k = k
-holds_with found (l ∷ ls) ks h k = go (list_any (is_same_string l) (with_lost ls ks)) (holds_with found ls ks h.1 k)
-  where
-    go : (b : Bool) → HoldsAll found (with_lost ls ks) → HoldsAll found (if b then with_lost ls ks else l ∷ with_lost ls ks)
-    go true q = q
-    go false q = (h.0, q)
 
 -- ---- strings that are the same
 
-same_through : (a b k : model.LostString) → is_same_string a b ≡ true → is_same_string b k ≡ true → is_same_string a k ≡ true
-same_through a b k e h = grind arith
+same_place : (p q : Place) → is_same_place p q ≡ true → p ≡ q
+same_place p q h =
+    let first : p.first ≡ q.first = grind arith in
+    let last : p.last ≡ q.last = grind arith in
+    let start : p.start ≡ q.start = grind arith in
+    let end : p.end ≡ q.end = grind arith in
+    λ i. record { first = first i; last = last i; start = start i; end = end i }
+
+pub one_if_same : (a b : model.LostString) → is_same_string a b ≡ true → a ≡ b
+one_if_same a b h =
+    let document : a.document ≡ b.document = grind arith in
+    let place : a.string.place ≡ b.string.place = same_place a.string.place b.string.place (grind arith) in
+    let characters : a.string.characters ≡ b.string.characters = (bytes_eq-Decides a.string.characters b.string.characters).0 (grind arith) in
+    λ i. record { document = document i; string = record { place = place i; characters = characters i } }
 
 same_itself : (a : model.LostString) → is_same_string a a ≡ true
-same_itself a = grind arith
+same_itself a = let characters = (bytes_eq-Decides a.string.characters a.string.characters).1 in grind arith
 
-same_among : (a b : model.LostString) (ks : List model.LostString) → is_same_string a b ≡ true → list_any (is_same_string b) ks ≡ true → list_any (is_same_string a) ks ≡ true
-same_among a b [] e h = h
-same_among a b (k ∷ ks) e h = grind (arith, same_through a b k e, same_among a b ks e)
+pub same_among : (a b : model.LostString) (ks : List model.LostString) → is_same_string a b ≡ true → list_any (is_same_string b) ks ≡ true → list_any (is_same_string a) ks ≡ true
+same_among a b ks e h = subst (λ (x : model.LostString). list_any (is_same_string x) ks ≡ true) (sym (one_if_same a b e)) h
+
+-- ---- strings among others
 
 with_one_by : (a b : model.LostString) (ks : List model.LostString) (t : Bool) → list_any (is_same_string b) ks ≡ t → (is_same_string a b || list_any (is_same_string a) ks) ≡ true →
     list_any (is_same_string a) (if t then ks else b ∷ ks) ≡ true
@@ -55,14 +52,19 @@ or_second : (x y : Bool) → y ≡ true → (x || y) ≡ true
 or_second true y h = refl
 or_second false y h = h
 
-among_second : (a : model.LostString) (ls ks : List model.LostString) → list_any (is_same_string a) ks ≡ true → list_any (is_same_string a) (with_lost ls ks) ≡ true
-among_second a [] ks h = h
-among_second a (l ∷ ls) ks h =
-    with_one_by a l (with_lost ls ks) (list_any (is_same_string l) (with_lost ls ks)) refl (or_second (is_same_string a l) (list_any (is_same_string a) (with_lost ls ks)) (among_second a ls ks h))
+or_first : (x y : Bool) → x ≡ true → (x || y) ≡ true
+or_first true y h = refl
+or_first false y h = absurd cc
 
 or_further : (x y z : Bool) → (x || y) ≡ true → (y ≡ true → z ≡ true) → (x || z) ≡ true
 or_further true y z h k = refl
 or_further false y z h k = k h
+
+-- what is among some stays among them behind others
+among_second : (a : model.LostString) (ls ks : List model.LostString) → list_any (is_same_string a) ks ≡ true → list_any (is_same_string a) (with_lost ls ks) ≡ true
+among_second a [] ks h = h
+among_second a (l ∷ ls) ks h =
+    with_one_by a l (with_lost ls ks) (list_any (is_same_string l) (with_lost ls ks)) refl (or_second (is_same_string a l) (list_any (is_same_string a) (with_lost ls ks)) (among_second a ls ks h))
 
 among_first : (a : model.LostString) (ls ks : List model.LostString) → list_any (is_same_string a) ls ≡ true → list_any (is_same_string a) (with_lost ls ks) ≡ true
 among_first a [] ks h = absurd cc
@@ -70,17 +72,47 @@ among_first a (l ∷ ls) ks h =
     with_one_by a l (with_lost ls ks) (list_any (is_same_string l) (with_lost ls ks)) refl
     (or_further (is_same_string a l) (list_any (is_same_string a) ls) (list_any (is_same_string a) (with_lost ls ks)) h (among_first a ls ks))
 
-same_first : (found : List LostString) (ls ks : List model.LostString) → AllSame found ls → AllSame found (with_lost ls ks)
-same_first [] ls ks h = tt
-same_first (f ∷ found) ls ks h = (among_first (lost_of f) ls ks h.0, same_first found ls ks h.1)
+among_more : (ls ms ks : List model.LostString) → AreAmong ls ks → AreAmong ls (with_lost ms ks)
+among_more [] ms ks h = tt
+among_more (l ∷ ls) ms ks h = (among_second l ms ks h.0, among_more ls ms ks h.1)
 
-same_second : (found : List LostString) (ls ks : List model.LostString) → AllSame found ks → AllSame found (with_lost ls ks)
-same_second [] ls ks h = tt
-same_second (f ∷ found) ls ks h = (among_second (lost_of f) ls ks h.0, same_second found ls ks h.1)
+among_longer : (l : model.LostString) (ls ks : List model.LostString) → AreAmong ls ks → AreAmong ls (with_one l ks)
+among_longer l ls ks h = among_more ls (l ∷ []) ks h
 
-same_both : (found more : List LostString) (ls : List model.LostString) → AllSame found ls → AllSame more ls → AllSame (found ++ more) ls
-same_both [] more ls h k = k
-same_both (f ∷ found) more ls h k = (h.0, same_both found more ls h.1 k)
+all_among : (ls ks : List model.LostString) → AreAmong ls (with_lost ls ks)
+all_among [] ks = tt
+all_among (l ∷ ls) ks =
+    (with_one_by l l (with_lost ls ks) (list_any (is_same_string l) (with_lost ls ks)) refl (or_first (is_same_string l l) (list_any (is_same_string l) (with_lost ls ks)) (same_itself l)), among_longer l ls (with_lost ls ks) (all_among ls ks))
+
+-- those that are there add nothing
+none_new : (ls ks : List model.LostString) → AreAmong ls ks → with_lost ls ks ≡ ks
+none_new [] ks h = refl
+none_new (l ∷ ls) ks h = ap (with_one l) (none_new ls ks h.1) ∙ ap (λ (b : Bool). if b then ks else l ∷ ks) h.0
+
+one_joined_by : (l : model.LostString) (ms ks : List model.LostString) (t : Bool) → list_any (is_same_string l) ms ≡ t → with_lost (if t then ms else l ∷ ms) ks ≡ with_one l (with_lost ms ks)
+one_joined_by l ms ks true e = sym (ap (λ (b : Bool). if b then with_lost ms ks else l ∷ with_lost ms ks) (among_first l ms ks e))
+one_joined_by l ms ks false e = refl
+
+lost_joined : (ls ms ks : List model.LostString) → with_lost (with_lost ls ms) ks ≡ with_lost ls (with_lost ms ks)
+lost_joined [] ms ks = refl
+lost_joined (l ∷ ls) ms ks =
+    one_joined_by l (with_lost ls ms) ks (list_any (is_same_string l) (with_lost ls ms)) refl ∙ ap (with_one l) (lost_joined ls ms ks)
+
+-- the strings of a row stand there once
+pub row_once : (limit : ℕ) (xs : List Listing) (n : ℕ) (fs : List model.FlatForm) (ls : List model.LostString) → in_a_row limit xs ≡ Lists n fs ls → with_lost ls [] ≡ ls
+row_once limit [] n fs ls e = let none : [] ≡ ls = cc in ap (λ (ks : List model.LostString). with_lost ks []) (sym none) ∙ none
+row_once limit (x ∷ xs) n fs ls e =
+    let p = splits limit x xs n fs ls e in
+    ap (λ (ks : List model.LostString). with_lost ks []) p.lost ∙ lost_joined p.strings p.other_strings [] ∙ ap (with_lost p.strings) (row_once limit xs p.other_tokens p.other_forms p.other_strings p.others) ∙ sym p.lost
+
+-- ---- strings that are found
+
+-- one more was found
+pub lost_push : (found : List LostString) (s : LostString) → lost_in (found ++ s ∷ []) ≡ with_one (lost_of s) (lost_in found)
+lost_push found s = ap (λ (ls : List model.LostString). with_lost ls []) (ap reverse (map-append lost_of found (s ∷ [])) ∙ reverse-append (map lost_of found) (lost_of s ∷ []))
+
+seen_more : (gs : List model.Given) (visits : List Visit) (old new : List LostString) (ms : List model.LostString) → lost_in new ≡ with_lost ms (lost_in old) → AreSeen gs visits old → AreSeen gs visits new
+seen_more gs visits old new ms e h k v w is was n fs ls g = subst (AreAmong ls) (sym e) (among_more ls ms (lost_in old) (h k v w is was n fs ls g))
 
 -- ---- no text was gone through
 
@@ -94,34 +126,24 @@ fresh_more visits x h here k v w is = by (there_or_last visits x k v is)
 
 -- ---- one step
 
-seen_more : (gs : List model.Given) (visits : List Visit) (old added new : List LostString) → new ≡ old ++ added → AreSeen gs visits old → AreSeen gs visits new
-seen_more gs visits old added new e h k v w is was n fs ls g = subst (λ (xs : List LostString). HoldsAll xs ls) (sym e) (holds_more old added ls (h k v w is was n fs ls g))
+pub no_strings : (l : Listing) (m n : ℕ) (gs fs : List model.FlatForm) (ls : List model.LostString) → l ≡ Lists m gs [] → l ≡ Lists n fs ls → ls ≡ []
+no_strings l m n gs fs ls e is = let same : Lists m gs [] ≡ Lists n fs ls = sym e ∙ is in cc
 
-pub loses_nothing : (gs : List model.Given) (visits : List Visit) (old : List LostString) (l : Listing) → AreSeen gs visits old → ((n : ℕ) (fs : List model.FlatForm) (ls : List model.LostString) → l ≡ Lists n fs ls → HoldsAll old ls) → Loses gs old visits old l
-loses_nothing gs visits old l h all = record { seen = h; added = []; more = sym (append-nil old); all = all; only = λ n fs ls e. tt }
+pub loses_nothing : (gs : List model.Given) (visits : List Visit) (old : List LostString) (ls : List model.LostString) → AreSeen gs visits old → ls ≡ [] → Loses gs old visits old ls
+loses_nothing gs visits old ls h e = record { seen = h; found = ap (λ (ks : List model.LostString). with_lost ks (lost_in old)) (sym e) }
 
-pub no_strings : (found : List LostString) (l : Listing) (m : ℕ) (gs : List model.FlatForm) → l ≡ Lists m gs [] → (n : ℕ) (fs : List model.FlatForm) (ls : List model.LostString) → l ≡ Lists n fs ls → HoldsAll found ls
-no_strings found l m gs e n fs ls is = let none : [] ≡ ls = cc in subst (HoldsAll found) none tt
-
-pub loses_one : (gs : List model.Given) (visits : List Visit) (old new : List LostString) (s : LostString) (l : Listing) → AreSeen gs visits old → new ≡ old ++ s ∷ [] → l ≡ Lists 0 [] (lost_of s ∷ []) → Loses gs old visits new l
-loses_one gs visits old new s l h e is = record {
-  seen = seen_more gs visits old (s ∷ []) new e h;
-  added = s ∷ [];
-  more = e;
-  all = λ n fs ls q. let one : lost_of s ∷ [] ≡ ls = cc in subst (HoldsAll new) one (subst (λ (xs : List LostString). Contains (map lost_of xs) (lost_of s)) (sym e) held, tt);
-  only = λ n fs ls q. let one : lost_of s ∷ [] ≡ ls = cc in subst (AllSame (s ∷ [])) one (or_first (is_same_string (lost_of s) (lost_of s)) (same_itself (lost_of s)), tt);
-}
-  where
-    or_first : (b : Bool) → b ≡ true → (b || false) ≡ true
-    or_first true q = refl
-    or_first false q = q
-
-    held : Contains (map lost_of (old ++ s ∷ [])) (lost_of s)
-    held = subst (λ (xs : List model.LostString). Contains xs (lost_of s)) (sym (map-append lost_of old (s ∷ []))) (Contains-append_right (map lost_of old) (lost_of s ∷ []) (lost_of s) (0, omega arith, refl))
+pub loses_one : (gs : List model.Given) (visits : List Visit) (old new : List LostString) (s : LostString) (l : Listing) (n : ℕ) (fs : List model.FlatForm) (ls : List model.LostString) → AreSeen gs visits old → new ≡ old ++ s ∷ [] →
+    l ≡ Lists 0 [] (lost_of s ∷ []) → l ≡ Lists n fs ls → Loses gs old visits new ls
+loses_one gs visits old new s l n fs ls h e is q =
+    let same : Lists 0 [] (lost_of s ∷ []) ≡ Lists n fs ls = sym is ∙ q in
+    let one : lost_of s ∷ [] ≡ ls = cc in
+    let found : lost_in new ≡ with_lost ls (lost_in old) = ap lost_in e ∙ lost_push old s ∙ ap (λ (ks : List model.LostString). with_lost ks (lost_in old)) one in
+    record { seen = seen_more gs visits old new ls found h; found = found }
 
 -- the text was gone through before
-pub loses_seen : (gs : List model.Given) (visits : List Visit) (found : List LostString) (k : ℕ) (v : Visit) (w : Way) → AreSeen gs visits found → slice_get visits k ≡ Some v → visited_in v w ≡ true → Loses gs found visits found (in_way (given_at gs k) w)
-loses_seen gs visits found k v w h is was = loses_nothing gs visits found (in_way (given_at gs k) w) h (h k v w is was)
+pub loses_seen : (gs : List model.Given) (visits : List Visit) (found : List LostString) (k : ℕ) (v : Visit) (w : Way) (n : ℕ) (fs : List model.FlatForm) (ls : List model.LostString) → AreSeen gs visits found → slice_get visits k ≡ Some v → visited_in v w ≡ true →
+    in_way (given_at gs k) w ≡ Lists n fs ls → Loses gs found visits found ls
+loses_seen gs visits found k v w n fs ls h is was e = record { seen = h; found = sym (none_new ls (lost_in found) (h k v w is was n fs ls e)) }
 
 way_same : (a b : Way) → same_way a b ≡ true → a ≡ b
 way_same way.Forms way.Forms h = refl
@@ -130,103 +152,82 @@ way_same way.Declarations way.Forms h = absurd cc
 way_same way.Declarations way.Declarations h = refl
 
 -- the text is gone through now
-pub loses_marked : (gs : List model.Given) (old : List LostString) (visits : List Visit) (new : List LostString) (k : ℕ) (v u : Visit) (w : Way) → Loses gs old visits new (in_way (given_at gs k) w) → slice_get visits k ≡ Some v → k < length visits →
-    ((x : Way) → visited_in u x ≡ (visited_in v x || same_way w x)) → Loses gs old (set visits k u) new (in_way (given_at gs k) w)
-loses_marked gs old visits new k v u w h is low marked = record { seen = λ j a x at was n fs ls g. by j a x at was n fs ls g (same_or_other j k); added = h.added; more = h.more; all = h.all; only = h.only }
+pub loses_marked : (gs : List model.Given) (old : List LostString) (visits : List Visit) (new : List LostString) (k : ℕ) (v u : Visit) (w : Way) (n : ℕ) (fs : List model.FlatForm) (ls : List model.LostString) → Loses gs old visits new ls →
+    in_way (given_at gs k) w ≡ Lists n fs ls → slice_get visits k ≡ Some v → k < length visits → ((x : Way) → visited_in u x ≡ (visited_in v x || same_way w x)) → Loses gs old (set visits k u) new ls
+loses_marked gs old visits new k v u w n fs ls h gives is low marked = record { seen = λ j a x at was m gs' ks g. by j a x at was m gs' ks g (same_or_other j k); found = h.found }
   where
     or_cases : (x y : Bool) → (x || y) ≡ true → (x ≡ true) ⊎ (y ≡ true)
     or_cases true y q = inl refl
     or_cases false y q = inr q
 
-    by : (j : ℕ) (a : Visit) (x : Way) → slice_get (set visits k u) j ≡ Some a → visited_in a x ≡ true → (n : ℕ) (fs : List model.FlatForm) (ls : List model.LostString) → in_way (given_at gs j) x ≡ Lists n fs ls → (j ≡ k) ⊎ (j ≡ k → ⊥) → HoldsAll new ls
-    by j a x at was n fs ls g (inr e) = h.seen j a x (sym (set_other visits k j u e) ∙ at) was n fs ls g
-    by j a x at was n fs ls g (inl e) =
+    all_now : AreAmong ls (lost_in new)
+    all_now = subst (AreAmong ls) (sym h.found) (all_among ls (lost_in old))
+
+    by : (j : ℕ) (a : Visit) (x : Way) → slice_get (set visits k u) j ≡ Some a → visited_in a x ≡ true → (m : ℕ) (gs' : List model.FlatForm) (ks : List model.LostString) → in_way (given_at gs j) x ≡ Lists m gs' ks → (j ≡ k) ⊎ (j ≡ k → ⊥) →
+        AreAmong ks (lost_in new)
+    by j a x at was m gs' ks g (inr e) = h.seen j a x (sym (set_other visits k j u e) ∙ at) was m gs' ks g
+    by j a x at was m gs' ks g (inl e) =
         let there : Some u ≡ Some a = sym (set_same visits k u low) ∙ ap (slice_get (set visits k u)) (sym e) ∙ at in
         let same : a ≡ u = cc in
         here (or_cases (visited_in v x) (same_way w x) (sym (marked x) ∙ ap (λ (b : Visit). visited_in b x) (sym same) ∙ was))
       where
-        here : (visited_in v x ≡ true) ⊎ (same_way w x ≡ true) → HoldsAll new ls
-        here (inl q) = h.seen k v x is q n fs ls (ap (λ i. in_way (given_at gs i) x) (sym e) ∙ g)
-        here (inr q) = h.all n fs ls (ap (in_way (given_at gs k)) (way_same w x q) ∙ ap (λ i. in_way (given_at gs i) x) (sym e) ∙ g)
+        there : in_way (given_at gs k) x ≡ Lists m gs' ks
+        there = ap (λ i. in_way (given_at gs i) x) (sym e) ∙ g
 
--- a bad declaration behind steps that list is none
-pub loses_row : (limit : ℕ) (gs : List model.Given) (old : List LostString) (visits : List Visit) (new : List LostString) (xs : List Listing) (b : Option Source) (l : Listing) → in_a_row limit (xs ++ bad_one b) ≡ l →
-    Loses gs old visits new (in_a_row limit xs) → Loses gs old visits new l
-loses_row limit gs old visits new xs b l e h = record {
-  seen = h.seen;
-  added = h.added;
-  more = h.more;
-  all = λ n fs ls q. h.all n fs ls (without_bad limit xs b n fs ls (e ∙ q));
-  only = λ n fs ls q. h.only n fs ls (without_bad limit xs b n fs ls (e ∙ q));
-}
+        here : (visited_in v x ≡ true) ⊎ (same_way w x ≡ true) → AreAmong ks (lost_in new)
+        here (inl q) = h.seen k v x is q m gs' ks there
+        here (inr q) =
+            let same : Lists n fs ls ≡ Lists m gs' ks = sym gives ∙ ap (in_way (given_at gs k)) (way_same w x q) ∙ there in
+            let strings : ls ≡ ks = cc in
+            subst (λ (xs : List model.LostString). AreAmong xs (lost_in new)) strings all_now
 
--- ---- steps one after another
+-- ---- steps, the last first
 
--- these strings are left
-pub record LeftToLose (limit : ℕ) (gs : List model.Given) (ss : List Given) (i : ℕ) (added now : List LostString) (ls : List model.LostString) : Type 0 where
-  pub tokens : ℕ
-  pub forms : List model.FlatForm
-  pub strings : List model.LostString
-  pub rest : in_a_row limit (map (listing_of gs) (drop i ss)) ≡ Lists tokens forms strings
-  pub all_then : (more : List LostString) → HoldsAll (now ++ more) strings → HoldsAll (now ++ more) ls
-  pub only_then : (more : List LostString) → AllSame more strings → AllSame more ls
-  pub so_far : AllSame added ls
+-- a row that lists lists from each place on
+lists_on : (limit : ℕ) (give : Given → Listing) (ss : List Given) (k n : ℕ) (fs : List model.FlatForm) (ls : List model.LostString) → in_a_row limit (map give ss) ≡ Lists n fs ls → IsLists (in_a_row limit (map give (drop k ss)))
+lists_on limit give [] zero n fs ls e = (n, fs, ls, e)
+lists_on limit give [] (suc k) n fs ls e = (0, [], [], refl)
+lists_on limit give (s ∷ ss) zero n fs ls e = (n, fs, ls, e)
+lists_on limit give (s ∷ ss) (suc k) n fs ls e = let h = splits limit (give s) (map give ss) n fs ls e in lists_on limit give ss k h.other_tokens h.other_forms h.other_strings h.others
 
-pub record LosesUpTo (limit : ℕ) (gs : List model.Given) (below : ℕ) (ss : List Given) (i : ℕ) (old : List LostString) (visits : List Visit) (now : List LostString) : Type 0 where
+-- the strings of the steps from a place on were found
+pub record LosesFrom (limit : ℕ) (gs : List model.Given) (below : ℕ) (ss : List Given) (k : ℕ) (old : List LostString) (visits : List Visit) (now : List LostString) : Type 0 where
   pub seen : AreSeen gs visits now
-  pub added : List LostString
-  pub more : now ≡ old ++ added
-  pub left : (n : ℕ) (fs : List model.FlatForm) (ls : List model.LostString) → in_a_row limit (map (listing_of (take below gs)) ss) ≡ Lists n fs ls → LeftToLose limit (take below gs) ss i added now ls
+  pub found : (n : ℕ) (fs : List model.FlatForm) (ls : List model.LostString) → in_a_row limit (map (listing_of (take below gs)) (drop k ss)) ≡ Lists n fs ls → lost_in now ≡ with_lost ls (lost_in old)
 
-pub loses_first : (limit : ℕ) (gs : List model.Given) (below : ℕ) (ss : List Given) (visits : List Visit) (old : List LostString) → AreSeen gs visits old → LosesUpTo limit gs below ss 0 old visits old
-loses_first limit gs below ss visits old h = record {
+pub loses_first : (limit : ℕ) (gs : List model.Given) (below : ℕ) (ss : List Given) (k : ℕ) (visits : List Visit) (old : List LostString) → length ss ≤ k → AreSeen gs visits old → LosesFrom limit gs below ss k old visits old
+loses_first limit gs below ss k visits old e h = record {
   seen = h;
-  added = [];
-  more = sym (append-nil old);
-  left = λ n fs ls e. record { tokens = n; forms = fs; strings = ls; rest = e; all_then = λ more q. q; only_then = λ more q. q; so_far = tt };
+  found = λ n fs ls is.
+      let same : nothing ≡ Lists n fs ls = sym (at_drop_all (λ (xs : List Given). in_a_row limit (map (listing_of (take below gs)) xs)) ss k e) ∙ is in
+      let none : [] ≡ ls = cc in
+      ap (λ (ks : List model.LostString). with_lost ks (lost_in old)) none;
 }
 
-module _ (limit : ℕ) (gs : List model.Given) (below : ℕ) (ss : List Given) (i : ℕ) (s : Given) (old : List LostString) (visits visits' : List Visit) (now new : List LostString) (lt : i < length ss) (is : s ≡ get_or ss i s) where
-  front : map (listing_of (take below gs)) (drop i ss) ≡ listing_of (take below gs) s ∷ map (listing_of (take below gs)) (drop (i + 1) ss)
-  front = ap (map (listing_of (take below gs))) (drop_more ss i s lt ∙ ap (λ (x : Given). x ∷ drop (i + 1) ss) (sym is))
+module _ (limit : ℕ) (gs : List model.Given) (below : ℕ) (ss : List Given) (i k : ℕ) (s : Given) (old : List LostString) (visits visits' : List Visit) (now new : List LostString) (next : i + 1 ≡ k) (lt : i < length ss) (is : s ≡ get_or ss i s) where
+  front : map (listing_of (take below gs)) (drop i ss) ≡ listing_of (take below gs) s ∷ map (listing_of (take below gs)) (drop k ss)
+  front = ap (map (listing_of (take below gs))) (drop_more ss i s lt ∙ ap (λ (x : Given). x ∷ drop (i + 1) ss) (sym is)) ∙ ap (λ j. listing_of (take below gs) s ∷ map (listing_of (take below gs)) (drop j ss)) next
 
-  pub loses_more : LosesUpTo limit gs below ss i old visits now → Loses gs now visits' new (listing_of (take below gs) s) → LosesUpTo limit gs below ss (i + 1) old visits' new
-  loses_more h here = record {
-    seen = here.seen;
-    added = h.added ++ here.added;
-    more = here.more ∙ ap (λ xs. xs ++ here.added) h.more ∙ append_assoc old h.added here.added;
-    left = λ n fs ls e. further ls (h.left n fs ls e);
-  }
+  pub loses_more : (n : ℕ) (fs : List model.FlatForm) (ls : List model.LostString) → in_a_row limit (map (listing_of (take below gs)) ss) ≡ Lists n fs ls → LosesFrom limit gs below ss k old visits now →
+      ((n : ℕ) (fs : List model.FlatForm) (ls : List model.LostString) → listing_of (take below gs) s ≡ Lists n fs ls → Loses gs now visits' new ls) → LosesFrom limit gs below ss i old visits' new
+  loses_more n fs ls e h step = record { seen = there (lists_on limit (listing_of (take below gs)) ss i n fs ls e); found = further }
     where
-      further : (ls : List model.LostString) → LeftToLose limit (take below gs) ss i h.added now ls → LeftToLose limit (take below gs) ss (i + 1) (h.added ++ here.added) new ls
-      further ls k =
-          let p = splits limit (listing_of (take below gs) s) (map (listing_of (take below gs)) (drop (i + 1) ss)) k.tokens k.forms k.strings (ap (in_a_row limit) (sym front) ∙ k.rest) in
-          record {
-            tokens = p.other_tokens;
-            forms = p.other_forms;
-            strings = p.other_strings;
-            rest = p.others;
-            all_then = λ more q.
-                let grown : new ++ more ≡ now ++ (here.added ++ more) = ap (λ xs. xs ++ more) here.more ∙ append_assoc now here.added more in
-                let first : HoldsAll (new ++ more) p.strings = holds_more new more p.strings (here.all p.tokens p.forms p.strings p.first) in
-                let both : HoldsAll (new ++ more) k.strings = subst (HoldsAll (new ++ more)) (sym p.lost) (holds_with (new ++ more) p.strings p.other_strings first q) in
-                subst (λ (xs : List LostString). HoldsAll xs ls) (sym grown) (k.all_then (here.added ++ more) (subst (λ (xs : List LostString). HoldsAll xs k.strings) grown both));
-            only_then = λ more q. k.only_then more (subst (AllSame more) (sym p.lost) (same_second more p.strings p.other_strings q));
-            so_far = same_both h.added here.added ls k.so_far (k.only_then here.added (subst (AllSame here.added) (sym p.lost) (same_first here.added p.strings p.other_strings (here.only p.tokens p.forms p.strings p.first))));
-          }
+      there : IsLists (in_a_row limit (map (listing_of (take below gs)) (drop i ss))) → AreSeen gs visits' new
+      there q =
+          let p = splits limit (listing_of (take below gs) s) (map (listing_of (take below gs)) (drop k ss)) q.0 q.1 q.2 (ap (in_a_row limit) (sym front) ∙ q.3) in
+          (step p.tokens p.forms p.strings p.first).seen
 
-pub loses_end : (limit : ℕ) (gs : List model.Given) (below : ℕ) (ss : List Given) (i : ℕ) (old : List LostString) (visits : List Visit) (now : List LostString) → length ss ≤ i → LosesUpTo limit gs below ss i old visits now →
-    Loses gs old visits now (in_a_row limit (map (listing_of (take below gs)) ss))
-loses_end limit gs below ss i old visits now e h = record {
+      further : (m : ℕ) (gs' : List model.FlatForm) (ks : List model.LostString) → in_a_row limit (map (listing_of (take below gs)) (drop i ss)) ≡ Lists m gs' ks → lost_in new ≡ with_lost ks (lost_in old)
+      further m gs' ks q =
+          let p = splits limit (listing_of (take below gs) s) (map (listing_of (take below gs)) (drop k ss)) m gs' ks (ap (in_a_row limit) (sym front) ∙ q) in
+          (step p.tokens p.forms p.strings p.first).found
+          ∙ ap (with_lost p.strings) (h.found p.other_tokens p.other_forms p.other_strings p.others)
+          ∙ sym (lost_joined p.strings p.other_strings (lost_in old))
+          ∙ ap (λ (xs : List model.LostString). with_lost xs (lost_in old)) (sym p.lost)
+
+pub loses_end : (limit : ℕ) (gs : List model.Given) (below : ℕ) (ss : List Given) (k : ℕ) (old : List LostString) (visits : List Visit) (now : List LostString) (n : ℕ) (fs : List model.FlatForm) (ls : List model.LostString) → k ≡ 0 →
+    in_a_row limit (map (listing_of (take below gs)) ss) ≡ Lists n fs ls → LosesFrom limit gs below ss k old visits now → Loses gs old visits now ls
+loses_end limit gs below ss k old visits now n fs ls none e h = record {
   seen = h.seen;
-  added = h.added;
-  more = h.more;
-  all = λ n fs ls q. ended ls (h.left n fs ls q);
-  only = λ n fs ls q. (h.left n fs ls q).so_far;
+  found = h.found n fs ls (ap (λ j. in_a_row limit (map (listing_of (take below gs)) (drop j ss))) none ∙ e);
 }
-  where
-    ended : (ls : List model.LostString) → LeftToLose limit (take below gs) ss i h.added now ls → HoldsAll now ls
-    ended ls k =
-        let same : nothing ≡ Lists k.tokens k.forms k.strings = sym (at_drop_all (λ (xs : List Given). in_a_row limit (map (listing_of (take below gs)) xs)) ss i e) ∙ k.rest in
-        let none : [] ≡ k.strings = cc in
-        subst (λ (xs : List LostString). HoldsAll xs ls) (append-nil now) (k.all_then [] (subst (HoldsAll (now ++ [])) none tt))

@@ -1,26 +1,43 @@
 -- The strings that are lost where texts give steps: those that mean no text that can be included.
-use Rattle.std.specs.Prelude.{◌≡◌, ℕ, List, [], ◌∷◌, ◌++◌, map, length, Bool, true, false, Contains, slice_get, Some}
+use Rattle.std.specs.Prelude.{◌≡◌, ℕ, List, [], ◌∷◌, map, reverse, length, Bool, true, false, slice_get, Some}
 use Rattle.std.specs.List.{list_any}
+use Rattle.std.specs.BTreeSet.{BTreeSet, contains}
+use Rattle.std.specs.Cmp.Lexicographic.{slice_cmp}
+use Rattle.std.specs.Ordering.{nat_cmp, ordering_then}
+use Rattle.std.specs.declared.cmp.Ordering.{Ordering}
 use Rattle.scheme_model.specs.Included as model
-use Rattle.scheme_model.specs.Included.{Listing, Lists, is_same_string, given_at}
+use Rattle.scheme_model.specs.Included.{Listing, Lists, is_same_string, with_lost, given_at}
 use Rattle.included_forms.specs.declared.steps.Way.{Way}
 use Rattle.included_forms.specs.declared.steps.Way.TheVariants as way
 use Rattle.included_forms.specs.declared.given.LostString.{LostString}
 use Rattle.included_forms.specs.declared.given.Part.{Part}
 use Rattle.included_forms.specs.declared.losing.Visit.{Visit}
+use Rattle.included_forms.specs.declared.once.StringKey.{StringKey}
 use Rattle.included_forms.specs.Counted.{lost_of, in_way}
 
 -- ---- strings that were found
 
--- each of these strings is among those that were found
-abbrev pub HoldsAll : List LostString → List model.LostString → Type 0
-HoldsAll found [] = Unit {0}
-HoldsAll found (l ∷ ls) = Contains (map lost_of found) l × HoldsAll found ls
+-- strings that were found from the last to the first, in their order, each once
+abbrev pub lost_in : List LostString → List model.LostString
+lost_in found = with_lost (reverse (map lost_of found)) []
 
--- each that was found is the same string as one of these
-abbrev pub AllSame : List LostString → List model.LostString → Type 0
-AllSame [] ls = Unit {0}
-AllSame (f ∷ found) ls = (list_any (is_same_string (lost_of f)) ls ≡ true) × AllSame found ls
+-- each of these strings is among those
+abbrev pub AreAmong : List model.LostString → List model.LostString → Type 0
+AreAmong [] ks = Unit {0}
+AreAmong (l ∷ ls) ks = (list_any (is_same_string l) ks ≡ true) × AreAmong ls ks
+
+-- a string as keys have it
+abbrev pub keyed : StringKey → model.LostString
+keyed k = record { document = k.document; string = record { place = record { first = k.first; last = k.last; start = k.start; end = k.end }; characters = k.characters.now } }
+
+abbrev pub key_cmp : StringKey → StringKey → Ordering
+key_cmp a b =
+    ordering_then (nat_cmp a.document b.document) (ordering_then (nat_cmp a.first b.first) (ordering_then (nat_cmp a.last b.last)
+    (ordering_then (nat_cmp a.start b.start) (ordering_then (nat_cmp a.end b.end) (slice_cmp nat_cmp a.characters.now b.characters.now)))))
+
+-- the keys are those of these strings
+abbrev pub AreKeys : BTreeSet StringKey → List model.LostString → Type 0
+AreKeys set ls = (k : StringKey) → contains key_cmp set k ≡ list_any (is_same_string (keyed k)) ls
 
 -- ---- texts that were gone through
 
@@ -41,12 +58,9 @@ pub record AreFresh (visits : List Visit) (parts : List Part) : Type 0 where
 
 -- the strings of the texts that were are found
 abbrev pub AreSeen : List model.Given → List Visit → List LostString → Type 0
-AreSeen gs visits found = (k : ℕ) (v : Visit) (w : Way) → slice_get visits k ≡ Some v → visited_in v w ≡ true → (n : ℕ) (fs : List model.FlatForm) (ls : List model.LostString) → in_way (given_at gs k) w ≡ Lists n fs ls → HoldsAll found ls
+AreSeen gs visits found = (k : ℕ) (v : Visit) (w : Way) → slice_get visits k ≡ Some v → visited_in v w ≡ true → (n : ℕ) (fs : List model.FlatForm) (ls : List model.LostString) → in_way (given_at gs k) w ≡ Lists n fs ls → AreAmong ls (lost_in found)
 
--- the strings of a listing were added, and no others
-pub record Loses (gs : List model.Given) (old : List LostString) (visits : List Visit) (new : List LostString) (l : Listing) : Type 0 where
+-- these strings were found, which stand before the others
+pub record Loses (gs : List model.Given) (old : List LostString) (visits : List Visit) (new : List LostString) (ls : List model.LostString) : Type 0 where
   pub seen : AreSeen gs visits new
-  pub added : List LostString
-  pub more : new ≡ old ++ added
-  pub all : (n : ℕ) (fs : List model.FlatForm) (ls : List model.LostString) → l ≡ Lists n fs ls → HoldsAll new ls
-  pub only : (n : ℕ) (fs : List model.FlatForm) (ls : List model.LostString) → l ≡ Lists n fs ls → AllSame added ls
+  pub found : lost_in new ≡ with_lost ls (lost_in old)

@@ -8,6 +8,7 @@ mod declared;
 pub mod given;
 pub mod laws;
 mod losing;
+mod once;
 mod planning;
 mod plans;
 mod resolving;

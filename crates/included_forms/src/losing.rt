@@ -1,6 +1,7 @@
-//! The strings of steps that mean no text that can be included, over a table of texts. Each text is gone through once for each way.
+//! The strings of steps that mean no text that can be included, over a table of texts, from the last to the first. Each text is gone
+//! through once for each way.
 ghost use Rattle.std.specs.Prelude.{◌≡◌, ◌||◌, false, ℕ, List, map, take, length, OnOk, IfOk};
-ghost use Rattle.scheme_model.specs.Included.{Given as ModelGiven, in_a_row, given_at};
+ghost use Rattle.scheme_model.specs.Included.{Given as ModelGiven, FlatForm as ModelForm, LostString as ModelLost, Lists, in_a_row, given_at};
 ghost use Rattle.included_forms.specs.Counted.{Stand, listing_of, in_way};
 ghost use Rattle.included_forms.specs.Losses.{Loses, AreSeen, visited_in, same_way, AreFresh};
 ghost use Rattle.included_forms.specs.declared.steps.Way.{Way as ModelWay};
@@ -66,7 +67,7 @@ pub fn no_visits(alloc: Global, parts: &[Part<'_>]) -> Mem<Vec<Visit>>
     Ok(visits)
 }
 
-/// Adds the strings that steps lose, each of which the texts at the places below this one in a table give.
+/// Adds the strings that steps lose, from the last to the first, over the texts at the places below this one in a table.
 #[cycle(losing)]
 pub fn lose<'a>(
     parts: &[Part<'a>],
@@ -78,15 +79,16 @@ pub fn lose<'a>(
     requires { length visits.old.items ≡ length parts.now }
     ensures as_many { length visits.new.items ≡ length parts.now }
     ensures loses { (limit : ℕ) (gs : List ModelGiven) → Stand limit gs parts.now → AreSeen gs visits.old.items lost.old.items →
-        OnOk result (Loses gs lost.old.items visits.new.items lost.new.items (in_a_row limit (map (listing_of (take below gs)) steps.now))) }
+        (n : ℕ) (fs : List ModelForm) (ls : List ModelLost) → in_a_row limit (map (listing_of (take below gs)) steps.now) ≡ Lists n fs ls →
+        OnOk result (Loses gs lost.old.items visits.new.items lost.new.items ls) }
 {
-    for step in steps {
-        lose_step(parts, below, *step, visits, lost)?;
+    for k in (0..steps.len()).rev() {
+        lose_step(parts, below, steps[k], visits, lost)?;
     }
     Ok(())
 }
 
-/// Adds the strings that a step loses.
+/// Adds the strings that a step loses, from the last to the first.
 #[cycle(losing)]
 fn lose_step<'a>(
     parts: &[Part<'a>],
@@ -98,7 +100,8 @@ fn lose_step<'a>(
     requires { length visits.old.items ≡ length parts.now }
     ensures as_many { length visits.new.items ≡ length parts.now }
     ensures loses { (limit : ℕ) (gs : List ModelGiven) → Stand limit gs parts.now → AreSeen gs visits.old.items lost.old.items →
-        OnOk result (Loses gs lost.old.items visits.new.items lost.new.items (listing_of (take below gs) step.entry)) }
+        (n : ℕ) (fs : List ModelForm) (ls : List ModelLost) → listing_of (take below gs) step.entry ≡ Lists n fs ls →
+        OnOk result (Loses gs lost.old.items visits.new.items lost.new.items ls) }
 {
     match step {
         Given::Form(_) => Ok(()),
@@ -124,7 +127,8 @@ fn lose_text<'a>(
     requires { length visits.old.items ≡ length parts.now }
     ensures as_many { length visits.new.items ≡ length parts.now }
     ensures loses { (limit : ℕ) (gs : List ModelGiven) → Stand limit gs parts.now → AreSeen gs visits.old.items lost.old.items →
-        OnOk result (Loses gs lost.old.items visits.new.items lost.new.items (in_way (given_at gs place) way)) }
+        (n : ℕ) (fs : List ModelForm) (ls : List ModelLost) → in_way (given_at gs place) way ≡ Lists n fs ls →
+        OnOk result (Loses gs lost.old.items visits.new.items lost.new.items ls) }
 {
     if place >= parts.len() {
         return Ok(());

@@ -12,6 +12,7 @@ ghost use Rattle.included_forms.specs.Listed.{IsListed, IsLists};
 
 use crate::given::{Count, LostString, Part, Written};
 use crate::losing::{lose, no_visits};
+use crate::once::each_once;
 use crate::plans::{library_plan, program_plan};
 use crate::steps::{FlatForm, Source};
 use crate::tables::{Documents, Table, plan_written};
@@ -39,14 +40,15 @@ fn lists<'a>(alloc: Global, parts: &[Part<'a>], written: &Written<'a>) -> Mem<Li
     let mut forms = Vec::new(alloc);
     write(parts, parts.len(), written.steps.as_slice(), &mut forms)?;
     let mut visits = no_visits(alloc, parts)?;
-    let mut lost = Vec::new(alloc);
+    let mut found = Vec::new(alloc);
     lose(
         parts,
         parts.len(),
         written.steps.as_slice(),
         &mut visits,
-        &mut lost,
+        &mut found,
     )?;
+    let lost = each_once(alloc, found.as_slice())?;
     Ok(Listed::Lists { forms, lost })
 }
 

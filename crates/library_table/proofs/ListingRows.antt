@@ -1,7 +1,7 @@
 -- What texts list, as units have it.
-use Rattle.std.proofs.Common.{◌≡◌, ℕ, ◌+◌, ◌<◌, List, [], ◌∷◌, ◌++◌, append_assoc, length, get_or, drop, map, Bool, true, false, Option, Result, Ok, Err, refl, sym, ap, ◌∙◌, subst}
+use Rattle.std.proofs.Common.{◌≡◌, ℕ, ◌+◌, ◌<◌, ◌≤◌, List, [], ◌∷◌, ◌++◌, append_assoc, append-nil, length, get_or, drop, map, Bool, true, false, Option, Result, Ok, Err, refl, sym, ap, ◌∙◌, subst}
 use Rattle.std.specs.Prelude.{◌&&◌, ◌||◌, if◌then◌else◌}
-use Rattle.std.proofs.lemmas.List.{drop_more}
+use Rattle.std.proofs.lemmas.List.{drop_more, at_drop_all}
 use Rattle.std.specs.Option.{option_map}
 use Rattle.std.specs.Result.{IsErrAnd}
 use Rattle.scheme_model.specs.Data.{Place, Datum}
@@ -13,14 +13,20 @@ use Rattle.scheme_model.specs.Requirements.{LibraryName}
 use Rattle.scheme_tokens.specs.LibraryNames.{library_text}
 use Rattle.datum_reader.specs.FirstTokens.{first_token}
 use Rattle.datum_reader.specs.Views.{datum_of}
-use Rattle.included_forms.specs.Steps.{form_of as listed_form}
+use Rattle.included_forms.specs.Counted.{lost_of}
+use Rattle.included_forms.specs.Listed.{IsListed}
+use Rattle.included_forms.specs.Steps.{homed_of, form_of as listed_form}
+use Rattle.included_forms.specs.declared.given.LostString as lost
 use Rattle.included_forms.specs.declared.steps.FlatForm as listed
+use Rattle.included_forms.specs.declared.steps.Source.{Source}
+use Rattle.included_forms.specs.declared.units.Listed.{Listed}
+use Rattle.included_forms.specs.declared.units.Listed.TheVariants as end
 use Rattle.library_table.specs.declared.fault.LibraryFault.{LibraryFault}
 use Rattle.library_table.specs.declared.fault.LibraryFault.TheVariants as fault
 use Rattle.library_table.specs.declared.reading.Lists as code_lists
 use Rattle.library_table.specs.declared.units.UnitForm as code_form
 use Rattle.library_table.specs.declared.units.UnitSource as code
-use Rattle.library_table.specs.UnitsRead.{forms_of, forms_left, listing_left, is_import, kind_of, AreSpecs, AreExportsRead, IsListingRead, IsSource, IsUnitRead}
+use Rattle.library_table.specs.UnitsRead.{forms_of, forms_left, listing_left, is_import, kind_of, lost_as, AreSpecs, AreExportsRead, IsBadAt, IsListingRead, IsSource, IsUnitRead}
 
 -- ---- forms
 
@@ -47,6 +53,31 @@ copied_more leads next fs i f old new all low is so_far leading push =
     ∙ ap (λ (xs : List UnitForm). old ++ xs) (sym (forms_more leads (listed_form f) rest))
     ∙ ap (λ (g : listed.FlatForm). old ++ forms_left leads (listed_form g ∷ rest)) is
     ∙ ap (λ (gs : List listed.FlatForm). old ++ forms_left leads (map listed_form gs)) (sym (drop_more fs i f low)) ∙ so_far
+
+-- all were copied
+pub copied_all : (leads leading : Bool) (fs : List listed.FlatForm) (i : ℕ) (forms : List UnitForm) → length fs ≤ i → forms ++ forms_left leads (map listed_form (drop i fs)) ≡ forms_left leading (map listed_form fs) → forms ≡ forms_left leading (map listed_form fs)
+copied_all leads leading fs i forms h e =
+    sym (append-nil forms) ∙ ap (λ (xs : List UnitForm). forms ++ xs) (sym (at_drop_all (λ (xs : List listed.FlatForm). forms_left leads (map listed_form xs)) fs i h ∙ none leads)) ∙ e
+  where
+    none : (b : Bool) → forms_left b [] ≡ []
+    none true = refl
+    none false = refl
+
+-- ---- what is listed
+
+pub lists_read : (unit : ℕ) (leading : Bool) (x : Listed) (forms : Vec listed.FlatForm) (strings : Vec lost.LostString) (l : Listing) (c : code_lists.Lists) → x ≡ end.Lists forms strings → IsListed x l →
+    forms_of c.forms.items ≡ forms_left leading (map listed_form forms.items) → c.lost ≡ map lost_as (map lost_of strings.items) → IsListingRead unit leading l (Ok c)
+lists_read unit leading x forms strings l c is h f s =
+    let k = subst (λ (y : Listed). IsListed y l) is h in
+    (k.0, map listed_form forms.items, map lost_of strings.items, k.1, f, s)
+
+pub bad_read : (unit : ℕ) (leading : Bool) (x : Listed) (s : Source) (l : Listing) (e : LibraryFault) → x ≡ end.Bad s → IsListed x l → IsBadAt unit (homed_of s) e → IsListingRead unit leading l (Err e)
+bad_read unit leading x s l e is h k =
+    let b = subst (λ (y : Listed). IsListed y l) is h in
+    subst (λ (f : LibraryFault). IsListingRead unit leading l (Err f)) (sym k) (b.0, homed_of s, b.1, refl, refl)
+
+pub long_read : (x : Listed) (l : Listing) → x ≡ end.TooLong → IsListed x l → l ≡ TooLong
+long_read x l is h = subst (λ (y : Listed). IsListed y l) is h
 
 -- ---- ends
 

@@ -1,7 +1,6 @@
 -- What units that are read stand for (R7RS 5.1, 5.6.1): their forms, imports and exports, the strings that give them nothing, and the
 -- bytes of their first tokens.
-use Rattle.std.specs.Prelude.{◌≡◌, ◌==◌, ℕ, List, [], ◌∷◌, ◌++◌, map, Contains, Bool, true, false, ◌&&◌, Option, Some, None, Result, Ok, Err, codes}
-use Rattle.std.specs.List.{list_any}
+use Rattle.std.specs.Prelude.{◌≡◌, ℕ, List, [], ◌∷◌, ◌++◌, map, Bool, true, false, ◌&&◌, Option, Some, None, Result, Ok, Err, codes}
 use Rattle.std.specs.Option.{option_map}
 use Rattle.scheme_model.specs.Data.{Datum}
 use Rattle.scheme_model.specs.Trees.{Tree, name, atom as atom_tree, list as list_tree, vector as vector_tree}
@@ -86,23 +85,8 @@ AddsExports old new xs = Adds IsExportRead old new xs
 abbrev pub lost_as : LostString → code_lost.LostString
 lost_as l = record { document = l.document; span = span_of l.string.place; characters = l.string.characters }
 
--- both begin at one byte of one document
-abbrev pub begins_as : code_lost.LostString → LostString → Bool
-begins_as c l = (c.document == l.document) && (c.span.start == l.string.place.start)
-
--- each of these strings is kept
-abbrev pub KeepsAll : List code_lost.LostString → List LostString → Type 0
-KeepsAll cs [] = Unit {0}
-KeepsAll cs (l ∷ ls) = Contains cs (lost_as l) × KeepsAll cs ls
-
--- each that is kept begins where one of these does
-abbrev pub KeepsOnly : List code_lost.LostString → List LostString → Type 0
-KeepsOnly [] ls = Unit {0}
-KeepsOnly (c ∷ cs) ls = (list_any (begins_as c) ls ≡ true) × KeepsOnly cs ls
-
-pub record AreLost (cs : List code_lost.LostString) (ls : List LostString) : Type 0 where
-  pub all : KeepsAll cs ls
-  pub only : KeepsOnly cs ls
+abbrev pub AreLost : List code_lost.LostString → List LostString → Type 0
+AreLost cs ls = cs ≡ map lost_as ls
 
 -- ---- units
 

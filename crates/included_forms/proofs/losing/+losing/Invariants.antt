@@ -1,8 +1,8 @@
-use Rattle.std.proofs.Common.{◌≡◌, ℕ, ◌+◌, ◌*◌, List, length}
-use Rattle.scheme_model.specs.Included.{Given}
-use Rattle.included_forms.specs.Counted.{Stand}
+use Rattle.std.proofs.Common.{◌≡◌, ℕ, ◌+◌, ◌*◌, List, length, map, take}
+use Rattle.scheme_model.specs.Included.{Given, FlatForm, LostString, Lists, in_a_row}
+use Rattle.included_forms.specs.Counted.{Stand, listing_of}
 use Rattle.included_forms.specs.Losses.{AreSeen}
-use Rattle.included_forms.proofs.LosingLaws.{LosesUpTo}
+use Rattle.included_forms.proofs.LosingLaws.{LosesFrom}
 use Rattle.included_forms.proofs.losing.+losing.Given as goal
 
 abbrev pub decreases-lose : goal.decreases-lose
@@ -14,9 +14,9 @@ decreases-lose_step l = 3 * l.below + 1
 abbrev pub decreases-lose_text : goal.decreases-lose_text
 decreases-lose_text l = 3 * l.place + 3
 
-abbrev pub invariant-lose-loop-step : goal.invariant-lose-loop-step
-invariant-lose-loop-step l = record {
+abbrev pub invariant-lose-loop-k : goal.invariant-lose-loop-k
+invariant-lose-loop-k l = record {
   as_many : length l.visits.items ≡ length l.parts;
-  loses : (limit : ℕ) (gs : List Given) → Stand limit gs l.parts → AreSeen gs l.initial.visits.items l.initial.lost.items →
-      LosesUpTo limit gs l.below l.steps l.step-index l.initial.lost.items l.visits.items l.lost.items;
+  loses : (limit : ℕ) (gs : List Given) → Stand limit gs l.parts → AreSeen gs l.initial.visits.items l.initial.lost.items → (n : ℕ) (fs : List FlatForm) (ls : List LostString) →
+      in_a_row limit (map (listing_of (take l.below gs)) l.steps) ≡ Lists n fs ls → LosesFrom limit gs l.below l.steps l.k l.initial.lost.items l.visits.items l.lost.items;
 }
