@@ -11,7 +11,8 @@ use Rattle.scheme_model.specs.UnitExpansion.{Formed}
 use Rattle.scheme_model.specs.Substitution.{Defined, Table}
 use Rattle.scheme_model.specs.Requirements.{LibraryName}
 use Rattle.scheme_model.specs.Entries.{Entry, ImportFault, NotThere, Clash, BadSet}
-use Rattle.scheme_model.specs.Declarations.{UnitForm, UnitKind, IsLibrary, IsProgram, IsPart}
+use Rattle.scheme_model.specs.Data.{place_of}
+use Rattle.scheme_model.specs.Declarations.{UnitForm, UnitKind, IsLibrary, IsProgram, IsPart, home_of}
 use Rattle.scheme_model.specs.Includes.{max_units}
 use Rattle.scheme_model.specs.IncludedUnits.{Placed}
 use Rattle.scheme_model.specs.Program.{Prepared, ExportSpec, WholeFault, whole_code, SetResult, Unknown, Faulty, Gives, ExportFault, NotDefined, SameExport, UnitResult, Program, specs_in, has_name, names_of_unit}
@@ -33,6 +34,7 @@ use Rattle.core_tree.specs.declared.traces.FormFault as code_fault
 use Rattle.core_tree.specs.declared.units.UnitForm as code_form
 use Rattle.core_tree.specs.declared.units.NameUse as code_name
 use Rattle.core_tree.specs.declared.units.UnitError as code_error
+use Rattle.core_tree.specs.declared.units.TokenRange.{TokenRange}
 use Rattle.core_tree.specs.declared.units.Unit as code_unit
 use Rattle.core_tree.specs.declared.units.Program as code_program
 
@@ -190,6 +192,12 @@ abbrev pub text_of : (LibraryName → List ℕ) → Option LibraryName → Optio
 text_of text None = None
 text_of text (Some n) = Some (text n)
 
+-- the tokens of forms that are numbered from one on, with the homes of their texts
+abbrev pub ranges_from : (unit form : ℕ) → List UnitForm → List TokenRange
+ranges_from unit form [] = []
+ranges_from unit form (f ∷ fs) =
+    record { home = home_of unit form f; first = (place_of f.datum).first; last = (place_of f.datum).last } ∷ ranges_from unit (suc form) fs
+
 -- the units whose libraries a unit imports; one behind the most units imports nothing
 abbrev pub imports_of : Prepared → List ℕ
 imports_of p = if nat_le max_units p.number then [] else p.imports
@@ -202,6 +210,7 @@ pub record UnitStands (work : Work) (text : LibraryName → List ℕ) (uris : Li
   pub name : c.name ≡ text_of text r.unit.placed.source.name
   pub count : length c.forms ≡ length r.unit.forms
   pub forms : FormsStand work place 0 c.forms r.forms
+  pub ranges : c.ranges.items ≡ ranges_from place 0 r.unit.forms
   pub definitions : AreDefinitions work.symbols (reverse (definitions_from 0 c.forms)) (defined_by place (program_table p))
   pub imports : c.imports ≡ imports_of r.unit
   pub names : AreNames work.symbols place c.names (unit_names all p r) (externals p.table r)

@@ -1,37 +1,20 @@
 -- An included text stands in the place of the list that includes it: what is given is the same where the text's data stand there themselves.
-use Rattle.std.proofs.Common.{◌≡◌, refl, sym, ap, subst, ◌∙◌, ℕ, ◌+◌, List, [], ◌∷◌, ◌++◌, map, Bool, true, false, Option, Some, ◌||◌, arith}
+use Rattle.std.proofs.Common.{◌≡◌, refl, sym, ap, ◌∙◌, ℕ, ◌+◌, List, [], ◌∷◌, ◌++◌, map, Bool, true, false, Option, Some, None, ◌||◌, arith}
 use Rattle.std.specs.Prelude.{nat_lt, if◌then◌else◌, codes}
 use Rattle.std.proofs.lemmas.List.{append_assoc, append-nil, map-append}
 use Rattle.std.specs.List.{list_any}
 use Rattle.std.specs.Char.{encode_utf8}
 use Rattle.std.specs.Str.{encode_utf8_all}
-use Rattle.std.proofs.lemmas.Slice.Eq.{bytes_eq-Decides}
 use Rattle.scheme_model.specs.Kinds.{Name, Quoted}
 use Rattle.scheme_model.specs.Data.{Datum, atom, list, spelled, part, none, Place}
 use Rattle.scheme_model.specs.Requirements.{Known}
 use Rattle.scheme_model.specs.Includes.{StringAt, includes}
-use Rattle.scheme_model.specs.Included.{FlatForm, Homed, LostString, Listing, Lists, BadAfter, TooLong, nothing, is_same_place, is_same_string, with_one, with_lost, joined, capped, followed, in_a_row, Texts, form_or_texts, forms_of, texts_or, form_alone, declaration, declarations_of}
+use Rattle.scheme_model.specs.Included.{FlatForm, Homed, LostString, Listing, Lists, BadAfter, TooLong, nothing, is_same_string, with_one, with_lost, joined, capped, followed, in_a_row, Texts, form_or_texts, forms_of, texts_or, form_alone, declaration, declarations_of}
 
 -- ---- strings, each once
 
-same_place : (p q : Place) → is_same_place p q ≡ true → p ≡ q
-same_place p q h =
-    let first : p.first ≡ q.first = grind arith in
-    let last : p.last ≡ q.last = grind arith in
-    let start : p.start ≡ q.start = grind arith in
-    let end : p.end ≡ q.end = grind arith in
-    λ i. record { first = first i; last = last i; start = start i; end = end i }
-
--- the same string is one
-pub one_if_same : (a b : LostString) → is_same_string a b ≡ true → a ≡ b
-one_if_same a b h =
-    let document : a.document ≡ b.document = grind arith in
-    let place : a.string.place ≡ b.string.place = same_place a.string.place b.string.place (grind arith) in
-    let characters : a.string.characters ≡ b.string.characters = (bytes_eq-Decides a.string.characters b.string.characters).0 (grind arith) in
-    λ i. record { document = document i; string = record { place = place i; characters = characters i } }
-
 same_through : (a b k : LostString) → is_same_string a b ≡ true → is_same_string b k ≡ true → is_same_string a k ≡ true
-same_through a b k e h = subst (λ x. is_same_string x k ≡ true) (sym (one_if_same a b e)) h
+same_through a b k e h = grind arith
 
 -- what is the same as a string that is among others is among them
 same_among : (a b : LostString) (ks : List LostString) → is_same_string a b ≡ true → list_any (is_same_string b) ks ≡ true → list_any (is_same_string a) ks ≡ true

@@ -3,9 +3,8 @@
 -- `begin`, and as a declaration.
 use Rattle.std.specs.Prelude.{ℕ, zero, suc, ◌+◌, ◌-◌, ◌==◌, nat_lt, List, [], ◌∷◌, ◌++◌, map, length, Bool, true, false, ◌&&◌, Option, Some, None, Result, Ok, Err, codes, if◌then◌else◌}
 use Rattle.std.specs.List.{list_any}
-use Rattle.std.specs.Str.{bytes_eq}
 use Rattle.scheme_model.specs.declared.Home.{Home}
-use Rattle.scheme_model.specs.Data.{Place, Datum, atom, list, vector, bytes, Data, none, part, tail, place_of}
+use Rattle.scheme_model.specs.Data.{Datum, atom, list, vector, bytes, Data, none, part, tail, place_of}
 use Rattle.scheme_model.specs.Trees.{Tree, Trees, no_trees, tree}
 use Rattle.scheme_model.specs.ExpansionFaults.{Fault}
 use Rattle.scheme_model.specs.Requirements.{Known, clause_holds}
@@ -50,11 +49,8 @@ pub data Listing : Type 0 where
 abbrev pub nothing : Listing
 nothing = Lists 0 [] []
 
-abbrev pub is_same_place : Place → Place → Bool
-is_same_place p q = (p.first == q.first) && (p.last == q.last) && (p.start == q.start) && (p.end == q.end)
-
 abbrev pub is_same_string : LostString → LostString → Bool
-is_same_string a b = (a.document == b.document) && is_same_place a.string.place b.string.place && bytes_eq a.string.characters b.string.characters
+is_same_string a b = (a.document == b.document) && (a.string.place.start == b.string.place.start)
 
 -- one before others, unless it is among them
 abbrev pub with_one : LostString → List LostString → List LostString
