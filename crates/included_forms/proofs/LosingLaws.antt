@@ -3,10 +3,8 @@ use Rattle.std.proofs.Common.{◌≡◌, ℕ, zero, suc, ◌+◌, ◌<◌, ◌�
 use Rattle.std.specs.Prelude.{◌||◌, if◌then◌else◌}
 use Rattle.std.specs.List.{list_any}
 use Rattle.std.proofs.lemmas.List.{drop_more, at_drop_all, map-append, reverse-append}
-use Rattle.std.proofs.lemmas.Slice.Eq.{bytes_eq-Decides}
-use Rattle.scheme_model.specs.Data.{Place}
 use Rattle.scheme_model.specs.Included as model
-use Rattle.scheme_model.specs.Included.{Listing, Lists, nothing, is_same_place, is_same_string, with_one, with_lost, in_a_row, given_at}
+use Rattle.scheme_model.specs.Included.{Listing, Lists, nothing, is_same_string, with_one, with_lost, in_a_row, given_at}
 use Rattle.included_forms.specs.declared.steps.Way.{Way}
 use Rattle.included_forms.specs.declared.steps.Way.TheVariants as way
 use Rattle.included_forms.specs.declared.given.LostString.{LostString}
@@ -20,26 +18,15 @@ use Rattle.included_forms.proofs.BuildLaws.{there_or_last, set_same, set_other, 
 
 -- ---- strings that are the same
 
-same_place : (p q : Place) → is_same_place p q ≡ true → p ≡ q
-same_place p q h =
-    let first : p.first ≡ q.first = grind arith in
-    let last : p.last ≡ q.last = grind arith in
-    let start : p.start ≡ q.start = grind arith in
-    let end : p.end ≡ q.end = grind arith in
-    λ i. record { first = first i; last = last i; start = start i; end = end i }
-
-pub one_if_same : (a b : model.LostString) → is_same_string a b ≡ true → a ≡ b
-one_if_same a b h =
-    let document : a.document ≡ b.document = grind arith in
-    let place : a.string.place ≡ b.string.place = same_place a.string.place b.string.place (grind arith) in
-    let characters : a.string.characters ≡ b.string.characters = (bytes_eq-Decides a.string.characters b.string.characters).0 (grind arith) in
-    λ i. record { document = document i; string = record { place = place i; characters = characters i } }
+same_through : (a b k : model.LostString) → is_same_string a b ≡ true → is_same_string b k ≡ true → is_same_string a k ≡ true
+same_through a b k e h = grind arith
 
 same_itself : (a : model.LostString) → is_same_string a a ≡ true
-same_itself a = let characters = (bytes_eq-Decides a.string.characters a.string.characters).1 in grind arith
+same_itself a = grind arith
 
-pub same_among : (a b : model.LostString) (ks : List model.LostString) → is_same_string a b ≡ true → list_any (is_same_string b) ks ≡ true → list_any (is_same_string a) ks ≡ true
-same_among a b ks e h = subst (λ (x : model.LostString). list_any (is_same_string x) ks ≡ true) (sym (one_if_same a b e)) h
+same_among : (a b : model.LostString) (ks : List model.LostString) → is_same_string a b ≡ true → list_any (is_same_string b) ks ≡ true → list_any (is_same_string a) ks ≡ true
+same_among a b [] e h = h
+same_among a b (k ∷ ks) e h = grind (arith, same_through a b k e, same_among a b ks e)
 
 -- ---- strings among others
 

@@ -1,8 +1,7 @@
 -- The strings that are lost where texts give steps: those that mean no text that can be included.
-use Rattle.std.specs.Prelude.{◌≡◌, ℕ, List, [], ◌∷◌, map, reverse, length, Bool, true, false, slice_get, Some}
+use Rattle.std.specs.Prelude.{◌≡◌, ◌==◌, ℕ, List, [], ◌∷◌, map, reverse, length, Bool, true, false, ◌&&◌, slice_get, Some}
 use Rattle.std.specs.List.{list_any}
 use Rattle.std.specs.BTreeSet.{BTreeSet, contains}
-use Rattle.std.specs.Cmp.Lexicographic.{slice_cmp}
 use Rattle.std.specs.Ordering.{nat_cmp, ordering_then}
 use Rattle.std.specs.declared.cmp.Ordering.{Ordering}
 use Rattle.scheme_model.specs.Included as model
@@ -12,7 +11,7 @@ use Rattle.included_forms.specs.declared.steps.Way.TheVariants as way
 use Rattle.included_forms.specs.declared.given.LostString.{LostString}
 use Rattle.included_forms.specs.declared.given.Part.{Part}
 use Rattle.included_forms.specs.declared.losing.Visit.{Visit}
-use Rattle.included_forms.specs.declared.once.StringKey.{StringKey}
+use Rattle.included_forms.specs.declared.once.Spot.{Spot}
 use Rattle.included_forms.specs.Counted.{lost_of, in_way}
 
 -- ---- strings that were found
@@ -26,18 +25,19 @@ abbrev pub AreAmong : List model.LostString → List model.LostString → Type 0
 AreAmong [] ks = Unit {0}
 AreAmong (l ∷ ls) ks = (list_any (is_same_string l) ks ≡ true) × AreAmong ls ks
 
--- a string as keys have it
-abbrev pub keyed : StringKey → model.LostString
-keyed k = record { document = k.document; string = record { place = record { first = k.first; last = k.last; start = k.start; end = k.end }; characters = k.characters.now } }
+-- where a string stands
+abbrev pub spot_of : model.LostString → Spot
+spot_of l = record { document = l.document; start = l.string.place.start }
 
-abbrev pub key_cmp : StringKey → StringKey → Ordering
-key_cmp a b =
-    ordering_then (nat_cmp a.document b.document) (ordering_then (nat_cmp a.first b.first) (ordering_then (nat_cmp a.last b.last)
-    (ordering_then (nat_cmp a.start b.start) (ordering_then (nat_cmp a.end b.end) (slice_cmp nat_cmp a.characters.now b.characters.now)))))
+abbrev pub spot_cmp : Spot → Spot → Ordering
+spot_cmp a b = ordering_then (nat_cmp a.document b.document) (nat_cmp a.start b.start)
 
--- the keys are those of these strings
-abbrev pub AreKeys : BTreeSet StringKey → List model.LostString → Type 0
-AreKeys set ls = (k : StringKey) → contains key_cmp set k ≡ list_any (is_same_string (keyed k)) ls
+abbrev pub stands_at : Spot → model.LostString → Bool
+stands_at s l = (s.document == l.document) && (s.start == l.string.place.start)
+
+-- the set has the places of these strings, and no others
+abbrev pub AreSpots : BTreeSet Spot → List model.LostString → Type 0
+AreSpots set ls = (s : Spot) → contains spot_cmp set s ≡ list_any (stands_at s) ls
 
 -- ---- texts that were gone through
 

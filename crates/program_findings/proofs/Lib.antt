@@ -5,3 +5,4 @@ pub mod UnboundLaws  -- The unbound uses that the code finds are those of the de
 pub mod UnboundFound  -- What is found of uses that mean nothing tells the definition's diagnostics
 pub mod WholeLaws  -- What is found of a unit that is broken as a whole tells the definition's diagnostic
 pub mod StopsLaws  -- Documents that don't read have that alone, and what the code keeps of all documents
+mod LostLaws  -- What is found of strings that mean no text tells the definition's diagnostics

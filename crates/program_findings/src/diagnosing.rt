@@ -1,26 +1,28 @@
 //! What is found wrong in the forms of a unit, and in a unit that is broken as a whole.
-ghost use Rattle.std.specs.Prelude.{◌≡◌, ◌<◌, ◌++◌, ◌∷◌, ℕ, List, [], length, slice_get, vec_len, Some, None, IfOk, OnOk};
+ghost use Rattle.std.specs.Prelude.{◌≡◌, ◌<◌, ◌++◌, ◌∷◌, ℕ, List, [], length, map, slice_get, vec_len, Some, None, IfOk, OnOk};
 ghost use Rattle.scheme_model.specs.Declarations.{forms_hold};
+ghost use Rattle.scheme_model.specs.Included.{LostString as Lost};
 ghost use Rattle.scheme_model.specs.Ident.{Ident as Identifier, symbol_of};
 ghost use Rattle.scheme_model.specs.Steps.{Broken};
 ghost use Rattle.scheme_model.specs.UnitExpansion.{Formed};
 ghost use Rattle.scheme_model.specs.Program.{UnitResult, WholeFault as Whole, result_at, whole_code};
 ghost use Rattle.scheme_model.specs.Cores.{Target as CoreTarget};
 ghost use Rattle.scheme_model.specs.Live.{unit_leaves};
-ghost use Rattle.scheme_model.specs.Diagnostics.{bytes_of, document_of, fault_names, fault_occ, form_diagnostics, unbound_diagnostics, whole_fault};
+ghost use Rattle.scheme_model.specs.Diagnostics.{bytes_of, document_of, fault_names, fault_occ, form_diagnostics, lost_diagnostics, unbound_diagnostics, whole_fault};
 ghost use Rattle.syntax_tree.specs.Names.{Names, KeepsNames};
 ghost use Rattle.syntax_tree.specs.declared.trees.Work.{Work};
 ghost use Rattle.syntax_tree.specs.declared.meaning.Meaning.TheVariants as meant;
 ghost use Rattle.core_tree.specs.declared.traces.FormFault.{FormFault as Fault};
 ghost use Rattle.core_tree.specs.Traces.{IsFault};
 ghost use Rattle.core_tree.specs.Units.{FormsStand, form_errors};
-ghost use Rattle.library_table.specs.UnitsRead.{forms_of};
+ghost use Rattle.library_table.specs.UnitsRead.{forms_of, lost_as};
 ghost use Rattle.document_units.specs.declared.findings.At.{At as Found};
 ghost use Rattle.document_units.specs.Readings.{Read};
 ghost use Rattle.document_units.specs.Changed.{Changes};
 ghost use Rattle.document_units.specs.Diagnosed.{IsWhole, fault_found, unbound_found, TellsStop, TellsStopOf, text_unit, whole_at, whole_number};
 ghost use Rattle.document_units.specs.Findings.{Adds};
 ghost use Rattle.document_units.specs.Places.{AreFoundIn, ArePlaces, CanPlace, spans_of};
+ghost use Rattle.program_findings.specs.LostFound.{lost_found};
 ghost use Rattle.program_findings.specs.StandIn.{StandIn};
 ghost use Rattle.program_findings.specs.Unbound.{IsUnbound};
 
@@ -206,12 +208,41 @@ pub fn whole_finding(
 }
 
 /// Adds that strings mean no text that can be included, each where it is written.
-pub fn add_lost(alloc: Global, lost: &[LostString], findings: &mut Vec<Finding>) -> Mem<()> {
+pub fn add_lost(
+    alloc: Global,
+    places: Places<'_>,
+    lost: &[LostString],
+    findings: &mut Vec<Finding>,
+) -> Mem<()>
+    ensures inside { AreFoundIn (length places.entry.documents.now) findings.old.items → OnOk result (AreFoundIn (length places.entry.documents.now) findings.new.items) }
+    ensures exact { (ls : List Lost) → lost.now ≡ map lost_as ls → ((n : ℕ) (l : Lost) → slice_get ls n ≡ Some l → l.document < length places.entry.documents.now) →
+        OnOk result (Adds findings.old.items findings.new.items (lost_diagnostics ls) []) }
+{
     for string in lost {
-        let at = At::new(string.document as usize, string.span);
-        let name = string.characters.as_str();
-        findings.push(Finding::new(alloc, Some(at), 0, 105, name)?)?;
+        add_string(alloc, places, string, findings)?;
     }
+    Ok(())
+}
+
+/// Adds that a string means no text that can be included, where there is the document in which it is written.
+fn add_string(
+    alloc: Global,
+    places: Places<'_>,
+    string: &LostString,
+    findings: &mut Vec<Finding>,
+) -> Mem<()>
+    ensures inside { AreFoundIn (length places.entry.documents.now) findings.old.items → OnOk result (AreFoundIn (length places.entry.documents.now) findings.new.items) }
+    ensures exact { (l : Lost) → string.now ≡ lost_as l → l.document < length places.entry.documents.now →
+        OnOk result (findings.new.items ≡ findings.old.items ++ lost_found l ∷ []) }
+{
+    let document = string.document as usize;
+    if document >= places.documents.len() {
+        return Ok(());
+    }
+    let at = At::new(document, string.span);
+    let name = string.characters.as_str();
+    let finding = Finding::new(alloc, Some(at), 0, 105, name)?;
+    findings.push(finding)?;
     Ok(())
 }
 
