@@ -11,6 +11,7 @@ mod TreeRows  -- The trees of data in a row
 mod SetRows  -- Import sets as they are read
 mod Gathering  -- What is gathered from the items of a list, each with its number
 mod ListingRows  -- What texts list, as units have it
+mod NameRows  -- The names of libraries, by the parts of data
 mod ProgramRows  -- The data of a document that are no libraries, one more at a time, and a part's program of them
 mod ExportRows  -- Exports as they are read
 mod PlaceLaws  -- The turns of any graph are its places, each of them once; and so are the places of names that stand twice

@@ -1,0 +1,19 @@
+use Rattle.std.proofs.Common.{◌≡◌, subst}
+use Rattle.scheme_model.specs.Data.{place_of}
+use Rattle.scheme_model.specs.Declarations.{IsLibrary, behind_head, library_name}
+use Rattle.scheme_model.specs.IncludedUnits.{library_listing, own}
+use Rattle.datum_reader.specs.Views.{datum_of}
+use Rattle.library_table.proofs.ListingRows.{unit_ends, unit_made}
+use Rattle.library_table.proofs.libraries.read_unit.Goals as goal
+
+pub returns-in_err-lists : goal.returns-in_err-lists
+returns-in_err-lists c = λ o t are table serve.
+    let d = datum_of c.args.datum.now in
+    let l = library_listing t o.known (own c.args.document d) (behind_head d) in
+    unit_ends c.args.unit false d IsLibrary (library_name d) (place_of d) l c.from_residual.result c.in_err-lists.field-0.0 c.from_residual.ensures.1 (c.in_err-lists.ensures l (c.in_ok-listed.ensures o t are table serve))
+
+pub returns : goal.returns
+returns c = λ o t are table serve.
+    let d = datum_of c.args.datum.now in
+    let l = library_listing t o.known (own c.args.document d) (behind_head d) in
+    unit_made c.args.unit false d IsLibrary (library_name d) (place_of d) l ? c.in_ok-lists.lists (c.in_ok-lists.ensures l (c.in_ok-listed.ensures o t are table serve)) ? ? ? ? ? ? ?
