@@ -1,12 +1,12 @@
 -- Strings, each once.
-use Rattle.std.proofs.Common.{◌≡◌, ℕ, ◌+◌, ◌<◌, List, ◌∷◌, [], ◌++◌, length, get_or, take, map, reverse, Bool, true, false, cond, refl, sym, ap, ◌∙◌, subst, arith}
+use Rattle.std.proofs.Common.{◌≡◌, ℕ, ◌+◌, ◌<◌, ◌≤◌, List, ◌∷◌, [], ◌++◌, length, get_or, take, map, reverse, Bool, true, false, cond, not, refl, sym, ap, ◌∙◌, arith}
 use Rattle.std.specs.Prelude.{◌&&◌, ◌||◌, ◌==◌, if◌then◌else◌}
 use Rattle.std.specs.List.{list_any}
 use Rattle.std.specs.Ordering.{nat_cmp, ordering_then, is_eq}
 use Rattle.std.specs.declared.cmp.Ordering.{Ordering}
 use Rattle.std.specs.Cmp.{tied_then}
 use Rattle.std.proofs.lemmas.Bool.Decides.{nat_tests}
-use Rattle.std.proofs.lemmas.List.{take_more, map-append, reverse-append}
+use Rattle.std.proofs.lemmas.List.{take_more, take_all, map-append, reverse-append}
 use Rattle.scheme_model.specs.Included as model
 use Rattle.scheme_model.specs.Included.{with_one}
 use Rattle.included_forms.specs.declared.given.LostString.{LostString}
@@ -72,3 +72,23 @@ module _ (found : List LostString) (i : ℕ) (s : LostString) (low : i < length 
   -- another stands there
   pub kept_same : (old : List LostString) → reverse (map lost_of old) ≡ lost_in (take i found) → list_any (stands_at (spot_of (lost_of s))) (lost_in (take i found)) ≡ true → reverse (map lost_of old) ≡ lost_in (take (i + 1) found)
   kept_same old h there = h ∙ sym (ap (λ (b : Bool). if b then lost_in (take i found) else lost_of s ∷ lost_in (take i found)) there) ∙ sym found_more
+
+map_reverse : (xs : List LostString) → map lost_of (reverse xs) ≡ reverse (map lost_of xs)
+map_reverse [] = refl
+map_reverse (x ∷ xs) =
+    ap (map lost_of) (reverse-append (x ∷ []) xs) ∙ map-append lost_of (reverse xs) (x ∷ []) ∙ ap (λ (ls : List model.LostString). ls ++ lost_of x ∷ []) (map_reverse xs)
+    ∙ sym (reverse-append (lost_of x ∷ []) (map lost_of xs))
+
+-- all strings, in their order
+pub all_kept : (found old new : List LostString) (i : ℕ) → length found ≤ i → reverse (map lost_of old) ≡ lost_in (take i found) → new ≡ reverse old → map lost_of new ≡ lost_in found
+all_kept found old new i over h e = ap (map lost_of) e ∙ map_reverse old ∙ h ∙ ap lost_in (take_all i found over)
+
+-- ---- whether a place was new
+
+pub was_new : (added there : Bool) → added ≡ not there → added ≡ true → there ≡ false
+was_new added true e h = absurd cc
+was_new added false e h = refl
+
+pub was_there : (added there : Bool) → added ≡ not there → added ≡ false → there ≡ true
+was_there added true e h = refl
+was_there added false e h = absurd cc
