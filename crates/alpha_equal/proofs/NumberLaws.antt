@@ -7,7 +7,8 @@ use Rattle.std.proofs.lemmas.List.{map-append, reverse-append, take_more}
 use Rattle.scheme_model.specs.Ident.{Ident as Identifier, same_ident}
 use Rattle.scheme_model.specs.Requirements.{LibraryName}
 use Rattle.scheme_model.specs.Substitution.{Table, definition_count}
-use Rattle.scheme_model.specs.Program.{Placed, Program, UnitResult, result_at}
+use Rattle.scheme_model.specs.IncludedUnits.{Placed}
+use Rattle.scheme_model.specs.Program.{Program, UnitResult, result_at}
 use Rattle.scheme_model.specs.ProgramArrows.{program_table, is_whole}
 use Rattle.rename_model.specs.Walks.{number_in}
 use Rattle.syntax_tree.specs.Names.{AreToldApart}

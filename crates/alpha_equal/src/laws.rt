@@ -2,7 +2,8 @@
 ghost use Rattle.std.specs.Prelude.{◌≡◌, ℕ, List, ◌∷◌, length, map};
 ghost use Rattle.scheme_model.specs.Cores.{Parts};
 ghost use Rattle.scheme_model.specs.Ident.{Ident as Identifier};
-ghost use Rattle.scheme_model.specs.Program.{Placed, Program as ModelProgram};
+ghost use Rattle.scheme_model.specs.IncludedUnits.{Placed};
+ghost use Rattle.scheme_model.specs.Program.{Program as ModelProgram};
 ghost use Rattle.scheme_model.specs.ProgramArrows.{program_table};
 ghost use Rattle.scheme_model.specs.Requirements.{LibraryName};
 ghost use Rattle.scheme_model.specs.Substitution.{Table};

@@ -11,7 +11,8 @@ use Rattle.scheme_model.specs.Cores.{Parts}
 use Rattle.scheme_model.specs.Live as live
 use Rattle.scheme_model.specs.Live.{CoreLeaf, name_places}
 use Rattle.scheme_model.specs.Order.{Counted}
-use Rattle.scheme_model.specs.Program.{Placed, Program, UnitResult}
+use Rattle.scheme_model.specs.IncludedUnits.{Placed}
+use Rattle.scheme_model.specs.Program.{Program, UnitResult}
 use Rattle.scheme_model.specs.ProgramArrows.{places_at, binders_in, program_leaves}
 use Rattle.scheme_model.specs.Requirements.{LibraryName}
 use Rattle.scheme_model.specs.Spelling.{is_member}

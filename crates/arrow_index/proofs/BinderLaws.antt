@@ -13,7 +13,8 @@ use Rattle.scheme_model.specs.Live.{CoreLeaf, name_places}
 use Rattle.scheme_model.specs.Trees.{Tree}
 use Rattle.scheme_model.specs.Requirements.{LibraryName}
 use Rattle.scheme_model.specs.Substitution.{Table, Defined}
-use Rattle.scheme_model.specs.Program.{Placed, Program, UnitResult, result_at}
+use Rattle.scheme_model.specs.IncludedUnits.{Placed}
+use Rattle.scheme_model.specs.Program.{Program, UnitResult, result_at}
 use Rattle.scheme_model.specs.ProgramArrows.{Arrow, any, places_at, rule_binders, leaf_binders, table_binders, binders_in, itself_among, binders_at, arrows_of, program_leaves, program_table, is_whole}
 use Rattle.syntax_tree.specs.Names.{Names}
 use Rattle.syntax_tree.specs.declared.trees.Work.{Work}

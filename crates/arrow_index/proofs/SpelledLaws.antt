@@ -5,7 +5,8 @@ use Rattle.scheme_model.specs.declared.Occ.{Occ}
 use Rattle.scheme_model.specs.Cores.{Target}
 use Rattle.scheme_model.specs.Entries.{At}
 use Rattle.scheme_model.specs.Live.{CoreLeaf, NameUse}
-use Rattle.scheme_model.specs.Program.{Placed, Program, UnitResult, WholeFault, is_some_fault}
+use Rattle.scheme_model.specs.IncludedUnits.{Placed}
+use Rattle.scheme_model.specs.Program.{Program, UnitResult, WholeFault, is_some_fault}
 use Rattle.scheme_model.specs.Requirements.{LibraryName}
 use Rattle.scheme_model.specs.ProgramArrows.{core_targets, is_live_at}
 use Rattle.scheme_model.specs.Substitution.{Table}

@@ -1,6 +1,7 @@
 -- What an index is: the arrows and links of a program, and what is bound, written and read in it, in order, each once.
 use Rattle.std.specs.Prelude.{List}
-use Rattle.scheme_model.specs.Program.{Placed, Program}
+use Rattle.scheme_model.specs.IncludedUnits.{Placed}
+use Rattle.scheme_model.specs.Program.{Program}
 use Rattle.scheme_model.specs.ProgramArrows.{arrows_of, binders_in}
 use Rattle.scheme_model.specs.Spelling.{links_of}
 use Rattle.scheme_model.specs.Accesses.{written_in, read_in}

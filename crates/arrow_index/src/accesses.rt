@@ -2,7 +2,8 @@
 ghost use Rattle.std.specs.Prelude.{◌≡◌, ℕ, ◌++◌, ◌↔◌, List, map, IfOk, OnOk};
 ghost use Rattle.scheme_model.specs.declared.Occ.{Occ as AnyOcc};
 ghost use Rattle.scheme_model.specs.Live.{CoreLeaf};
-ghost use Rattle.scheme_model.specs.Program.{Placed, Program as ModelProgram};
+ghost use Rattle.scheme_model.specs.IncludedUnits.{Placed};
+ghost use Rattle.scheme_model.specs.Program.{Program as ModelProgram};
 ghost use Rattle.scheme_model.specs.ProgramArrows.{binders_in as program_binders};
 ghost use Rattle.scheme_model.specs.Requirements.{LibraryName};
 ghost use Rattle.syntax_tree.specs.declared.trees.Work.{Work as AnyWork};

@@ -1,7 +1,8 @@
 //! What a program has of arrows and links, collected over one sight of it.
 ghost use Rattle.std.specs.Prelude.{◌≡◌, ℕ, List, if◌then◌else◌, IfOk};
 ghost use Rattle.std.specs.List.Sorted.{IsStrictlySortedBy};
-ghost use Rattle.scheme_model.specs.Program.{Placed, Program as ModelProgram};
+ghost use Rattle.scheme_model.specs.IncludedUnits.{Placed};
+ghost use Rattle.scheme_model.specs.Program.{Program as ModelProgram};
 ghost use Rattle.scheme_model.specs.ProgramArrows.{arrows_of, binders_at, binders_in as program_binders};
 ghost use Rattle.scheme_model.specs.Requirements.{LibraryName};
 ghost use Rattle.scheme_model.specs.Spelling.{is_member};

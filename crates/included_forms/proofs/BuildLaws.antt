@@ -1,14 +1,15 @@
 -- How tables are built, and what strings give by the standing of the documents that they mean.
 use Rattle.std.proofs.Common.{◌≡◌, ℕ, zero, suc, ◌+◌, ◌<◌, ◌≤◌, List, [], ◌∷◌, ◌++◌, length, take, set, map, Bool, true, false, Option, Some, None, slice_get, Result, Ok, Err, refl, sym, ap, ◌∙◌, subst, arith, ◌⊎◌, inl, inr}
-use Rattle.std.specs.Prelude.{if◌then◌else◌}
+use Rattle.std.specs.Prelude.{if◌then◌else◌, nat_lt}
 use Rattle.std.proofs.lemmas.List.{map-append, take-append-le, length-append, length-map}
 use Rattle.std.specs.Option.{option_map}
 use Rattle.std.proofs.lemmas.Option.{slice_get_within, slice_get-map, same_Some}
 use Rattle.std.proofs.Math.Seq.{take-append_seam}
 use Rattle.ls_base.specs.declared.memory.Memory.{Memory}
-use Rattle.scheme_model.specs.Includes.{StringAt, document_at, is_among}
+use Rattle.scheme_model.specs.Data.{Datum}
+use Rattle.scheme_model.specs.Includes.{StringAt, document_at, is_among, program_data, program_number, data_of as data_in}
 use Rattle.scheme_model.specs.Included as model
-use Rattle.scheme_model.specs.Included.{Listing, Lists, Texts, Sources, given_at, lost, given_or_lost, included_data}
+use Rattle.scheme_model.specs.Included.{Listing, Lists, Texts, Sources, given_at, lost, given_or_lost, homed_from, included_data}
 use Rattle.included_forms.specs.declared.steps.TextString.{TextString}
 use Rattle.included_forms.specs.declared.steps.Way.{Way}
 use Rattle.included_forms.specs.declared.steps.Way.TheVariants as way
@@ -17,8 +18,10 @@ use Rattle.included_forms.specs.declared.given.Given.TheVariants as given
 use Rattle.included_forms.specs.declared.given.Part.{Part}
 use Rattle.included_forms.specs.declared.resolving.Standing.{Standing}
 use Rattle.included_forms.specs.declared.resolving.Standing.TheVariants as standing
+use Rattle.datum_reader.specs.Views.{data_of}
+use Rattle.included_forms.specs.declared.tables.Text.{Text}
 use Rattle.included_forms.specs.declared.tables.Table.{Table}
-use Rattle.included_forms.specs.Built.{IsUsable, AreUsable, StandAt, IsTable, standing_for}
+use Rattle.included_forms.specs.Built.{IsText, IsUsable, AreUsable, StandAt, IsTable, standing_for}
 use Rattle.included_forms.specs.Steps.{string_of, text_by}
 use Rattle.included_forms.specs.Planned.{all_included}
 use Rattle.included_forms.specs.Counted.{in_way, listing_of, IsPart, Stand}
@@ -114,6 +117,16 @@ placed_more us ms places n h later m = by (same_or_other m n)
         subst (λ (k : ℕ). IsPlaced us (ms ++ n ∷ []) k (slice_get (set places n (standing.At (length ms))) k)) (sym e)
         (subst (IsPlaced us (ms ++ n ∷ []) n) (sym (set_same places n (standing.At (length ms)) (slice_get_within places n standing.Later later))) (usable, last_is ms n))
     by (inr e) = subst (IsPlaced us (ms ++ n ∷ []) m) (sym (set_other places n m (standing.At (length ms)) e)) (stays_placed us ms m n (slice_get places m) (h m))
+
+-- ---- texts
+
+-- the data of a text with their homes, which have no number where there are none
+pub homed_here : (o : Sources) (n : ℕ) (x : Text) → IsText o n x → homed_from n x.unit 0 (program_data (data_of x.«data».now)) ≡ included_data o.documents n
+homed_here o n x h = ap (λ ds. homed_from n x.unit 0 (program_data ds)) h.«data» ∙ by (program_data (data_in (document_at o.documents n))) h.unit
+  where
+    by : (ds : List Datum) → (nat_lt 0 (length ds) ≡ true → x.unit ≡ program_number o.documents n) → homed_from n x.unit 0 ds ≡ homed_from n (program_number o.documents n) 0 ds
+    by [] q = refl
+    by (d ∷ ds) q = ap (λ unit. homed_from n unit 0 (d ∷ ds)) (q refl)
 
 -- ---- tables
 

@@ -1,6 +1,6 @@
 mod InRows  -- Listings in a row
 mod Planned  -- Steps that were added one after another
-mod StringLaws  -- Strings of lists that include, as they are read
+mod StringLaws  -- The texts that strings mean, one after another
 mod DeclaredLaws  -- Declarations by their kinds (R7RS 5.6.1)
 mod ClauseLaws  -- The clauses of `cond-expand` as they are read
 mod ChoiceLaws  -- The clauses of a `cond-expand` one after another

@@ -60,7 +60,7 @@ tally_more limit gs ss bad i s here behind new lt is first others e =
 -- ---- rows that are lists
 
 -- a row that lists begins with what lists, and others list behind it
-pub record Splits (limit : ℕ) (l : Listing) (ls : List Listing) (fs : List model.FlatForm) (ks : List model.LostString) : Type 0 where
+pub record Splits (limit : ℕ) (l : Listing) (ls : List Listing) (n : ℕ) (fs : List model.FlatForm) (ks : List model.LostString) : Type 0 where
   pub tokens : ℕ
   pub forms : List model.FlatForm
   pub strings : List model.LostString
@@ -71,18 +71,20 @@ pub record Splits (limit : ℕ) (l : Listing) (ls : List Listing) (fs : List mod
   pub others : in_a_row limit ls ≡ Lists other_tokens other_forms other_strings
   pub all : fs ≡ forms ++ other_forms
   pub lost : ks ≡ with_lost strings other_strings
+  pub sum : tokens + other_tokens ≡ n
+  pub within : nat_lt limit n ≡ false
 
-pub splits : (limit : ℕ) (l : Listing) (ls : List Listing) (n : ℕ) (fs : List model.FlatForm) (ks : List model.LostString) → in_a_row limit (l ∷ ls) ≡ Lists n fs ks → Splits limit l ls fs ks
+pub splits : (limit : ℕ) (l : Listing) (ls : List Listing) (n : ℕ) (fs : List model.FlatForm) (ks : List model.LostString) → in_a_row limit (l ∷ ls) ≡ Lists n fs ks → Splits limit l ls n fs ks
 splits limit l ls n fs ks e = go l refl (in_a_row limit ls) refl e
   where
     no_bad : (b : Bool) (m : ℕ) (h : model.Homed) → (if b then TooLong else BadAfter m h) ≡ Lists n fs ks → ⊥
     no_bad true m h q = absurd cc
     no_bad false m h q = absurd cc
 
-    both : (b : Bool) (m k : ℕ) (gs hs : List model.FlatForm) (is js : List model.LostString) → l ≡ Lists m gs is → in_a_row limit ls ≡ Lists k hs js → (if b then TooLong else Lists (m + k) (gs ++ hs) (with_lost is js)) ≡ Lists n fs ks →
-        Splits limit l ls fs ks
-    both true m k gs hs is js p r q = absurd cc
-    both false m k gs hs is js p r q = record {
+    both : (b : Bool) (m k : ℕ) (gs hs : List model.FlatForm) (is js : List model.LostString) → nat_lt limit (m + k) ≡ b → l ≡ Lists m gs is → in_a_row limit ls ≡ Lists k hs js → (if b then TooLong else Lists (m + k) (gs ++ hs) (with_lost is js)) ≡ Lists n fs ks →
+        Splits limit l ls n fs ks
+    both true m k gs hs is js o p r q = absurd cc
+    both false m k gs hs is js o p r q = let sum : m + k ≡ n = cc in record {
       tokens = m;
       forms = gs;
       strings = is;
@@ -93,11 +95,13 @@ splits limit l ls n fs ks e = go l refl (in_a_row limit ls) refl e
       others = r;
       all = cc;
       lost = cc;
+      sum = sum;
+      within = ap (nat_lt limit) (sym sum) ∙ o;
     }
 
-    go : (x : Listing) → l ≡ x → (y : Listing) → in_a_row limit ls ≡ y → followed limit x y ≡ Lists n fs ks → Splits limit l ls fs ks
+    go : (x : Listing) → l ≡ x → (y : Listing) → in_a_row limit ls ≡ y → followed limit x y ≡ Lists n fs ks → Splits limit l ls n fs ks
     go TooLong p y r q = absurd cc
     go (BadAfter m h) p y r q = absurd (no_bad (nat_lt limit m) m h q)
     go (Lists m gs is) p TooLong r q = absurd cc
     go (Lists m gs is) p (BadAfter k h) r q = absurd (no_bad (nat_lt limit (m + k)) (m + k) h q)
-    go (Lists m gs is) p (Lists k hs js) r q = both (nat_lt limit (m + k)) m k gs hs is js p r q
+    go (Lists m gs is) p (Lists k hs js) r q = both (nat_lt limit (m + k)) m k gs hs is js refl p r q

@@ -1,8 +1,11 @@
 -- The forms that steps give, one step after another.
-use Rattle.std.proofs.Common.{◌≡◌, ℕ, ◌+◌, ◌<◌, ◌≤◌, List, [], ◌∷◌, ◌++◌, append_assoc, append-nil, length, get_or, take, drop, map, Bool, true, false, Option, Some, None, slice_get, refl, sym, ap, ◌∙◌, subst}
+use Rattle.std.proofs.Common.{◌≡◌, ℕ, ◌+◌, ◌<◌, ◌≤◌, List, [], ◌∷◌, ◌++◌, append_assoc, append-nil, length, get_or, take, drop, map, Bool, true, false, Option, Some, None, slice_get, refl, sym, ap, ◌∙◌, subst, arith}
+use Rattle.std.specs.Prelude.{nat_lt, not, if◌then◌else◌}
+use Rattle.std.specs.List.{filter}
+use Rattle.std.proofs.lemmas.Bool.Decides.{nat_tests}
 use Rattle.std.proofs.lemmas.List.{drop_more, at_drop_all, map-append}
 use Rattle.scheme_model.specs.Included as model
-use Rattle.scheme_model.specs.Included.{Listing, Lists, BadAfter, nothing, bad, in_a_row, given_at}
+use Rattle.scheme_model.specs.Included.{Listing, Lists, BadAfter, TooLong, nothing, bad, with_lost, followed, in_a_row, given_at}
 use Rattle.included_forms.specs.declared.steps.Source.{Source}
 use Rattle.included_forms.specs.declared.steps.FlatForm.{FlatForm}
 use Rattle.included_forms.specs.declared.steps.Way.{Way}
@@ -12,21 +15,14 @@ use Rattle.included_forms.specs.declared.given.Written.{Written}
 use Rattle.included_forms.specs.declared.given.Part.{Part}
 use Rattle.included_forms.specs.Steps.{homed_of, form_of}
 use Rattle.included_forms.specs.Planned.{bad_one}
-use Rattle.included_forms.specs.Counted.{Tally, is_none, tally_as, tally_of, counts_none, in_way, listing_of, all_given, IsWritten, Stand}
+use Rattle.included_forms.specs.Counted.{is_none, tally_of, counts_none, gives, listing_of}
 use Rattle.included_forms.proofs.InRows.{bad_alone}
-use Rattle.included_forms.proofs.TableLaws.{text_far, text_before, text_behind, splits}
+use Rattle.included_forms.proofs.TableLaws.{Splits, splits}
 
 -- ---- what gives no forms
 
 pub none_given : (l : Listing) (n : ℕ) (fs : List model.FlatForm) (ls : List model.LostString) → l ≡ nothing → l ≡ Lists n fs ls → fs ≡ []
 none_given l n fs ls e is = let same : Lists 0 [] [] ≡ Lists n fs ls = sym e ∙ is in cc
-
-pub counted_none : (c : Count) (l : Listing) (n : ℕ) (fs : List model.FlatForm) (ls : List model.LostString) → tally_as c ≡ tally_of l → counts_none (tally_as c) ≡ true → l ≡ Lists n fs ls → fs ≡ []
-counted_none c l n fs ls e h is = go fs (sym (ap counts_none (e ∙ ap tally_of is)) ∙ h)
-  where
-    go : (gs : List model.FlatForm) → is_none gs ≡ true → gs ≡ []
-    go [] q = refl
-    go (g ∷ gs) q = absurd cc
 
 pub unchanged : (forms : List FlatForm) (fs : List model.FlatForm) → fs ≡ [] → map form_of forms ≡ map form_of forms ++ fs
 unchanged forms fs e = sym (ap (λ (gs : List model.FlatForm). map form_of forms ++ gs) e ∙ append-nil (map form_of forms))
@@ -41,6 +37,60 @@ no_lists limit (x ∷ xs) s n fs ls e =
 pub without_bad : (limit : ℕ) (xs : List Listing) (b : Option Source) (n : ℕ) (fs : List model.FlatForm) (ls : List model.LostString) → in_a_row limit (xs ++ bad_one b) ≡ Lists n fs ls → in_a_row limit xs ≡ Lists n fs ls
 without_bad limit xs None n fs ls e = ap (in_a_row limit) (sym (append-nil xs)) ∙ e
 without_bad limit xs (Some s) n fs ls e = absurd (no_lists limit xs s n fs ls e)
+
+-- ---- the steps that give forms
+
+nothing_counted : (l : Listing) (n : ℕ) (fs : List model.FlatForm) (ls : List model.LostString) → not (counts_none (tally_of l)) ≡ false → l ≡ Lists n fs ls → fs ≡ []
+nothing_counted l n fs ls h is = go fs (sym (ap (λ x. not (counts_none (tally_of x))) is) ∙ h)
+  where
+    go : (gs : List model.FlatForm) → not (is_none gs) ≡ false → gs ≡ []
+    go [] q = refl
+    go (g ∷ gs) q = absurd cc
+
+-- these list the forms
+pub record GivingRow (limit : ℕ) (gs : List model.Given) (ss : List Given) (n : ℕ) (fs : List model.FlatForm) : Type 0 where
+  pub tokens : ℕ
+  pub strings : List model.LostString
+  pub row : in_a_row limit (map (listing_of gs) (filter (gives gs) ss)) ≡ Lists tokens fs strings
+  pub few : tokens ≤ n
+
+pub giving_row : (limit : ℕ) (gs : List model.Given) (ss : List Given) (n : ℕ) (fs : List model.FlatForm) (ls : List model.LostString) → in_a_row limit (map (listing_of gs) ss) ≡ Lists n fs ls → GivingRow limit gs ss n fs
+giving_row limit gs [] n fs ls e = record { tokens = n; strings = ls; row = e; few = omega arith }
+giving_row limit gs (s ∷ ss) n fs ls e = by (gives gs s) refl
+  where
+    h : Splits limit (listing_of gs s) (map (listing_of gs) ss) n fs ls
+    h = splits limit (listing_of gs s) (map (listing_of gs) ss) n fs ls e
+
+    r : GivingRow limit gs ss h.other_tokens h.other_forms
+    r = giving_row limit gs ss h.other_tokens h.other_forms h.other_strings h.others
+
+    rest : List Given
+    rest = filter (gives gs) ss
+
+    by : (b : Bool) → gives gs s ≡ b → GivingRow limit gs (s ∷ ss) n fs
+    by false q =
+        let none : h.forms ≡ [] = nothing_counted (listing_of gs s) h.tokens h.forms h.strings q h.first in
+        let few = r.few in
+        let sum = h.sum in
+        record {
+          tokens = r.tokens;
+          strings = r.strings;
+          row = ap (λ b. in_a_row limit (map (listing_of gs) (if b then s ∷ rest else rest))) q ∙ r.row ∙ ap (λ xs. Lists r.tokens xs r.strings) (sym (h.all ∙ ap (λ xs. xs ++ h.other_forms) none));
+          few = omega arith;
+        }
+    by true q =
+        let few = r.few in
+        let sum = h.sum in
+        let low : nat_lt limit (h.tokens + r.tokens) ≡ false = let within = h.within in grind (arith, nat_tests) in
+        record {
+          tokens = h.tokens + r.tokens;
+          strings = with_lost h.strings r.strings;
+          row =
+              ap (λ b. in_a_row limit (map (listing_of gs) (if b then s ∷ rest else rest))) q ∙ (λ j. followed limit (h.first j) (r.row j))
+              ∙ ap (λ b. if b then TooLong else Lists (h.tokens + r.tokens) (h.forms ++ h.other_forms) (with_lost h.strings r.strings)) low
+              ∙ ap (λ xs. Lists (h.tokens + r.tokens) xs (with_lost h.strings r.strings)) (sym h.all);
+          few = omega arith;
+        }
 
 -- ---- steps one after another
 

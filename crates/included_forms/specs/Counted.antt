@@ -1,5 +1,6 @@
 -- How much is given: what is left of a listing without its forms and strings.
-use Rattle.std.specs.Prelude.{◌≡◌, ℕ, ◌+◌, nat_lt, List, [], ◌∷◌, ◌++◌, map, Bool, true, false, ◌&&◌, Option, if◌then◌else◌, take, slice_get, Some, length}
+use Rattle.std.specs.Prelude.{◌≡◌, ℕ, ◌+◌, nat_lt, List, [], ◌∷◌, ◌++◌, map, Bool, true, false, not, ◌&&◌, Option, if◌then◌else◌, take, slice_get, Some, length}
+use Rattle.std.specs.List.{filter}
 use Rattle.scheme_model.specs.Included as model
 use Rattle.scheme_model.specs.Included.{Homed, Listing, Lists, BadAfter, TooLong, in_a_row, form_alone, given_at}
 use Rattle.included_forms.specs.declared.steps.Source.{Source}
@@ -72,11 +73,21 @@ tally_joined (Counted n e) (Counted m f) = Counted (n + m) (e && f)
 abbrev pub tally_followed : (limit : ℕ) → Tally → Tally → Tally
 tally_followed limit a b = tally_capped limit (tally_joined a b)
 
+abbrev pub counts_none : Tally → Bool
+counts_none (Counted n e) = e
+counts_none (BadBehind n h) = false
+counts_none TooMany = false
+
+-- a step gives forms, where the texts at the places of a table give these
+abbrev pub gives : List model.Given → Given → Bool
+gives gs s = not (counts_none (tally_of (listing_of gs s)))
+
 -- ---- tables of texts
 
 -- steps give this, where the texts before theirs give those, and it is counted
 pub record IsWritten (limit : ℕ) (before : List model.Given) (w : Written) (l : Listing) : Type 0 where
   pub listing : all_given limit before w.steps.items w.bad ≡ l
+  pub giving : w.giving.items ≡ filter (gives before) w.steps.items
   pub count : tally_as w.count ≡ tally_of l
 
 pub record IsPart (limit : ℕ) (before : List model.Given) (p : Part) (g : model.Given) : Type 0 where
@@ -91,8 +102,3 @@ pub record Stand (limit : ℕ) (gs : List model.Given) (parts : List Part) : Typ
 abbrev pub written_in : Part → Way → Written
 written_in p way.Forms = p.forms
 written_in p way.Declarations = p.declarations
-
-abbrev pub counts_none : Tally → Bool
-counts_none (Counted n e) = e
-counts_none (BadBehind n h) = false
-counts_none TooMany = false

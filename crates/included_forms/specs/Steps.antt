@@ -31,20 +31,6 @@ form_of f = record { source = homed_of f.source; declared = f.declared }
 abbrev pub string_of : TextString → StringAt
 string_of s = record { place = place_of (datum_of s.datum.now); characters = s.characters.now }
 
--- the strings among data
-abbrev pub strings_among : List Datum → List StringAt
-strings_among [] = []
-strings_among (d ∷ ds) = with_some (string_in d) (strings_among ds)
-  where
-    with_some : Option StringAt → List StringAt → List StringAt
-    with_some None ss = ss
-    with_some (Some s) ss = s ∷ ss
-
--- the data are those strings, where a list includes
-abbrev pub AreStrings : Option (Bor (List code.Datum)) → Option (List StringAt) → Type 0
-AreStrings None ss = ss ≡ None
-AreStrings (Some ds) ss = ss ≡ Some (strings_among (data_of ds.now))
-
 -- ---- what steps give
 
 -- what the text gives that a string means

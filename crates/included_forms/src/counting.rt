@@ -1,10 +1,13 @@
 //! How much steps give, over a table of texts that are counted.
-ghost use Rattle.std.specs.Prelude.{◌≡◌, ℕ, List, []};
+ghost use Rattle.std.specs.Prelude.{◌≡◌, ℕ, List, [], IfOk};
+ghost use Rattle.std.specs.List.{filter};
 ghost use Rattle.scheme_model.specs.Included.{Given as ModelGiven, given_at};
-ghost use Rattle.included_forms.specs.Counted.{Tally, Stand, tally_as, tally_of, tally_followed, listing_of, all_given, in_way, written_in};
+ghost use Rattle.included_forms.specs.Counted.{Tally, Stand, counts_none, gives, tally_as, tally_of, tally_followed, listing_of, all_given, in_way, written_in};
 
 use crate::given::{Count, Given, Part, Written, followed, form_count};
 use crate::steps::{Source, Way};
+use ls_base::Mem;
+use std::alloc::Global;
 
 impl<'a> Part<'a> {
     /// What the text gives in a way.
@@ -29,6 +32,52 @@ fn text_count<'a>(parts: &[Part<'a>], place: usize, way: Way) -> Count<'a>
         },
         Some(part) => part.written(way).count,
     }
+}
+
+/// Whether nothing is given.
+fn is_nothing(count: Count<'_>) -> bool
+    ensures { result ≡ counts_none (tally_as count.entry) }
+{
+    match count {
+        Count::Lists {
+            tokens: _,
+            is_empty,
+        } => is_empty,
+        Count::BadAfter {
+            tokens: _,
+            source: _,
+        } => false,
+        Count::TooLong => false,
+    }
+}
+
+/// Whether a step gives forms.
+fn gives(parts: &[Part<'_>], step: Given<'_>) -> bool
+    ensures { (limit : ℕ) (gs : List ModelGiven) → Stand limit gs parts.now → result ≡ gives gs step.entry }
+{
+    match step {
+        Given::Form(_) => true,
+        Given::Text(place, way) => !is_nothing(text_count(parts, place, way)),
+        Given::Lost(_) => false,
+    }
+}
+
+/// The steps that give forms.
+pub fn giving_steps<'a>(
+    alloc: Global,
+    parts: &[Part<'a>],
+    steps: &[Given<'a>],
+) -> Mem<Vec<Given<'a>>>
+    ensures { (limit : ℕ) (gs : List ModelGiven) → Stand limit gs parts.now →
+        IfOk result (λ giving. giving.items ≡ filter (gives gs) steps.now) }
+{
+    let mut giving = Vec::new(alloc);
+    for step in steps {
+        if gives(parts, *step) {
+            giving.push(*step)?;
+        }
+    }
+    Ok(giving)
 }
 
 /// How much a step gives.

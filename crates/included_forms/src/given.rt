@@ -32,10 +32,11 @@ pub enum Count<'a> {
     TooLong,
 }
 
-/// What a text gives, with the first bad declaration behind it, and how much that is.
+/// What a text gives, with the first bad declaration behind it, and how much that is; and those of its steps that give forms.
 #[derive(Drop)]
 pub struct Written<'a> {
     pub steps: Vec<Given<'a>>,
+    pub giving: Vec<Given<'a>>,
     pub bad: Option<Source<'a>>,
     pub count: Count<'a>,
 }

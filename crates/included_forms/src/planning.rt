@@ -15,11 +15,12 @@ ghost use Rattle.included_forms.specs.declared.steps.Stop.TheVariants as stop;
 use crate::choices::chosen;
 use crate::declared::{Declared, declared_for, exports};
 use crate::steps::{FlatForm, Origin, Source, Step, Stop, Way, push_step};
-use crate::strings::{includes, includes_declarations, push_texts};
+use crate::strings::push_texts;
 use datum_reader::Datum;
 use datum_reader::heads::is_headed;
 use datum_reader::look::{Look, Row, look_at, row_of};
 use datum_reader::shape_fault::ShapeFault;
+use included_strings::{includes, includes_declarations};
 use known_libraries::KnownLibraries;
 use std::alloc::Global;
 

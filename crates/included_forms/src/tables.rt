@@ -8,7 +8,7 @@ ghost use Rattle.included_forms.specs.Tables.{Serve, given_of, givens};
 ghost use Rattle.included_forms.specs.Built.{IsText, AreDocuments, AreUsable, IsTable, StandAt, standing_for};
 ghost use Rattle.included_forms.specs.declared.resolving.Standing.TheVariants as standing;
 
-use crate::counting::count_steps;
+use crate::counting::{count_steps, giving_steps};
 use crate::given::{Part, Written};
 use crate::plans::{Plan, included_plan};
 use crate::resolving::{Standing, standing_at, steps_given};
@@ -68,7 +68,13 @@ pub fn plan_written<'a>(
         steps.as_slice(),
         bad,
     );
-    Ok(Written { steps, bad, count })
+    let giving = giving_steps(alloc, table.parts.as_slice(), steps.as_slice())?;
+    Ok(Written {
+        steps,
+        giving,
+        bad,
+        count,
+    })
 }
 
 /// What a text gives in a way, over the texts of a table.

@@ -38,7 +38,7 @@ fn lists<'a>(alloc: Global, parts: &[Part<'a>], written: &Written<'a>) -> Mem<Li
         IfOk result (λ r. IsListed r l) }
 {
     let mut forms = Vec::new(alloc);
-    write(parts, parts.len(), written.steps.as_slice(), &mut forms)?;
+    write(parts, parts.len(), written.giving.as_slice(), &mut forms)?;
     let mut visits = no_visits(alloc, parts)?;
     let mut found = Vec::new(alloc);
     lose(

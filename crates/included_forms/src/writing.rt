@@ -1,29 +1,12 @@
-//! The forms and the strings of steps, over a table of texts.
+//! The forms that steps give, over a table of texts. Of each text only those steps are gone through that give forms.
 ghost use Rattle.std.specs.Prelude.{◌≡◌, ◌++◌, ◌≤◌, ℕ, List, map, take, length, OnOk};
 ghost use Rattle.scheme_model.specs.Included.{Given as ModelGiven, FlatForm as ModelForm, LostString as ModelLost, Lists, in_a_row, given_at};
 ghost use Rattle.included_forms.specs.Steps.{form_of};
-ghost use Rattle.included_forms.specs.Counted.{Stand, listing_of, in_way, counts_none, tally_as};
+ghost use Rattle.included_forms.specs.Counted.{Stand, listing_of, in_way};
 
-use crate::given::{Count, Given, Part, Written};
+use crate::given::{Given, Part};
 use crate::steps::{FlatForm, Way};
 use ls_base::Mem;
-
-/// Whether nothing is given.
-fn is_nothing(written: &Written<'_>) -> bool
-    ensures { result ≡ counts_none (tally_as written.now.count) }
-{
-    match written.count {
-        Count::Lists {
-            tokens: _,
-            is_empty,
-        } => is_empty,
-        Count::BadAfter {
-            tokens: _,
-            source: _,
-        } => false,
-        Count::TooLong => false,
-    }
-}
 
 /// Adds the forms that steps give, each of which the texts at the places below this one in a table give.
 #[cycle(writing)]
@@ -80,8 +63,5 @@ fn write_text<'a>(
         return Ok(());
     }
     let written = parts[place].written(way);
-    if is_nothing(written) {
-        return Ok(());
-    }
-    write(parts, place, written.steps.as_slice(), forms)
+    write(parts, place, written.giving.as_slice(), forms)
 }

@@ -1,8 +1,11 @@
 //! The units that a change of some occurrences reaches: those that hold one, and those that import a unit in reach.
 ghost use Rattle.std.specs.Prelude.{◌≡◌, ℕ, List, IfOk, false, if◌then◌else◌, length, replicate};
+ghost use Rattle.std.specs.List.{list_any};
+ghost use Rattle.std.specs.List.Sorted.{IsSorted};
 ghost use Rattle.scheme_model.specs.Program.{UnitResult};
 ghost use Rattle.rename_model.specs.Reach.{in_reach as model_reach};
-ghost use Rattle.program_differences.specs.Reached.{marked, with_mark, with_holders, one_marked, with_importers, in_rounds, marks_from, HaveImports};
+ghost use Rattle.program_leaves.specs.Placed.{occ_cmp};
+ghost use Rattle.program_differences.specs.Reached.{marked, with_mark, range_holds, least_held, unit_holds, with_holder, with_holders, AreInOrder, one_marked, with_importers, in_rounds, marks_from, HaveImports};
 
 use core_tree::units::{TokenRange, Unit};
 use ls_base::Mem;
@@ -28,36 +31,54 @@ fn reach_unit(place: usize, reached: &mut Vec<bool>)
 }
 
 /// Occurrences in order, by unit, form and token.
-fn in_order(alloc: Global, occs: &[Occ]) -> Mem<Vec<(u32, u32, u32)>> {
+fn in_order(alloc: Global, occs: &[Occ]) -> Mem<Vec<Occ>>
+    ensures { IfOk result (λ sorted. AreInOrder occs.now sorted.items) }
+{
     let mut sorted = Vec::new(alloc);
-    for occ in occs {
-        sorted.push((occ.unit, occ.form, occ.token))?;
-    }
+    sorted.extend_from_slice(occs)?;
     sorted.sort()?;
     Ok(sorted)
 }
 
-/// Whether one of these occurrences, which are in order, is that of a token in a range.
-fn holds(range: TokenRange, occs: &[(u32, u32, u32)]) -> bool {
-    let TokenRange { home, first, last } = range;
-    let least = (home.unit, home.form, first.saturating_sub(home.first));
-    let at = occs.partition_point(|occ| *occ < least);
-    match occs.get(at) {
-        None => false,
-        Some((unit, form, token)) => {
-            *unit == home.unit
-                && *form == home.form
-                && u64::from(*token) + u64::from(home.first) <= u64::from(last)
-        }
+/// The least occurrence that is that of a token in a range, if there is any.
+fn least_in(range: TokenRange) -> Occ
+    ensures { result ≡ least_held range }
+{
+    Occ {
+        unit: range.home.unit,
+        form: range.home.form,
+        token: range.first.saturating_sub(range.home.first),
     }
 }
 
-/// Whether a unit holds one of these occurrences, which are in order. The program of a text that others include isn't reached.
-fn holds_one(unit: &Unit, occs: &[(u32, u32, u32)]) -> bool {
-    if unit.kind == UnitKind::Part {
-        return false;
+/// Whether an occurrence is that of a token in a range.
+fn is_in_range(range: TokenRange, occ: Occ) -> bool
+    ensures { result ≡ range_holds range occ }
+{
+    let token = u64::from(range.home.first) + u64::from(occ.token);
+    range.home.unit == occ.unit
+        && range.home.form == occ.form
+        && u64::from(range.first) <= token
+        && token <= u64::from(range.last)
+}
+
+/// Whether one of these occurrences, which are in order, is that of a token in a range.
+fn holds(range: TokenRange, occs: &[Occ]) -> bool
+    ensures { IsSorted occ_cmp occs.now → result ≡ list_any (range_holds range) occs.now }
+{
+    let least = least_in(range);
+    let at = occs.partition_point(|occ| *occ < least);
+    match occs.get(at) {
+        None => false,
+        Some(occ) => is_in_range(range, *occ),
     }
-    for range in unit.ranges.as_slice() {
+}
+
+/// Whether one of these ranges has a token of one of these occurrences, which are in order.
+fn one_holds(ranges: &[TokenRange], occs: &[Occ]) -> bool
+    ensures { IsSorted occ_cmp occs.now → result ≡ list_any (λ range. list_any (range_holds range) occs.now) ranges.now }
+{
+    for range in ranges {
         if holds(*range, occs) {
             return true;
         }
@@ -65,12 +86,35 @@ fn holds_one(unit: &Unit, occs: &[(u32, u32, u32)]) -> bool {
     false
 }
 
-/// Puts the units in reach that hold one of these occurrences, which are in order. Those behind the most units aren't.
-fn reach_holders(units: &[Unit], occs: &[(u32, u32, u32)], reached: &mut Vec<bool>) {
-    for (place, unit) in units.iter().enumerate() {
-        if place < MAX_UNITS && holds_one(unit, occs) {
-            reach_unit(place, reached);
-        }
+/// Whether a unit holds one of these occurrences, which are in order. The program of a text that others include isn't reached.
+fn holds_one(unit: &Unit, occs: &[Occ]) -> bool
+    ensures { IsSorted occ_cmp occs.now → result ≡ unit_holds occs.now unit.now }
+{
+    match unit.kind {
+        UnitKind::Part => false,
+        UnitKind::Library => one_holds(unit.ranges.as_slice(), occs),
+        UnitKind::Program => one_holds(unit.ranges.as_slice(), occs),
+    }
+}
+
+/// Puts the unit at a place in reach where it holds one of these occurrences, which are in order. One behind the most units isn't reached.
+fn reach_holder(unit: &Unit, place: usize, occs: &[Occ], reached: &mut Vec<bool>)
+    ensures { IsSorted occ_cmp occs.now → reached.new.items ≡ with_holder occs.now place unit.now reached.old.items }
+{
+    if place >= MAX_UNITS {
+        return;
+    }
+    if holds_one(unit, occs) {
+        reach_unit(place, reached);
+    }
+}
+
+/// Puts the units in reach that hold one of these occurrences, which are in order.
+fn reach_holders(units: &[Unit], occs: &[Occ], reached: &mut Vec<bool>)
+    ensures { IsSorted occ_cmp occs.now → reached.new.items ≡ with_holders occs.now 0 units.now reached.old.items }
+{
+    for place in 0..units.len() {
+        reach_holder(&units[place], place, occs, reached);
     }
 }
 

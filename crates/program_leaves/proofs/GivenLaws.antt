@@ -9,7 +9,8 @@ use Rattle.scheme_model.specs.declared.Occ.{Occ}
 use Rattle.scheme_model.specs.Ident.{Ident as Identifier, same_ident}
 use Rattle.scheme_model.specs.Requirements.{LibraryName}
 use Rattle.scheme_model.specs.Substitution.{Table, Defined, defined_in}
-use Rattle.scheme_model.specs.Program.{Placed, Program, UnitResult, result_at}
+use Rattle.scheme_model.specs.IncludedUnits.{Placed}
+use Rattle.scheme_model.specs.Program.{Program, UnitResult, result_at}
 use Rattle.scheme_model.specs.ProgramArrows.{program_table, is_whole}
 use Rattle.syntax_tree.specs.Names.{AreToldApart}
 use Rattle.syntax_tree.specs.Macros.{IsIdent}

@@ -7,7 +7,8 @@ use Rattle.scheme_model.specs.Steps.{Broken}
 use Rattle.scheme_model.specs.Order.{Counted}
 use Rattle.scheme_model.specs.UnitExpansion.{Formed}
 use Rattle.scheme_model.specs.Requirements.{LibraryName}
-use Rattle.scheme_model.specs.Program.{Placed, Program, UnitResult}
+use Rattle.scheme_model.specs.IncludedUnits.{Placed}
+use Rattle.scheme_model.specs.Program.{Program, UnitResult}
 use Rattle.scheme_model.specs.Live.{CoreLeaf, form_leaves, unit_leaves, leaves_of_parts}
 use Rattle.scheme_model.specs.ProgramArrows.{program_leaves}
 use Rattle.syntax_tree.specs.declared.trees.Work.{Work}

@@ -8,7 +8,8 @@ use Rattle.scheme_model.specs.Steps.{Broken}
 use Rattle.scheme_model.specs.Order.{Counted}
 use Rattle.scheme_model.specs.UnitExpansion.{Formed}
 use Rattle.scheme_model.specs.Requirements.{LibraryName}
-use Rattle.scheme_model.specs.Program.{Placed, Program, UnitResult}
+use Rattle.scheme_model.specs.IncludedUnits.{Placed}
+use Rattle.scheme_model.specs.Program.{Program, UnitResult}
 use Rattle.scheme_model.specs.Live as live
 use Rattle.scheme_model.specs.Live.{use_targets, counted_targets, keyword_targets}
 use Rattle.scheme_model.specs.ProgramArrows.{program_keywords, program_names, unit_names}

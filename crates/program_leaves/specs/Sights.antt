@@ -8,7 +8,8 @@ use Rattle.scheme_model.specs.declared.Occ.{Occ}
 use Rattle.scheme_model.specs.Ident.{Ident as Identifier}
 use Rattle.scheme_model.specs.Cores as model
 use Rattle.scheme_model.specs.Substitution.{Table, Defined, defined_in}
-use Rattle.scheme_model.specs.Program.{Placed, Program}
+use Rattle.scheme_model.specs.IncludedUnits.{Placed}
+use Rattle.scheme_model.specs.Program.{Program}
 use Rattle.scheme_model.specs.Requirements.{LibraryName}
 use Rattle.scheme_model.specs.Live as live
 use Rattle.scheme_model.specs.Live.{CoreLeaf}

@@ -1,9 +1,10 @@
 use Rattle.std.proofs.Common.{◌∷◌, [], Ok, Some, None, ap, map}
 use Rattle.scheme_model.specs.Data.{place_of}
 use Rattle.datum_reader.specs.Views.{datum_of}
-use Rattle.included_forms.specs.Steps.{strings_among, text_by}
+use Rattle.included_strings.specs.Strings.{strings_among}
+use Rattle.included_strings.proofs.StringLaws.{strings_one}
+use Rattle.included_forms.specs.Steps.{text_by}
 use Rattle.included_forms.proofs.Planned.{plans_none, plans_same}
-use Rattle.included_forms.proofs.StringLaws.{strings_one}
 use Rattle.included_forms.proofs.strings.push_text.Goals as goal
 
 pub returns-in-None : goal.returns-in-None

@@ -1,7 +1,8 @@
 use Rattle.std.proofs.Common.{◌∷◌, ◌+◌, [], List, Ok, Err, length, drop, refl, sym, ap, ◌∙◌, map, ◌++◌, append-nil, arith}
 use Rattle.scheme_model.specs.Included.{Listing}
 use Rattle.datum_reader.specs.Views.{datum_of, data_of}
-use Rattle.included_forms.specs.Steps.{strings_among, text_by}
+use Rattle.included_strings.specs.Strings.{strings_among}
+use Rattle.included_forms.specs.Steps.{text_by}
 use Rattle.included_forms.proofs.Planned.{plans_err, plans_same, from_first, from_more, from_fails, from_end}
 use Rattle.included_forms.proofs.StringLaws.{texts_more}
 use Rattle.included_forms.proofs.strings.push_texts.Goals as goal

@@ -1,7 +1,8 @@
 use Rattle.std.proofs.Common.{ℕ, map}
 use Rattle.scheme_model.specs.Included.{Texts}
 use Rattle.datum_reader.specs.Views.{data_of}
-use Rattle.included_forms.specs.Steps.{strings_among, text_by}
+use Rattle.included_strings.specs.Strings.{strings_among}
+use Rattle.included_forms.specs.Steps.{text_by}
 use Rattle.included_forms.proofs.Planned.{PlansFrom}
 use Rattle.included_forms.proofs.strings.push_texts.Given as goal
 

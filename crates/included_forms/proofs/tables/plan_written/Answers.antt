@@ -1,4 +1,5 @@
 use Rattle.std.proofs.Common.{◌≡◌, ◌++◌, List, map, sym, ap, ◌∙◌, subst}
+use Rattle.std.specs.List.{filter}
 use Rattle.scheme_model.specs.Included.{in_a_row}
 use Rattle.included_forms.specs.declared.given.Given.{Given}
 use Rattle.included_forms.specs.declared.given.Part.{Part}
@@ -6,7 +7,7 @@ use Rattle.included_forms.specs.declared.resolving.Standing.{Standing}
 use Rattle.included_forms.specs.declared.steps.Step.{Step}
 use Rattle.included_forms.specs.Steps.{given_by}
 use Rattle.included_forms.specs.Planned.{bad_one, plan_listing}
-use Rattle.included_forms.specs.Counted.{Stand, tally_of, listing_of, all_given}
+use Rattle.included_forms.specs.Counted.{Stand, gives, tally_of, listing_of, all_given}
 use Rattle.included_forms.specs.Tables.{Placed, givens}
 use Rattle.included_forms.proofs.tables.plan_written.Goals as goal
 
@@ -23,5 +24,6 @@ returns c = λ o t docs s ms k.
     let stands_here : Stand c.args.documents.now.limit gs c.as_slice-3.result.now = subst (λ limit. Stand limit gs c.as_slice-3.result.now) (sym docs.limit) stands in
     record {
       listing = listing;
+      giving = c.in_ok-giving.ensures o.limit gs (subst (Stand o.limit gs) (sym c.as_slice-5.ensures.value) k.parts) ∙ ap (filter (gives gs)) c.as_slice-6.ensures.value;
       count = c.count_steps-count.ensures gs stands_here ∙ (λ j. tally_of (all_given (docs.limit j) gs (c.as_slice-4.ensures.value j) bad)) ∙ ap tally_of listing;
     }

@@ -4,10 +4,10 @@ use Rattle.std.proofs.lemmas.Option.{slice_get_read}
 use Rattle.scheme_model.specs.Included.{Given as ModelGiven, given_at, in_a_row}
 use Rattle.included_forms.specs.declared.given.Given.{Given}
 use Rattle.included_forms.specs.declared.given.Written.{Written}
-use Rattle.included_forms.specs.Counted.{in_way, listing_of, written_in, tally_as, counts_none}
+use Rattle.included_forms.specs.Counted.{in_way, listing_of, written_in}
 use Rattle.included_forms.specs.Planned.{bad_one}
 use Rattle.included_forms.proofs.TableLaws.{text_far, text_before, text_behind, written_there}
-use Rattle.included_forms.proofs.WritingLaws.{none_given, counted_none, unchanged, without_bad, left_first, step_lists, left_end, one_form}
+use Rattle.included_forms.proofs.WritingLaws.{none_given, unchanged, without_bad, giving_row, left_first, step_lists, left_end, one_form}
 use Rattle.included_forms.proofs.writing.+writing.Goals as goal
 
 pub write-loop-step-init : goal.write-loop-step-init
@@ -39,16 +39,6 @@ write_text-returns-then-place-parts t c = λ limit gs h n fs ls e.
     let far : length c.args.parts.now ≤ c.args.place = grind (arith, nat_tests) in
     unchanged c.args.forms.now.items fs (none_given (in_way (given_at gs c.args.place) c.args.way) n fs ls (text_far gs c.args.place c.args.way (omega arith)) e)
 
-pub write_text-returns-then-is_nothing : goal.write_text-returns-then-is_nothing
-write_text-returns-then-is_nothing t c = λ limit gs h n fs ls e.
-    let parts = c.args.parts.now in
-    let part = c.index-parts-place.result in
-    let low : c.args.place < length parts = grind (arith, nat_tests) in
-    let there : slice_get parts c.args.place ≡ Some part = slice_get_read parts (length parts) c.args.place part refl low c.index-parts-place.is in
-    let counted = ap (λ (w : Written). tally_as w.count) c.written-written.ensures ∙ (written_there limit gs parts c.args.place part c.args.way h there).count in
-    unchanged c.args.forms.now.items fs
-    (counted_none c.written-written.result.now.count (in_way (given_at gs c.args.place) c.args.way) n fs ls counted (sym c.is_nothing.ensures ∙ c.if-is_nothing.true) e)
-
 pub write_text-returns : goal.write_text-returns
 write_text-returns t c = λ limit gs h n fs ls e.
     let parts = c.args.parts.now in
@@ -57,6 +47,8 @@ write_text-returns t c = λ limit gs h n fs ls e.
     let low : place < length parts = grind (arith, nat_tests) in
     let there : slice_get parts place ≡ Some part = slice_get_read parts (length parts) place part refl low c.index-parts-place.is in
     let w = written_in part c.args.way in
-    let row = without_bad limit (map (listing_of (take place gs)) w.steps.items) w.bad n fs ls ((written_there limit gs parts place part c.args.way h there).listing ∙ e) in
-    c.write.ensures limit gs h n fs ls
-    (ap (λ (xs : List Given). in_a_row limit (map (listing_of (take place gs)) xs)) (c.as_slice.ensures.value ∙ ap (λ (x : Written). x.steps.items) c.written-written.ensures) ∙ row)
+    let is = written_there limit gs parts place part c.args.way h there in
+    let row = without_bad limit (map (listing_of (take place gs)) w.steps.items) w.bad n fs ls (is.listing ∙ e) in
+    let giving = giving_row limit (take place gs) w.steps.items n fs ls row in
+    c.write.ensures limit gs h giving.tokens fs giving.strings
+    (ap (λ (xs : List Given). in_a_row limit (map (listing_of (take place gs)) xs)) (c.as_slice.ensures.value ∙ ap (λ (x : Written). x.giving.items) c.written-written.ensures ∙ is.giving) ∙ giving.row)
