@@ -12,7 +12,7 @@ use Rattle.included_forms.specs.Steps.{form_of}
 use Rattle.included_forms.specs.Counted.{Tally, Counted, BadBehind, TooMany, tally_of, listing_of, IsWritten}
 use Rattle.included_forms.specs.Losses.{lost_in, AreFresh, AreSeen}
 use Rattle.included_forms.specs.Listed.{IsLists}
-use Rattle.included_forms.proofs.WritingLaws.{without_bad}
+use Rattle.included_forms.proofs.WritingLaws.{without_bad, giving_row}
 use Rattle.included_forms.proofs.LosingLaws.{row_once}
 
 pub counted_lists : (l : Listing) (n : ℕ) (e : Bool) → Counted n e ≡ tally_of l → IsLists l
@@ -41,6 +41,16 @@ pub steps_list : (limit : ℕ) (gs : List model.Given) (parts : ℕ) (w : Writte
     in_a_row limit (map (listing_of (take parts gs)) w.steps.items) ≡ Lists n fs ls
 steps_list limit gs parts w l n fs ls many h e =
     ap (λ (xs : List model.Given). in_a_row limit (map (listing_of xs) w.steps.items)) (take_all gs parts many) ∙ without_bad limit (map (listing_of gs) w.steps.items) w.bad n fs ls (h.listing ∙ e)
+
+-- and those that give forms list its forms
+pub giving_list : (limit : ℕ) (gs : List model.Given) (parts : ℕ) (w : Written) (l : Listing) (n : ℕ) (fs : List model.FlatForm) (ls : List model.LostString) (giving : List Given) → length gs ≡ parts → IsWritten limit gs w l → l ≡ Lists n fs ls →
+    giving ≡ w.giving.items → (m : ℕ) × (ks : List model.LostString) × (in_a_row limit (map (listing_of (take parts gs)) giving) ≡ Lists m fs ks)
+giving_list limit gs parts w l n fs ls giving many h e is =
+    let r = giving_row limit gs w.steps.items n fs ls (without_bad limit (map (listing_of gs) w.steps.items) w.bad n fs ls (h.listing ∙ e)) in (
+      r.tokens,
+      r.strings,
+      ap (λ (xs : List model.Given). in_a_row limit (map (listing_of xs) giving)) (take_all gs parts many) ∙ ap (λ (xs : List Given). in_a_row limit (map (listing_of gs) xs)) (is ∙ h.giving) ∙ r.row,
+    )
 
 pub fresh_seen : (gs : List model.Given) (visits : List Visit) (parts : List Part) (found : List LostString) → AreFresh visits parts → AreSeen gs visits found
 fresh_seen gs visits parts found h = λ k v w is was n fs ls e. let no_visit = h.none k v w is in absurd cc
