@@ -6,6 +6,7 @@ ghost use Rattle.scheme_model.specs.IncludedUnits.{UnitSource as Source, unless_
 ghost use Rattle.scheme_model.specs.Includes.{Document as ModelDocument, naming, program_data, max_units};
 ghost use Rattle.scheme_model.specs.Program.{known_in};
 ghost use Rattle.scheme_model.specs.Requirements.{LibraryName};
+ghost use Rattle.core_tree.specs.Units.{ranges_from};
 ghost use Rattle.datum_reader.specs.Views.{datum_of, data_of};
 ghost use Rattle.datum_reader.specs.WellFormed.{WasRead};
 ghost use Rattle.known_libraries.specs.PartsRead.{Knows};
@@ -13,7 +14,7 @@ ghost use Rattle.library_table.specs.UnitsRead.{forms_of};
 ghost use Rattle.document_units.specs.Sound.{IsSound};
 ghost use Rattle.document_units.specs.DataRead.{AreOpened, AreReadIn, DataWereRead, data_at};
 ghost use Rattle.document_units.specs.Listing.{IsReader, IsAt, AreAt, CanRead, CanReadIn, CanReadAll, IsOneOf, BeginsWith, IsWholeOf};
-ghost use Rattle.document_units.specs.UnitsListed.{AddsRead, AreSoFar, AreUnitsListed, IsBlank, IsReadFor, WritesProper, ranges_from, without_standard};
+ghost use Rattle.document_units.specs.UnitsListed.{AddsRead, AreSoFar, AreUnitsListed, IsBlank, IsReadFor, WritesProper, without_standard};
 ghost use Rattle.document_units.specs.WereRead.{WereRead};
 ghost use Rattle.document_units.specs.declared.listing.WholeFault.TheVariants as fault;
 
