@@ -34,9 +34,9 @@ pub record IsReader (o : Sources) (r : Reader) : Type 0 where
   pub read : DocumentsRead o.documents
 
 -- the document at a place has these data, and is this to the others
-pub record IsAt (o : Sources) (place : ℕ) (items : List code_datum.Datum) (part : TextPart) : Type 0 where
+pub record IsAt (o : Sources) (place : ℕ) (items : List code_datum.Datum) (p : TextPart) : Type 0 where
   pub here : data_at o.documents place ≡ data_of items
-  pub part : IsTextPart o.documents place part
+  pub part : IsTextPart o.documents place p
 
 -- the same of each document
 abbrev pub AreAt : Sources → List code_document.Document → List TextPart → Type 0
