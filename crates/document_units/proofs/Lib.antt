@@ -28,6 +28,11 @@ pub mod ToldUnits  -- Units of a program one by one
 pub mod KnownSteps  -- The names of libraries, one datum and one document more at a time
 pub mod TokenPlaces  -- The bytes of a datum's first token are those of the token with its number (R7RS 7.1.2)
 pub mod UnitStarts  -- Units begin at the tokens with the numbers of their first ones
+pub mod ViewedDocuments  -- Documents that are opened, as the texts of which it is asked what they name
+pub mod ReaderLaws  -- What units are read by
 pub mod ListedUnits  -- Units as they are listed
 pub mod ListedDocuments  -- The units of documents, one datum and one document more at a time
 pub mod IdentifierLaws  -- The identifiers of units by the numbers of their tokens
+pub mod AddedUnits  -- What is read of the libraries and of the program of a document, as units that are listed
+pub mod OpenedLaws  -- The documents that are opened are those that their texts are read as
+pub mod RangeLaws  -- The tokens of forms, one form more at a time

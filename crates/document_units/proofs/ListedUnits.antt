@@ -20,7 +20,7 @@ use Rattle.syntax_tree.specs.declared.units.UnitKind as code_kind
 use Rattle.syntax_tree.specs.declared.units.UnitKind.TheVariants as kinds
 use Rattle.syntax_tree.proofs.Places.{push_cases, get_within}
 use Rattle.core_tree.specs.Names.{AllMatch}
-use Rattle.core_tree.specs.Units.{kind_as}
+use Rattle.core_tree.specs.Units.{kind_as, ranges_from}
 use Rattle.datum_reader.proofs.DatumLaws.{place-datum}
 use Rattle.library_table.specs.Sources.{AreImports, AreExports, IsUnit, AreUnitsFrom}
 use Rattle.library_table.specs.UnitsRead.{kind_of, forms_of, AreLost, AreSpecs, IsSource, IsUnitRead}
@@ -38,7 +38,7 @@ use Rattle.document_units.specs.UnitSources.{IsSourceOf, HaveOneIfSame, IsSpec}
 use Rattle.scheme_model.specs.Sites.{names_in_forms}
 use Rattle.document_units.specs.DataRead.{data_at}
 use Rattle.document_units.specs.Listing.{Begins, IsWholeOf}
-use Rattle.document_units.specs.UnitsListed.{WritesProper, ranges_from, IsReadAt, IsReadFor, IsBlank, without_standard, IsOne, AreSoFar, placed_in, AddsRead, AreUnitsListed}
+use Rattle.document_units.specs.UnitsListed.{WritesProper, IsReadAt, IsReadFor, IsBlank, without_standard, IsOne, AreSoFar, placed_in, AddsRead, AreUnitsListed}
 use Rattle.document_units.specs.WereRead.{FormsRead}
 use Rattle.document_units.specs.declared.listing.WholeFault.{WholeFault}
 use Rattle.document_units.specs.declared.listing.WholeFault.TheVariants as fault

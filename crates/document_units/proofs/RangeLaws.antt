@@ -7,7 +7,7 @@ use Rattle.core_tree.specs.declared.units.TokenRange.{TokenRange}
 use Rattle.datum_reader.proofs.DatumLaws.{place-datum}
 use Rattle.library_table.specs.declared.units.UnitForm as code_form
 use Rattle.library_table.specs.UnitsRead.{form_of, forms_of}
-use Rattle.document_units.specs.UnitsListed.{ranges_from}
+use Rattle.core_tree.specs.Units.{ranges_from}
 
 abbrev range_at : (unit form : ℕ) → UnitForm → TokenRange
 range_at unit form f = record { home = home_of unit form f; first = (place_of f.datum).first; last = (place_of f.datum).last }

@@ -1,5 +1,5 @@
 -- Data of documents that were read from texts, and the documents that they are.
-use Rattle.std.specs.Prelude.{◌≡◌, ◌<◌, ℕ, List, [], ◌∷◌, map, length, slice_get, Some, not}
+use Rattle.std.specs.Prelude.{◌≡◌, ◌<◌, ℕ, List, [], ◌∷◌, map, length, slice_get, Some, not, if◌then◌else◌}
 use Rattle.std.specs.Option.{is_some}
 use Rattle.scheme_model.specs.Data.{Datum}
 use Rattle.scheme_model.specs.Includes as model
@@ -16,6 +16,10 @@ DataWereRead ds = (n : ℕ) (d : code.Datum) → slice_get ds n ≡ Some d → W
 -- the data of each document were read
 abbrev pub AreReadIn : List Document → Type 0
 AreReadIn cs = (n : ℕ) (c : Document) → slice_get cs n ≡ Some c → DataWereRead c.items
+
+-- the data of a document, none where it doesn't read
+abbrev pub items_in : Document → List code.Datum
+items_in c = if is_some c.fault then [] else c.items
 
 -- the data of documents are these; of one that doesn't read there are none
 abbrev pub HaveData : List model.Document → List Document → Type 0

@@ -12,8 +12,9 @@ pub mod Diagnosed  -- What the code finds in forms, beside the definition's diag
 pub mod KnownNames  -- The libraries that there are, by the texts of their names (R7RS 4.2.1, 5.6.1)
 pub mod Identifiers  -- The identifiers of units as the code keeps them, by the numbers of their tokens
 pub mod UnitSources  -- The sources of units, as the code has them (R7RS 5.1, 5.2, 5.6.1)
-pub mod UnitsListed  -- The units of the documents as they are listed (R7RS 5.1, 5.6)
 pub mod Places  -- The places of units and of their tokens, as the code keeps them
 pub mod Sound  -- The units as they are listed
 pub mod UnitFindings  -- What is found of the units of a program
 pub mod Belongs  -- What belongs to the open documents
+pub mod Listing  -- What units are read by
+pub mod UnitsListed  -- The units of the documents as they are listed (R7RS 5.1, 5.6)

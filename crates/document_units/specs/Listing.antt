@@ -1,5 +1,5 @@
 -- What units are read by: the documents, and the texts among them that can be included (R7RS 4.1.7, 5.6.1).
-use Rattle.std.specs.Prelude.{◌≡◌, ◌<◌, ◌⊎◌, ℕ, suc, List, [], ◌∷◌, length}
+use Rattle.std.specs.Prelude.{◌≡◌, ◌<◌, ◌⊎◌, ℕ, List, [], ◌∷◌, length, slice_get, Some}
 use Rattle.scheme_model.specs.Data.{Datum, place_of}
 use Rattle.scheme_model.specs.Includes.{Document, naming, usable}
 use Rattle.scheme_model.specs.Included.{Sources}
@@ -14,7 +14,7 @@ use Rattle.library_table.specs.declared.fault.LibraryFault.{LibraryFault}
 use Rattle.library_table.specs.declared.fault.LibraryFault.TheVariants as library
 use Rattle.text_parts.specs.Parts.{IsTextPart}
 use Rattle.text_parts.specs.declared.parts.TextPart.{TextPart}
-use Rattle.document_units.specs.DataRead.{data_at, DocumentsRead}
+use Rattle.document_units.specs.DataRead.{data_at, items_in, DocumentsRead}
 use Rattle.document_units.specs.declared.documents.Document as code_document
 use Rattle.document_units.specs.declared.included.Reader.{Reader}
 use Rattle.document_units.specs.declared.listing.WholeFault.{WholeFault}
@@ -34,14 +34,13 @@ pub record IsReader (o : Sources) (r : Reader) : Type 0 where
   pub read : DocumentsRead o.documents
 
 -- the document at a place has these data, and is this to the others
-pub record IsAt (o : Sources) (place : ℕ) (items : List code_datum.Datum) (part : TextPart) : Type 0 where
+pub record IsAt (o : Sources) (place : ℕ) (items : List code_datum.Datum) (p : TextPart) : Type 0 where
   pub here : data_at o.documents place ≡ data_of items
-  pub part : IsTextPart o.documents place part
+  pub part : IsTextPart o.documents place p
 
-abbrev pub AreAt : Sources → (place : ℕ) → List code_document.Document → List TextPart → Type 0
-AreAt o n [] ps = Unit {0}
-AreAt o n (c ∷ cs) [] = ⊥
-AreAt o n (c ∷ cs) (p ∷ ps) = IsAt o n c.items p × AreAt o (suc n) cs ps
+-- the same of each document
+abbrev pub AreAt : Sources → List code_document.Document → List TextPart → Type 0
+AreAt o cs ps = (n : ℕ) (c : code_document.Document) (p : TextPart) → slice_get cs n ≡ Some c → slice_get ps n ≡ Some p → IsAt o n (items_in c) p
 
 -- there are documents that it reads by, one more than this place
 pub record CanReadIn (r : Reader) (place : ℕ) : Type 0 where
@@ -60,7 +59,7 @@ pub record CanRead (r : Reader) (place : ℕ) (items : List code_datum.Datum) (p
 pub record CanReadAll (r : Reader) (cs : List code_document.Document) (ps : List TextPart) : Type 0 where
   pub sources : Sources
   pub reader : IsReader sources r
-  pub at : AreAt sources 0 cs ps
+  pub at : AreAt sources cs ps
   pub many : length r.documents.uris.now ≡ length cs
 
 -- ---- where units begin

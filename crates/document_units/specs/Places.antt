@@ -12,7 +12,7 @@ use Rattle.document_units.specs.declared.findings.Finding.{Finding}
 use Rattle.document_units.specs.declared.listing.Head.{Head}
 use Rattle.document_units.specs.declared.places.Places as code
 use Rattle.document_units.specs.Changed.{Changes}
-use Rattle.document_units.specs.UnitsListed.{ranges_from}
+use Rattle.core_tree.specs.Units.{ranges_from}
 use Rattle.document_units.specs.declared.documents.Document.{Document}
 
 abbrev pub bytes_at : code_at.At → Bytes

@@ -9,8 +9,7 @@ use Rattle.scheme_model.specs.IncludedUnits as included
 use Rattle.scheme_model.specs.IncludedUnits.{Placed}
 use Rattle.scheme_model.specs.Program.{prepared, imported_as, declared_fault, forms_or_none, units_of}
 use Rattle.scheme_tokens.specs.LibraryNames.{library_text, IsProper}
-use Rattle.core_tree.specs.Units.{kind_as}
-use Rattle.core_tree.specs.declared.units.TokenRange.{TokenRange}
+use Rattle.core_tree.specs.Units.{kind_as, ranges_from}
 use Rattle.library_table.specs.Sources.{AreUnits}
 use Rattle.library_table.specs.UnitsRead.{forms_of}
 use Rattle.library_table.specs.declared.units.UnitSource.{UnitSource}
@@ -27,14 +26,6 @@ use Rattle.document_units.specs.WereRead.{FormsRead}
 -- proper names are written as they stand
 abbrev pub WritesProper : (LibraryName → List ℕ) → Type 0
 WritesProper spelled = (n : LibraryName) → IsProper n → spelled n ≡ library_text n
-
--- ---- tokens
-
--- the tokens of forms that are numbered from one on, with the homes of their texts
-abbrev pub ranges_from : (unit form : ℕ) → List source.UnitForm → List TokenRange
-ranges_from unit form [] = []
-ranges_from unit form (f ∷ fs) =
-    record { home = source.home_of unit form f; first = (place_of f.datum).first; last = (place_of f.datum).last } ∷ ranges_from unit (suc form) fs
 
 -- ---- one unit
 

@@ -10,10 +10,11 @@ ghost use Rattle.included_forms.specs.Built.{IsText};
 ghost use Rattle.included_forms.specs.Tables.{Mean};
 ghost use Rattle.included_forms.specs.declared.tables.Text.{Text as ModelText};
 ghost use Rattle.text_parts.specs.declared.parts.TextPart.{TextPart as ModelPart};
-ghost use Rattle.document_units.specs.DataRead.{DocumentsRead};
+ghost use Rattle.document_units.specs.DataRead.{DocumentsRead, items_in};
 ghost use Rattle.document_units.specs.Listing.{IsReader};
 
 use crate::documents::Document;
+use datum_reader::Datum;
 use included_documents::Uris;
 use included_forms::{Documents, Table, Text};
 use known_libraries::KnownLibraries;
@@ -42,15 +43,25 @@ pub fn uris_of(alloc: Global, documents: &[Document]) -> Mem<Uris>
     Uris::of(alloc, uris.as_slice())
 }
 
+/// The data of a document, none where it doesn't read.
+pub fn items_in(document: &Document) -> &[Datum]
+    ensures { result.now ≡ items_in document.now }
+{
+    if document.fault.is_some() {
+        return &[];
+    }
+    document.items.as_slice()
+}
+
 /// Documents as they are seen where it is asked what they name.
 pub fn views_of<'a>(alloc: Global, documents: &'a [Document]) -> Mem<Vec<TextRead<'a>>>
-    ensures data { IfOk result (λ views. map (λ v. data_of v.«data».now) views.items ≡ map (λ c. data_of c.items) documents.now) }
+    ensures data { IfOk result (λ views. map (λ v. data_of v.«data».now) views.items ≡ map (λ c. data_of (items_in c)) documents.now) }
     ensures reads { IfOk result (λ views. map (λ v. v.reads) views.items ≡ map (λ c. not (is_some c.fault)) documents.now) }
 {
     let mut views = Vec::new(alloc);
     for document in documents {
         views.push(TextRead {
-            data: document.items.as_slice(),
+            data: items_in(document),
             reads: !document.fault.is_some(),
         })?;
     }
@@ -74,14 +85,14 @@ pub fn texts_of<'a>(
     parts: &[TextPart],
 ) -> Mem<Vec<Text<'a>>>
     requires { length parts.now ≡ length documents.now }
-    ensures data { IfOk result (λ texts. map (λ t. data_of t.«data».now) texts.items ≡ map (λ c. data_of c.items) documents.now) }
+    ensures data { IfOk result (λ texts. map (λ t. data_of t.«data».now) texts.items ≡ map (λ c. data_of (items_in c)) documents.now) }
     ensures units { IfOk result (λ texts. map (λ t. t.unit) texts.items ≡ map (λ p. p.program) parts.now) }
 {
     let mut texts = Vec::new(alloc);
     for (place, document) in documents.iter().enumerate() {
         let unit = place_of(parts[place].program)?;
         texts.push(Text {
-            data: document.items.as_slice(),
+            data: items_in(document),
             unit,
         })?;
     }
@@ -119,10 +130,11 @@ pub fn reader_of<'a>(
     parts: &TextParts,
 ) -> Mem<Reader<'a>>
     requires { length texts.now ≡ length uris.now }
-    ensures { (o : Sources) → o.limit ≡ max_tokens → o.usable ≡ usable (naming o.documents) o.documents → Knows known.now.names o.known → Mean o uris.now → DocumentsRead o.documents →
+    ensures reader { (o : Sources) → o.limit ≡ max_tokens → o.usable ≡ usable (naming o.documents) o.documents → Knows known.now.names o.known → Mean o uris.now → DocumentsRead o.documents →
         ((n : ℕ) (x : ModelText) → slice_get texts.now n ≡ Some x → IsText o n x) →
         length parts.now.documents.items ≡ length o.documents → ((n : ℕ) (p : ModelPart) → slice_get parts.now.documents.items n ≡ Some p → p.is_usable ≡ is_among o.usable n) →
         IfOk result (IsReader o) }
+    ensures uris { IfOk result (λ reader. reader.documents.uris.now ≡ uris.now) }
 {
     let documents = Documents {
         limit: MAX_TOKENS,

@@ -10,7 +10,7 @@ ghost use Rattle.datum_reader.specs.Views.{datum_of, data_of};
 ghost use Rattle.scheme_tokens.specs.LibraryNames.{library_text};
 ghost use Rattle.document_units.specs.Broken.{has_standard};
 ghost use Rattle.document_units.specs.DataRead.{HaveData};
-ghost use Rattle.document_units.specs.KnownNames.{IsFront, HasParts, name_in, listed_texts};
+ghost use Rattle.document_units.specs.KnownNames.{name_in, listed_texts};
 
 use crate::documents::Document;
 use base_library::standard;

@@ -6,6 +6,7 @@ ghost use Rattle.scheme_model.specs.IncludedUnits.{UnitSource as Source, unless_
 ghost use Rattle.scheme_model.specs.Includes.{Document as ModelDocument, naming, program_data, max_units};
 ghost use Rattle.scheme_model.specs.Program.{known_in};
 ghost use Rattle.scheme_model.specs.Requirements.{LibraryName};
+ghost use Rattle.core_tree.specs.Units.{ranges_from};
 ghost use Rattle.datum_reader.specs.Views.{datum_of, data_of};
 ghost use Rattle.datum_reader.specs.WellFormed.{WasRead};
 ghost use Rattle.known_libraries.specs.PartsRead.{Knows};
@@ -13,13 +14,13 @@ ghost use Rattle.library_table.specs.UnitsRead.{forms_of};
 ghost use Rattle.document_units.specs.Sound.{IsSound};
 ghost use Rattle.document_units.specs.DataRead.{AreOpened, AreReadIn, DataWereRead, data_at};
 ghost use Rattle.document_units.specs.Listing.{IsReader, IsAt, AreAt, CanRead, CanReadIn, CanReadAll, IsOneOf, BeginsWith, IsWholeOf};
-ghost use Rattle.document_units.specs.UnitsListed.{AddsRead, AreSoFar, AreUnitsListed, IsBlank, IsReadFor, WritesProper, ranges_from, without_standard};
+ghost use Rattle.document_units.specs.UnitsListed.{AddsRead, AreSoFar, AreUnitsListed, IsBlank, IsReadFor, WritesProper, without_standard};
 ghost use Rattle.document_units.specs.WereRead.{WereRead};
 ghost use Rattle.document_units.specs.declared.listing.WholeFault.TheVariants as fault;
 
 use crate::documents::Document;
 use crate::identifiers::names_of;
-use crate::included::{Reader, place_of, reader_of, texts_of, uris_of, views_of};
+use crate::included::{Reader, items_in, place_of, reader_of, texts_of, uris_of, views_of};
 use crate::known::{has_standard_name, library_name};
 use core_tree::units::TokenRange;
 use datum_reader::Datum;
@@ -97,7 +98,7 @@ fn add_documents<'a>(
     requires parts { length parts.now ≡ length documents.now }
     requires can { CanReadAll reader.now documents.now parts.now }
     ensures sound { IfOk result (IsSound (length documents.now)) }
-    ensures listed { (o : Sources) → IsReader o reader.now → AreAt o 0 documents.now parts.now → (spelled : LibraryName → List ℕ) → WritesProper spelled →
+    ensures listed { (o : Sources) → IsReader o reader.now → AreAt o documents.now parts.now → length o.documents ≡ length documents.now → (spelled : LibraryName → List ℕ) → WritesProper spelled →
         IfOk result (AreSoFar o.documents spelled (units_with o (naming o.documents))) }
 {
     let mut units = Units {
@@ -106,7 +107,7 @@ fn add_documents<'a>(
     };
     for (place, document) in documents.iter().enumerate() {
         let number = place_of(place)?;
-        let items = document.items.as_slice();
+        let items = items_in(document);
         add_libraries(alloc, &mut units, number, items, parts[place], reader)?;
         add_program(alloc, &mut units, number, items, parts[place], reader)?;
     }

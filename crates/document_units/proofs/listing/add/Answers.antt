@@ -4,7 +4,7 @@ use Rattle.library_table.specs.declared.units.UnitForm.{UnitForm}
 use Rattle.library_table.specs.UnitsRead.{forms_of}
 use Rattle.scheme_model.specs.Declarations.{unit_or}
 use Rattle.scheme_model.specs.Sites.{names_in_forms}
-use Rattle.document_units.specs.UnitsListed.{ranges_from}
+use Rattle.core_tree.specs.Units.{ranges_from}
 use Rattle.document_units.proofs.SoundLaws.{sound_more}
 use Rattle.document_units.proofs.ListedUnits.{fault_with, unit_added}
 use Rattle.document_units.proofs.listing.add.Goals as goal

@@ -1,6 +1,6 @@
 use Rattle.std.proofs.Common.{◌≡◌, take}
 use Rattle.library_table.specs.UnitsRead.{forms_of}
-use Rattle.document_units.specs.UnitsListed.{ranges_from}
+use Rattle.core_tree.specs.Units.{ranges_from}
 use Rattle.document_units.proofs.listing.ranges_of.Given as goal
 
 abbrev pub invariant-loop-place : goal.invariant-loop-place
