@@ -128,11 +128,11 @@ not_held t o h = go (range_holds t o) refl
 before_least : (t : TokenRange) (o : Occ) → before o (least_held t) ≡ true → range_holds t o ≡ false
 before_least t o b =
     not_held t o (
-      λ h.
-          let low = is_below o (least_held t) b in
-          let less = low.token (sym h.unit) (sym h.form) in
-          let from = h.first in
-          omega (arith, less, from)
+    λ h.
+    let low = is_below o (least_held t) b in
+    let less = low.token (sym h.unit) (sym h.form) in
+    let from = h.first in
+    omega (arith, less, from)
     )
 
 -- of those from the least on, the first is held where a later one is
