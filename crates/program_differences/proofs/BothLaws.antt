@@ -4,7 +4,8 @@ use Rattle.std.specs.Prelude.{Bool, true, false}
 use Rattle.std.specs.Option.{is_some, is_none}
 use Rattle.scheme_model.specs.declared.Occ.{Occ}
 use Rattle.scheme_model.specs.Requirements.{LibraryName}
-use Rattle.scheme_model.specs.Program.{Placed, Program, result_at}
+use Rattle.scheme_model.specs.IncludedUnits.{Placed}
+use Rattle.scheme_model.specs.Program.{Program, result_at}
 use Rattle.rename_model.specs.SameProgram.{ExportChange, unit_stretches, live_in}
 use Rattle.rename_model.specs.Difference as model
 use Rattle.rename_model.specs.Difference.{first_among}

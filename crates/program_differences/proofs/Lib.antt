@@ -1,5 +1,6 @@
 pub mod RuleLaws  -- The slots of rules
 pub mod FormLaws  -- Marks one after another, and the locals that binders bind
+pub mod HeldLaws  -- Which of some occurrences in order are those of tokens in a range
 pub mod ReachLaws  -- The marks of units are those of the units in reach
 pub mod ApartLaws  -- What is found first in one stretch after another, and that what agrees with nothing left out agrees whatever is
 pub mod UnitLaws  -- The units of a program of the code from a place on, the forms of a unit, and their Errors

@@ -9,7 +9,8 @@ use Rattle.std.proofs.lemmas.List.{at_drop_more, at_drop_all}
 use Rattle.std.proofs.lemmas.Option.{same_Some}
 use Rattle.scheme_model.specs.declared.Occ.{Occ}
 use Rattle.scheme_model.specs.Requirements.{LibraryPart, LibraryName, Symbol, Digits}
-use Rattle.scheme_model.specs.Program.{Placed, UnitResult, Program, result_at}
+use Rattle.scheme_model.specs.IncludedUnits.{Placed}
+use Rattle.scheme_model.specs.Program.{UnitResult, Program, result_at}
 use Rattle.rename_model.specs.Walks.{Point, AtShape, AtErrors, OfName, OfNumber, IsSymbol, IsNumeral, ShowsNothing, point, number}
 use Rattle.rename_model.specs.SameProgram as model
 use Rattle.rename_model.specs.SameProgram.{part_points, name_points, kind_number, listed_points, stretch, listed_stretches, least_of, error_points}

@@ -3,16 +3,22 @@ use Rattle.std.proofs.Common.{◌≡◌, ℕ, zero, suc, ◌+◌, ◌<◌, ◌�
 use Rattle.std.specs.Prelude.{◌==◌, ◌&&◌, ◌||◌, not, nat_lt, nat_le, if◌then◌else◌}
 use Rattle.std.specs.List.{list_any}
 use Rattle.std.proofs.lemmas.Bool.Decides.{nat_tests}
+use Rattle.std.specs.List.Sorted.{IsPermutation}
 use Rattle.std.proofs.lemmas.List.{length-replicate, at_drop_more}
+use Rattle.std.proofs.lemmas.List.Sorted.{list_any-IsPermutation}
 use Rattle.scheme_model.specs.declared.Occ.{Occ}
-use Rattle.scheme_model.specs.Program.{Placed, UnitResult, Program, is_in}
+use Rattle.scheme_model.specs.Declarations.{UnitForm, home_of, is_token_of, one_holds, is_part_kind}
+use Rattle.scheme_model.specs.Includes.{max_units}
+use Rattle.scheme_model.specs.IncludedUnits.{Placed}
+use Rattle.scheme_model.specs.Program.{UnitResult, Program, is_in}
 use Rattle.scheme_model.specs.Requirements.{LibraryName}
 use Rattle.rename_model.specs.Reach as reach
 use Rattle.rename_model.specs.Reach.{holds_one, imports_one, unit_numbers, reaching, in_reach}
 use Rattle.syntax_tree.specs.declared.trees.Work.{Work}
-use Rattle.core_tree.specs.Units.{UnitsStand}
+use Rattle.core_tree.specs.Units.{UnitsStand, ranges_from}
+use Rattle.core_tree.specs.declared.units.TokenRange.{TokenRange}
 use Rattle.core_tree.specs.declared.units.Unit.{Unit as CodeUnit}
-use Rattle.program_differences.specs.Reached.{marked, with_mark, with_holders, one_marked, with_importers, in_rounds, marks_from, Marks, HaveImports}
+use Rattle.program_differences.specs.Reached.{marked, with_mark, range_holds, unit_holds, with_holder, with_holders, one_marked, with_importers, in_rounds, marks_from, Marks, HasImports, HaveImports}
 
 -- ---- one mark
 
@@ -27,6 +33,10 @@ or_false false = refl
 and_false : (b : Bool) → (b && false) ≡ false
 and_false true = refl
 and_false false = refl
+
+and_true : (b : Bool) → (b && true) ≡ b
+and_true true = refl
+and_true false = refl
 
 or_both : (a b c : Bool) → ((a || b) || c) ≡ (a || (b || c))
 or_both true b c = refl
@@ -57,67 +67,94 @@ mark_told (b ∷ bs) (suc m) (suc n) =
 
 -- ---- holders
 
-holders_told : (bs : List Bool) (os : List Occ) (n : ℕ) → marked (with_holders bs os) n ≡ (marked bs n || (holds_one os n && nat_lt n (length bs)))
-holders_told bs [] n = sym (or_false (marked bs n))
-holders_told bs (o ∷ os) n =
-    holders_told (with_mark bs o.unit) os n
-    ∙ (λ j. mark_told bs o.unit n j || (holds_one os n && nat_lt n (length_with bs o.unit j)))
-    ∙ join (marked bs n) (o.unit == n) (holds_one os n) (nat_lt n (length bs))
-  where
-    join : (a x y l : Bool) → ((a || (x && l)) || (y && l)) ≡ (a || ((x || y) && l))
-    join true x y l = refl
-    join false true y true = refl
-    join false true true false = refl
-    join false true false false = refl
-    join false false y l = refl
-
-pub length_holders : (bs : List Bool) (os : List Occ) → length (with_holders bs os) ≡ length bs
-length_holders bs [] = refl
-length_holders bs (o ∷ os) = length_holders (with_mark bs o.unit) os ∙ length_with bs o.unit
-
 none_marked : (k n : ℕ) → marked (replicate k false) n ≡ false
 none_marked zero n = refl
 none_marked (suc k) zero = refl
 none_marked (suc k) (suc n) = none_marked k n
 
--- which numbers from a place on a test leaves
-filtered : (f : ℕ → Bool) (p : ℕ) (cs : List CodeUnit) (rs : List UnitResult) → HaveImports p cs rs → (n : ℕ) → is_in n (filter f (unit_numbers rs)) ≡ (f n && (nat_le p n && nat_lt n (p + length cs)))
-filtered f p [] [] h n =
-    let none : (nat_le p n && nat_lt n (p + 0)) ≡ false = grind (arith, nat_tests) in
-    sym (ap (λ (b : Bool). f n && b) none ∙ and_false (f n))
-filtered f p [] (r ∷ rs) h n = absurd h
-filtered f p (c ∷ cs) [] h n = absurd h
-filtered f p (c ∷ cs) (r ∷ rs) h n =
-    let rest = filter f (unit_numbers rs) in
-    ap (λ (m : ℕ). is_in n (if f m then m ∷ rest else rest)) h.0.number
-    ∙ front (filtered f (suc p) cs rs h.1 n) (f p) (n == p) refl refl
+either_any : {X : Type 0} (p q : X → Bool) (xs : List X) → list_any (λ x. p x || q x) xs ≡ (list_any p xs || list_any q xs)
+either_any p q [] = refl
+either_any p q (x ∷ xs) = ap (λ (b : Bool). (p x || q x) || b) (either_any p q xs) ∙ turn (p x) (q x) (list_any p xs) (list_any q xs)
   where
-    within : Bool
-    within = nat_le p n && nat_lt n (p + suc (length cs))
+    turn : (a b c d : Bool) → ((a || b) || (c || d)) ≡ ((a || c) || (b || d))
+    turn true b c d = refl
+    turn false true c d = sym (or_true c)
+    turn false false c d = refl
 
-    front : (is_in n (filter f (unit_numbers rs)) ≡ (f n && (nat_le (suc p) n && nat_lt n (suc p + length cs)))) → (b q : Bool) → f p ≡ b → (n == p) ≡ q → is_in n (if b then p ∷ filter f (unit_numbers rs) else filter f (unit_numbers rs)) ≡ (f n && within)
-    front more true true e k =
-        let is : n ≡ p = grind (arith, nat_tests) in
-        let inside : within ≡ true = grind (arith, nat_tests) in
-        ap (λ (x : Bool). x || is_in n (filter f (unit_numbers rs))) k ∙ sym (λ j. (ap f is ∙ e) j && inside j)
-    front more true false e k =
-        let less : (nat_le (suc p) n && nat_lt n (suc p + length cs)) ≡ within = grind (arith, nat_tests) in
-        ap (λ (x : Bool). x || is_in n (filter f (unit_numbers rs))) k ∙ more ∙ ap (λ (x : Bool). f n && x) less
-    front more false true e k =
-        let is : n ≡ p = grind (arith, nat_tests) in
-        let gone : (nat_le (suc p) n && nat_lt n (suc p + length cs)) ≡ false = grind (arith, nat_tests) in
-        more ∙ (λ j. (ap f is ∙ e) j && gone j) ∙ sym (ap (λ (x : Bool). x && within) (ap f is ∙ e))
-    front more false false e k =
-        let less : (nat_le (suc p) n && nat_lt n (suc p + length cs)) ≡ within = grind (arith, nat_tests) in
-        more ∙ ap (λ (x : Bool). f n && x) less
+none_of : {X : Type 0} (xs : List X) → list_any (λ (x : X). false) xs ≡ false
+none_of [] = refl
+none_of (x ∷ xs) = none_of xs
 
-holders_are : (cs : List CodeUnit) (rs : List UnitResult) (os : List Occ) → HaveImports 0 cs rs → Marks (with_holders (replicate (length cs) false) os) (filter (holds_one os) (unit_numbers rs))
-holders_are cs rs os h n =
+-- the forms of a unit hold one of these where their ranges do
+forms_told : (unit form : ℕ) (fs : List UnitForm) (os : List Occ) → list_any (one_holds unit form fs) os ≡ list_any (λ t. list_any (range_holds t) os) (ranges_from unit form fs)
+forms_told unit form [] os = none_of os
+forms_told unit form (f ∷ fs) os =
+    either_any (is_token_of (home_of unit form f) f.datum) (one_holds unit (suc form) fs) os
+    ∙ ap (λ (b : Bool). list_any (is_token_of (home_of unit form f) f.datum) os || b) (forms_told unit (suc form) fs os)
+
+and_swap : (a b c : Bool) → (b && (a && c)) ≡ ((a && b) && c)
+and_swap true true c = refl
+and_swap true false c = refl
+and_swap false true c = refl
+and_swap false false c = refl
+
+same_any : (ts : List TokenRange) (os ps : List Occ) → IsPermutation os ps → list_any (λ t. list_any (range_holds t) os) ts ≡ list_any (λ t. list_any (range_holds t) ps) ts
+same_any [] os ps h = refl
+same_any (t ∷ ts) os ps h = (λ j. list_any-IsPermutation (range_holds t) os ps h j || same_any ts os ps h j)
+
+unit_told : (place : ℕ) (c : CodeUnit) (r : UnitResult) (os ps : List Occ) → HasImports place c r → IsPermutation os ps → (nat_lt place max_units && unit_holds ps c) ≡ holds_one os r
+unit_told place c r os ps h same =
+    let any : list_any (λ t. list_any (range_holds t) ps) c.ranges.items ≡ list_any (one_holds r.unit.number 0 r.unit.forms) os =
+    sym (same_any c.ranges.items os ps same) ∙ ap (list_any (λ t. list_any (range_holds t) os)) h.ranges
+    ∙ sym (ap (λ (n : ℕ). list_any (one_holds n 0 r.unit.forms) os) h.number ∙ forms_told place 0 r.unit.forms os) in
+    (λ j. nat_lt (sym h.number j) max_units && (not (is_part_kind (h.kind j)) && any j))
+    ∙ and_swap (not (is_part_kind r.unit.placed.source.kind)) (nat_lt r.unit.number max_units) (list_any (one_holds r.unit.number 0 r.unit.forms) os)
+
+length_if : (bs : List Bool) (p : ℕ) (q : Bool) → length (if q then with_mark bs p else bs) ≡ length bs
+length_if bs p true = length_with bs p
+length_if bs p false = refl
+
+-- the units from a place on are marked that hold one
+holders_told : (p : ℕ) (cs : List CodeUnit) (rs : List UnitResult) (bs : List Bool) (os ps : List Occ) → HaveImports p cs rs → IsPermutation os ps → p + length cs ≤ length bs → (n : ℕ) →
+    marked (with_holders ps p cs bs) n ≡ (marked bs n || is_in n (unit_numbers (filter (holds_one os) rs)))
+holders_told p [] [] bs os ps h same le n = sym (or_false (marked bs n))
+holders_told p [] (r ∷ rs) bs os ps h same le n = absurd h
+holders_told p (c ∷ cs) [] bs os ps h same le n = absurd h
+holders_told p (c ∷ cs) (r ∷ rs) bs os ps h same le n =
+    let q = nat_lt p max_units && unit_holds ps c in
+    let next : List Bool = if q then with_mark bs p else bs in
+    let size = length_if bs p q in
+    holders_told (suc p) cs rs next os ps h.1 same (omega (arith, le, size)) n
+    ∙ by q (holds_one os r) (unit_told p c r os ps h.0 same)
+  where
+    rest : List ℕ
+    rest = unit_numbers (filter (holds_one os) rs)
+
+    marks : marked (with_mark bs p) n ≡ (marked bs n || (r.unit.number == n))
+    marks = mark_told bs p n ∙ ap (λ (b : Bool). marked bs n || b) (here (p == n) refl) ∙ ap (λ (m : ℕ). marked bs n || (m == n)) (sym h.0.number)
+      where
+        here : (b : Bool) → (p == n) ≡ b → ((p == n) && nat_lt n (length bs)) ≡ (p == n)
+        here true e = let less : nat_lt n (length bs) ≡ true = grind (arith, nat_tests) in ap (λ (x : Bool). (p == n) && x) less ∙ and_true (p == n)
+        here false e = ap (λ (x : Bool). x && nat_lt n (length bs)) e ∙ sym e
+
+    by : (q b : Bool) → q ≡ b → (marked (if q then with_mark bs p else bs) n || is_in n rest) ≡ (marked bs n || is_in n (unit_numbers (if b then r ∷ filter (holds_one os) rs else filter (holds_one os) rs)))
+    by true true e = ap (λ (x : Bool). x || is_in n rest) marks ∙ or_both (marked bs n) (r.unit.number == n) (is_in n rest) ∙ turned
+      where
+        turned : (marked bs n || ((r.unit.number == n) || is_in n rest)) ≡ (marked bs n || ((n == r.unit.number) || is_in n rest))
+        turned = let same : (r.unit.number == n) ≡ (n == r.unit.number) = grind (arith, nat_tests) in ap (λ (x : Bool). marked bs n || (x || is_in n rest)) same
+    by true false e = absurd cc
+    by false true e = absurd cc
+    by false false e = refl
+
+pub length_holders : (ps : List Occ) (p : ℕ) (cs : List CodeUnit) (bs : List Bool) → length (with_holders ps p cs bs) ≡ length bs
+length_holders ps p [] bs = refl
+length_holders ps p (c ∷ cs) bs = length_holders ps (suc p) cs (with_holder ps p c bs) ∙ length_if bs p (nat_lt p max_units && unit_holds ps c)
+
+holders_are : (cs : List CodeUnit) (rs : List UnitResult) (os ps : List Occ) → HaveImports 0 cs rs → IsPermutation os ps → Marks (with_holders ps 0 cs (replicate (length cs) false)) (unit_numbers (filter (holds_one os) rs))
+holders_are cs rs os ps h same n =
     let size : length (replicate (length cs) false) ≡ length cs = length-replicate (length cs) false in
-    let all : nat_lt n (length cs) ≡ (nat_le 0 n && nat_lt n (0 + length cs)) = grind (arith, nat_tests) in
-    holders_told (replicate (length cs) false) os n
-    ∙ (λ j. none_marked (length cs) n j || (holds_one os n && nat_lt n (size j)))
-    ∙ ap (λ (x : Bool). holds_one os n && x) all ∙ sym (filtered (holds_one os) 0 cs rs h n)
+    holders_told 0 cs rs (replicate (length cs) false) os ps h same (omega (arith, size)) n
+    ∙ ap (λ (b : Bool). b || is_in n (unit_numbers (filter (holds_one os) rs))) (none_marked (length cs) n)
 
 -- ---- importers
 
@@ -147,10 +184,6 @@ one_more bs ns p true lt m n = by_there (is_in p ns) (n == p) refl refl
         let is : n ≡ p = grind (arith, nat_tests) in
         told ∙ ap (λ (x : Bool). x || is_in n ns) k ∙ sym (ap (λ (x : ℕ). is_in x ns) is ∙ e)
     by_there true false e k = told ∙ ap (λ (x : Bool). x || is_in n ns) k
-
-length_if : (bs : List Bool) (p : ℕ) (q : Bool) → length (if q then with_mark bs p else bs) ≡ length bs
-length_if bs p true = length_with bs p
-length_if bs p false = refl
 
 importers_are : (p : ℕ) (cs : List CodeUnit) (rs : List UnitResult) (bs : List Bool) (ns : List ℕ) → HaveImports p cs rs → p + length cs ≤ length bs → Marks bs ns → Marks (with_importers p cs bs) (reach.with_importers rs ns)
 importers_are p [] [] bs ns h le m = m
@@ -204,13 +237,13 @@ gathered p (c ∷ cs) (r ∷ rs) (b ∷ bs) f h e m =
     let rest = gathered (suc p) cs rs bs f h.1 size (λ n lt. let next : p + suc n ≡ suc p + n = omega arith in m (suc n) (omega (arith, lt)) ∙ ap f next) in
     (λ j. if here j then sym h.0.number j ∷ rest j else rest j)
 
-pub reach_is : (cs : List CodeUnit) (rs : List UnitResult) (os : List Occ) → HaveImports 0 cs rs →
-    marks_from 0 (in_rounds (length cs) cs (with_holders (replicate (length cs) false) os)) ≡ in_reach rs os
-reach_is cs rs os h =
-    let bs = with_holders (replicate (length cs) false) os in
-    let ns = filter (holds_one os) (unit_numbers rs) in
-    let size : length bs ≡ length cs = length_holders (replicate (length cs) false) os ∙ length-replicate (length cs) false in
-    let m = rounds_are (length cs) cs rs bs ns h size (holders_are cs rs os h) in
+pub reach_is : (cs : List CodeUnit) (rs : List UnitResult) (os ps : List Occ) → HaveImports 0 cs rs → IsPermutation os ps →
+    marks_from 0 (in_rounds (length cs) cs (with_holders ps 0 cs (replicate (length cs) false))) ≡ in_reach rs os
+reach_is cs rs os ps h same =
+    let bs = with_holders ps 0 cs (replicate (length cs) false) in
+    let ns = unit_numbers (filter (holds_one os) rs) in
+    let size : length bs ≡ length cs = length_holders ps 0 cs (replicate (length cs) false) ∙ length-replicate (length cs) false in
+    let m = rounds_are (length cs) cs rs bs ns h size (holders_are cs rs os ps h same) in
     let all : length (in_rounds (length cs) cs bs) ≡ length cs = length_rounds (length cs) cs bs ∙ size in
     gathered 0 cs rs (in_rounds (length cs) cs bs) (λ n. is_in n (reaching rs (length cs) ns)) h all (λ n lt. let plus : n ≡ 0 + n = omega arith in m n ∙ ap (λ (k : ℕ). is_in k (reaching rs (length cs) ns)) plus)
     ∙ ap (λ (k : ℕ). filter (λ n. is_in n (reaching rs k ns)) (unit_numbers rs)) (numbers_count 0 cs rs h)
@@ -244,8 +277,13 @@ mark_again (b ∷ bs) (suc n) e = ap (λ (xs : List Bool). b ∷ xs) (mark_again
 
 -- ---- one more
 
-pub holders_more : (bs : List Bool) (os : List Occ) (k : ℕ) (d : Occ) → k < length os → with_holders (with_mark bs (get_or os k d).unit) (drop (k + 1) os) ≡ with_holders bs (drop k os)
-holders_more bs os k d lt = sym (at_drop_more (with_holders bs) os k d lt)
+-- a unit is put in reach or isn't
+pub holders_more : (os : List Occ) (us : List CodeUnit) (bs new : List Bool) (k : ℕ) (d : CodeUnit) → k < length us → with_holder os k (get_or us k d) bs ≡ new →
+    with_holders os (k + 1) (drop (k + 1) us) new ≡ with_holders os k (drop k us) bs
+holders_more os us bs new k d lt e =
+    sym (at_drop_more (λ (xs : List CodeUnit). with_holders os k xs bs) us k d lt
+    ∙ ap (with_holders os (suc k) (drop (k + 1) us)) e
+    ∙ ap (λ (n : ℕ). with_holders os n (drop (k + 1) us) new) (sym (add-one k)))
 
 pub one_here : (bs : List Bool) (ns : List ℕ) (k d : ℕ) → k < length ns → marked bs (get_or ns k d) ≡ true → one_marked bs (drop k ns) ≡ true
 one_here bs ns k d lt e = at_drop_more (one_marked bs) ns k d lt ∙ ap (λ (b : Bool). b || one_marked bs (drop (k + 1) ns)) e
@@ -289,4 +327,4 @@ pub have_imports : (work : Work) (text : LibraryName → List ℕ) (uris : List 
 have_imports work text uris all p place [] [] h = tt
 have_imports work text uris all p place [] (r ∷ rs) h = absurd h
 have_imports work text uris all p place (c ∷ cs) [] h = absurd h
-have_imports work text uris all p place (c ∷ cs) (r ∷ rs) h = (record { number = h.0.number; imports = h.0.imports }, have_imports work text uris all p (suc place) cs rs h.1)
+have_imports work text uris all p place (c ∷ cs) (r ∷ rs) h = (record { number = h.0.number; kind = h.0.kind; ranges = h.0.ranges; imports = h.0.imports }, have_imports work text uris all p (suc place) cs rs h.1)

@@ -9,7 +9,8 @@ use Rattle.scheme_model.specs.Cores.{Parts, no_parts}
 use Rattle.scheme_model.specs.Declarations.{UnitForm as ModelForm}
 use Rattle.scheme_model.specs.Entries.{Entry}
 use Rattle.scheme_model.specs.Order.{Counted}
-use Rattle.scheme_model.specs.Program.{Placed, Prepared, WholeFault, SetResult, Unknown, Faulty, Gives, ExportFault, NotDefined, SameExport, UnitResult, Program, result_at, specs_in, ImportSpec}
+use Rattle.scheme_model.specs.IncludedUnits.{Placed}
+use Rattle.scheme_model.specs.Program.{Prepared, WholeFault, SetResult, Unknown, Faulty, Gives, ExportFault, NotDefined, SameExport, UnitResult, Program, result_at, specs_in, ImportSpec}
 use Rattle.scheme_model.specs.Requirements.{LibraryName}
 use Rattle.scheme_model.specs.Steps.{Broken}
 use Rattle.scheme_model.specs.UnitExpansion.{Formed}

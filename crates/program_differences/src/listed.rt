@@ -1,7 +1,8 @@
 //! The lists of units of two programs, compared, and the Errors of a unit.
 ghost use Rattle.std.specs.Prelude.{◌≡◌, ◌==◌, ℕ, List, [], ◌∷◌, length, map, max, slice_get, Bool, Option, Some, None};
 ghost use Rattle.scheme_model.specs.declared.Occ.{Occ as AnyOcc};
-ghost use Rattle.scheme_model.specs.Program.{Placed, UnitResult, Program as ModelProgram};
+ghost use Rattle.scheme_model.specs.IncludedUnits.{Placed};
+ghost use Rattle.scheme_model.specs.Program.{UnitResult, Program as ModelProgram};
 ghost use Rattle.scheme_model.specs.Requirements.{LibraryName};
 ghost use Rattle.rename_model.specs.SameProgram.{kind_number, listed_stretches, error_stretch};
 ghost use Rattle.syntax_tree.specs.Names.{Names};

@@ -3,7 +3,8 @@ ghost use Rattle.std.specs.Prelude.{◌≡◌, ℕ, List, [], ◌∷◌, length,
 ghost use Rattle.std.specs.List.{flat_map};
 ghost use Rattle.scheme_model.specs.declared.Occ.{Occ as AnyOcc};
 ghost use Rattle.scheme_model.specs.Cores.{Parts};
-ghost use Rattle.scheme_model.specs.Program.{Placed, UnitResult, Program as ModelProgram, result_at};
+ghost use Rattle.scheme_model.specs.IncludedUnits.{Placed};
+ghost use Rattle.scheme_model.specs.Program.{UnitResult, Program as ModelProgram, result_at};
 ghost use Rattle.scheme_model.specs.ProgramArrows.{program_table};
 ghost use Rattle.scheme_model.specs.Requirements.{LibraryName};
 ghost use Rattle.rename_model.specs.Walks.{form_points};

@@ -2,7 +2,8 @@ use Rattle.std.proofs.Common.{◌≡◌, ℕ, List, [], drop}
 use Rattle.std.specs.Prelude.{Bool, Option}
 use Rattle.scheme_model.specs.declared.Occ.{Occ}
 use Rattle.scheme_model.specs.ProgramArrows.{program_table}
-use Rattle.scheme_model.specs.Program.{Placed, UnitResult, Program}
+use Rattle.scheme_model.specs.IncludedUnits.{Placed}
+use Rattle.scheme_model.specs.Program.{UnitResult, Program}
 use Rattle.scheme_model.specs.Requirements.{LibraryName}
 use Rattle.rename_model.specs.SameProgram.{name_asked}
 use Rattle.rename_model.specs.Difference.{first_apart}

@@ -2,7 +2,8 @@ use Rattle.std.proofs.Common.{◌≡◌, ℕ, List, drop}
 use Rattle.std.specs.Prelude.{Bool, Option}
 use Rattle.std.specs.List.{flat_map}
 use Rattle.scheme_model.specs.declared.Occ.{Occ}
-use Rattle.scheme_model.specs.Program.{Placed, Program, result_at}
+use Rattle.scheme_model.specs.IncludedUnits.{Placed}
+use Rattle.scheme_model.specs.Program.{Program, result_at}
 use Rattle.scheme_model.specs.Requirements.{LibraryName}
 use Rattle.rename_model.specs.SameProgram.{unit_stretches}
 use Rattle.rename_model.specs.Difference.{first_among}
