@@ -8,7 +8,8 @@ use Rattle.scheme_model.specs.Requirements.{Known, LibraryName}
 use Rattle.scheme_model.specs.Declarations.{UnitForm}
 use Rattle.scheme_model.specs.Substitution.{Defined}
 use Rattle.scheme_model.specs.UnitExpansion.{Formed}
-use Rattle.scheme_model.specs.Program.{Placed, Prepared, prepare, WholeFault, UnitResult, Program, broken_result}
+use Rattle.scheme_model.specs.IncludedUnits.{Placed}
+use Rattle.scheme_model.specs.Program.{Prepared, prepare, WholeFault, UnitResult, Program, broken_result}
 use Rattle.scheme_model.specs.ProgramArrows.{unit_names}
 use Rattle.scheme_model.specs.Spelling.{second_places}
 use Rattle.scheme_model.specs.ScopedProgram.{scoped_program_with}
@@ -34,7 +35,7 @@ use Rattle.document_units.proofs.TurnGraph.{as_many}
 use Rattle.program_expansion.proofs.TurnResults.{scoped_units}
 use Rattle.unit_imports.proofs.Collecting.{blank_stand}
 
-blank_define : (form : ℕ) (cs : List core.UnitForm) → All IsBlank cs → definitions_from form cs ≡ []
+pub blank_define : (form : ℕ) (cs : List core.UnitForm) → All IsBlank cs → definitions_from form cs ≡ []
 blank_define form [] h = refl
 blank_define form (c ∷ cs) h =
     ap (λ (bs : List Binder). map (λ (b : Binder). (form, b)) bs ++ definitions_from (suc form) cs) ((h 0 c (omega arith)).definitions) ∙ blank_define (suc form) cs (λ k d lt. h (suc k) d (omega arith))

@@ -3,7 +3,8 @@ use Rattle.std.proofs.Common.{◌≡◌, ℕ, suc, ◌+◌, List, [], ◌∷◌,
 use Rattle.scheme_model.specs.Data.{place_of}
 use Rattle.scheme_model.specs.Declarations.{UnitForm, unit_or}
 use Rattle.scheme_model.specs.Diagnostics.{unit_start}
-use Rattle.scheme_model.specs.Program.{Placed, Prepared, UnitResult, known_in, units_of}
+use Rattle.scheme_model.specs.IncludedUnits.{Placed}
+use Rattle.scheme_model.specs.Program.{Prepared, UnitResult, known_in, units_of}
 use Rattle.scheme_model.specs.ScopedProgram.{scoped_program_of}
 use Rattle.document_store.specs.Texts.{Document}
 use Rattle.document_units.specs.Places.{AreHeads, IsHead, spans_of}

@@ -1,6 +1,7 @@
 -- The units of a program stand for the same in a work that has grown.
 use Rattle.std.proofs.Common.{ℕ, suc, List, [], ◌∷◌, reverse}
-use Rattle.scheme_model.specs.Program.{Placed, Program, UnitResult}
+use Rattle.scheme_model.specs.IncludedUnits.{Placed}
+use Rattle.scheme_model.specs.Program.{Program, UnitResult}
 use Rattle.scheme_model.specs.ProgramArrows.{program_table, unit_names}
 use Rattle.scheme_model.specs.Requirements.{LibraryName}
 use Rattle.syntax_tree.specs.Names.{KeepsNames}

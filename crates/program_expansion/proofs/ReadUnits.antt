@@ -3,7 +3,8 @@ use Rattle.std.proofs.Common.{◌≡◌, ℕ, List, [], Bool, true, false, cond,
 use Rattle.std.specs.Option.{option_map, is_some}
 use Rattle.scheme_model.specs.Requirements.{LibraryName}
 use Rattle.scheme_model.specs.Program as model
-use Rattle.scheme_model.specs.Program.{Placed, Prepared, prepared, prepare, fault_before}
+use Rattle.scheme_model.specs.IncludedUnits.{Placed}
+use Rattle.scheme_model.specs.Program.{Prepared, prepared, prepare, fault_before}
 use Rattle.scheme_model.specs.ScopedProgram.{scoped_before}
 use Rattle.library_table.specs.declared.units.UnitSource.{UnitSource}
 use Rattle.document_units.specs.Broken.{told, AreJudged, without_if, Forgets}

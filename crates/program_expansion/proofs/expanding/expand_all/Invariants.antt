@@ -1,5 +1,6 @@
 use Rattle.std.proofs.Common.{◌≡◌, ℕ, ◌+◌, ◌≤◌, List, length, take, vec_len, slice_get, Some}
-use Rattle.scheme_model.specs.Program.{Placed, UnitResult}
+use Rattle.scheme_model.specs.IncludedUnits.{Placed}
+use Rattle.scheme_model.specs.Program.{UnitResult}
 use Rattle.scheme_model.specs.Requirements.{Known, LibraryName}
 use Rattle.scheme_model.specs.ScopedProgram.{scoped_before}
 use Rattle.feature_requirements.specs.Judged.{Knows}

@@ -2,7 +2,8 @@
 use Rattle.std.proofs.Common.{◌≡◌, ℕ, ◌<◌, [], ◌∷◌, List, true, length, map, take, vec_len, sym, ap, ◌∙◌, subst, arith}
 use Rattle.std.specs.FinMap as finite
 use Rattle.scheme_model.specs.Prelude.{prelude}
-use Rattle.scheme_model.specs.Program.{Program, is_in, prelude_unit, max_units, known_in, units_of}
+use Rattle.scheme_model.specs.Includes.{max_units}
+use Rattle.scheme_model.specs.Program.{Program, is_in, prelude_unit, known_in, units_of}
 use Rattle.scheme_model.specs.ScopedProgram.{scoped_before, scoped_program_of}
 use Rattle.scheme_model.proofs.FramePrograms.{program_law}
 use Rattle.base_library.proofs.StandardTexts as standard
