@@ -16,7 +16,7 @@ use Rattle.scheme_model.specs.ScopedProgram.{scoped_program_with}
 use Rattle.syntax_tree.specs.Meant.{AreEntries}
 use Rattle.syntax_tree.specs.declared.trees.Work.{Work}
 use Rattle.syntax_tree.specs.declared.units.Entry.{Entry}
-use Rattle.core_tree.specs.Units.{IsBlank, FormsStand, AreDefinitions, definitions_from, defined_by, AreNames, externals, error_as, unit_errors, kind_as, UnitStands, UnitsStand, seconds_of, unless_broken}
+use Rattle.core_tree.specs.Units.{IsBlank, FormsStand, AreDefinitions, definitions_from, defined_by, AreNames, externals, error_as, unit_errors, kind_as, UnitStands, UnitsStand, seconds_of, unless_broken, ranges_from}
 use Rattle.core_tree.specs.declared.cores.Binder.{Binder}
 use Rattle.core_tree.specs.declared.units.NameUse as code_name
 use Rattle.core_tree.specs.declared.units.UnitForm as core
@@ -75,6 +75,7 @@ module _ (text : LibraryName → List ℕ) (uris : List (List ℕ)) (us : List P
           (subst (λ (cs : List core.UnitForm). AreDefinitions work.symbols (reverse (definitions_from 0 cs)) (defined_by n whole.table)) (sym k.come.forms)
           (subst (λ (i : ℕ). AreDefinitions work.symbols (reverse (definitions_from 0 e.forms)) (defined_by i whole.table)) own m.definitions));
       imports = k.imports ∙ head.imports;
+      ranges = k.ranges ∙ (head.ranges ∙ ap (λ i. ranges_from i 0 r.unit.forms) own);
       names =
           subst (λ (ns : List code_name.NameUse). AreNames work.symbols n ns (unit_names us whole r) (externals whole.table r)) (sym k.come.names)
           (subst (λ (i : ℕ). AreNames work.symbols i e.names (unit_names us whole r) (externals whole.table r)) own m.names);
@@ -96,6 +97,7 @@ module _ (text : LibraryName → List ℕ) (uris : List (List ℕ)) (us : List P
           subst (λ (ds : List Defined). AreDefinitions work.symbols (reverse (definitions_from 0 c.forms)) ds) (sym (defined_broken us known n r f at (ap (λ (q : UnitResult). q.fault) is)))
           (subst (λ (bs : List (ℕ × Binder)). AreDefinitions work.symbols (reverse bs) []) (sym (blank_define 0 c.forms k.come.blank)) tt);
       imports = k.imports ∙ head.imports;
+      ranges = k.ranges ∙ (head.ranges ∙ ap (λ i. ranges_from i 0 r.unit.forms) own);
       names =
           subst (λ (q : UnitResult). AreNames work.symbols n c.names (unit_names us whole q) (externals whole.table q)) (sym is)
           (subst (λ (ns : List code_name.NameUse). AreNames work.symbols n ns [] []) (sym k.come.names) (no_names work n));

@@ -19,6 +19,7 @@ module _ (old new : Work) (trees : KeepsTrees old new) (names : KeepsNames old.s
   unit_kept : (text : LibraryName → List ℕ) (uris : List (List ℕ)) (all : List Placed) (p : Program) (place : ℕ) (c : code_unit.Unit) (r : UnitResult) →
       UnitStands old text uris all p place c r → UnitStands new text uris all p place c r
   unit_kept text uris all p place c r h = record {
+    ranges = h.ranges;
     number = h.number;
     uri = h.uri;
     kind = h.kind;

@@ -1,6 +1,7 @@
 //! Units one after another (R7RS 5.6), each after what it imports.
 ghost use Rattle.std.specs.Prelude.{◌≡◌, ℕ, ◌+◌, ◌<◌, List, [], ◌∷◌, ◌++◌, All, length, replicate, map, reverse, vec_len, Some, None, IfOk, OnOk, IfSome, true, ◌&&◌, ◌==◌, if◌then◌else◌};
 ghost use Rattle.scheme_model.specs.Entries.{Entry as ModelEntry};
+ghost use Rattle.scheme_model.specs.Declarations.{is_part_kind};
 ghost use Rattle.scheme_model.specs.Diagnostics.{bytes_of, unbound_diagnostics};
 ghost use Rattle.scheme_model.specs.Live.{unit_leaves};
 ghost use Rattle.scheme_model.specs.IncludedUnits.{Placed};
@@ -13,7 +14,7 @@ ghost use Rattle.syntax_tree.specs.Names.{KeepsNames};
 ghost use Rattle.syntax_tree.specs.Works.{KeepsTrees};
 ghost use Rattle.syntax_tree.specs.declared.trees.Work.{Work as AnyWork};
 ghost use Rattle.core_tree.specs.Names.{AllMatch};
-ghost use Rattle.core_tree.specs.Units.{IsBlank, FormsStand, AreDefinitions, definitions_from, defined_by};
+ghost use Rattle.core_tree.specs.Units.{IsBlank, FormsStand, AreDefinitions, definitions_from, defined_by, kind_as};
 ghost use Rattle.library_table.specs.Orders.{ArePlaces};
 ghost use Rattle.library_table.specs.UnitsRead.{forms_of};
 ghost use Rattle.program_expansion.specs.AtWork.{worked_forms};
@@ -251,11 +252,18 @@ fn expand_unit<L: Ledger>(
     }
 }
 
+/// Whether a unit is the program of a text that others include.
+fn is_part(kind: UnitKind) -> bool
+    ensures { result ≡ is_part_kind (kind_as kind) }
+{
+    kind == UnitKind::Part
+}
+
 /// The forms of a unit that are worked on. Those of a part are where it is included.
 fn at_work(source: &UnitSource) -> &[SourceForm]
     ensures { result.now ≡ worked_forms source.now }
 {
-    if source.kind == UnitKind::Part {
+    if is_part(source.kind) {
         return &[];
     }
     source.forms.as_slice()
@@ -275,7 +283,7 @@ fn all_forms(
     ensures stand { (work : AnyWork) (fs : List Formed) → FormsStand work unit 0 forms fs → map (λ (f : Formed). f.form) fs ≡ numbers_of (form_trees unit 0 (forms_of (worked_forms source.now))) →
         IfOk result (λ all. FormsStand work unit 0 all (with_refused unit 0 (forms_of (worked_forms source.now)) fs)) }
 {
-    if source.kind == UnitKind::Part {
+    if is_part(source.kind) {
         return Ok(blank_forms(alloc, source.forms.as_slice().len())?);
     }
     Ok(refuse(unit, source.forms.as_slice(), forms)?)

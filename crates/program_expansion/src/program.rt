@@ -263,6 +263,7 @@ fn unit_of(
     ensures kind { IfOk result (λ unit. unit.0.kind ≡ head.old.kind) }
     ensures name { IfOk result (λ unit. unit.0.name ≡ head.old.name) }
     ensures imports { IfOk result (λ unit. unit.0.imports ≡ head.old.imports) }
+    ensures ranges { IfOk result (λ unit. unit.0.ranges.items ≡ head.old.ranges.items) }
     ensures errors { IfOk result (λ unit. map error_as unit.0.errors ≡ errors_in came.findings.items) }
 {
     let Expanded {
