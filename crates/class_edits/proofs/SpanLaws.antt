@@ -19,15 +19,15 @@ use Rattle.text_edits.specs.declared.edits.Edit as edit
 
 module _ (text : List ℕ) (c : code.Document) where
   alike : (r q : Read) → IsReadSo c r → IsReadAs text r → IsReadAs text q → map span_seen c.spans.items ≡ spans_in q
-  alike (Reads ds spans) (Reads es ss) so h k = so.1 ∙ (h.2 ∙ (ap (λ (ts : List Token). map span_of ts) (text_once (chars text) h.0 k.0 _ _ h.1 k.1).0 ∙ sym k.2))
-  alike (Reads ds spans) (Stops g) so h k = absurd (never_reads_and_stops (chars text) ds g h.3 k)
-  alike (Stops f) (Reads es ss) so h k = absurd (never_reads_and_stops (chars text) es f k.3 h)
-  alike (Stops f) (Stops g) so h k = ap (λ (ss : List code_span.Span). map span_seen ss) so.1
+  alike (Reads u ds spans) (Reads v es ss) so h k = so.1 ∙ (h.2 ∙ (ap (λ (ts : List Token). map span_of ts) (text_once (chars text) h.0 k.0 _ _ h.1 k.1).0 ∙ sym k.2))
+  alike (Reads u ds spans) (Stops v g) so h k = absurd (never_reads_and_stops (chars text) ds g h.3 k)
+  alike (Stops u f) (Reads v es ss) so h k = absurd (never_reads_and_stops (chars text) es f k.3 h)
+  alike (Stops u f) (Stops v g) so h k = ap (λ (ss : List code_span.Span). map span_seen ss) so.1
 
   pub can_make : (read : Read) → IsReadAs text read → IsReadSo c read → IsUtf8 text → (new : ℕ → Option (List ℕ)) (es : List edit.Edit) → map edit_of es ≡ edits_of new text (map span_seen c.spans.items) →
       ((ts : List Token) → TextReads (chars text) ts None → map span_seen c.spans.items ≡ map span_of ts → CanEdit text es) → CanEdit text es
-  can_make (Reads ds spans) h so utf8 new es is made = made h.0 h.1 (so.1 ∙ h.2)
-  can_make (Stops f) h so utf8 new es is made =
+  can_make (Reads uri ds spans) h so utf8 new es is made = made h.0 h.1 (so.1 ∙ h.2)
+  can_make (Stops uri f) h so utf8 new es is made =
       let none : map edit_of es ≡ [] = is ∙ ap (λ (ss : List code_span.Span). edits_of new text (map span_seen ss)) so.1 in
       record { cuts = subst (AreCuts text 0) (sym none) (IsCharBoundary-start text utf8) }
 

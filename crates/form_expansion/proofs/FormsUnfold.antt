@@ -6,7 +6,7 @@ use Rattle.scheme_model.specs.Order.{Note}
 use Rattle.scheme_model.specs.Trees.{Tree}
 use Rattle.scheme_model.specs.Expression.{expand}
 use Rattle.scheme_model.specs.Declarations.{UnitForm}
-use Rattle.scheme_model.specs.Program.{Prepared, enough_turns}
+use Rattle.scheme_model.specs.Program.{Prepared, forms_at_work, enough_turns}
 use Rattle.scheme_model.specs.ScopedProgram.{forms_over}
 use Rattle.scheme_model.specs.UnitExpansion.{Formed, LeftOf, max_total, passes, finished, nodes_in, unit}
 use Rattle.scheme_model.specs.Requirements.{Known}
@@ -38,7 +38,7 @@ module _ (b : Bench) (known : Known) (p : Prepared) (s : ScopedState) where
     forms = subst (λ (q : Option (List Formed) × ScopedState). AreUnfolded b p.number q.1 (Some cs) q.0) (sym is) (forms, definitions);
   }
 
-module _ (known : Known) (p : Prepared) (s : ScopedState) (n : ℕ) (own : p.number ≡ n) (fs : List UnitForm) (forms : p.forms ≡ fs) where
+module _ (known : Known) (p : Prepared) (s : ScopedState) (n : ℕ) (own : p.number ≡ n) (fs : List UnitForm) (forms : forms_at_work p ≡ fs) where
   abbrev ts : List (ℕ × Tree Identifier)
   ts = forms_over (Written n) n 0 fs
 
@@ -50,11 +50,11 @@ module _ (known : Known) (p : Prepared) (s : ScopedState) (n : ℕ) (own : p.num
 
   unit_is : searched_unit_over known p s ≡ whole
   unit_is =
-      ap (λ (m : ℕ). unit (searched known) enough_turns [] (forms_over (Written m) m 0 p.forms) s) own
+      ap (λ (m : ℕ). unit (searched known) enough_turns [] (forms_over (Written m) m 0 (forms_at_work p)) s) own
       ∙ ap (λ (gs : List UnitForm). unit (searched known) enough_turns [] (forms_over (Written n) n 0 gs) s) forms
 
   numbers_are : form_numbers p ≡ numbers_of ts
-  numbers_are = ap (λ (m : ℕ). numbers_of (forms_over (Written m) m 0 p.forms)) own ∙ ap (λ (gs : List UnitForm). numbers_of (forms_over (Written n) n 0 gs)) forms
+  numbers_are = ap (λ (m : ℕ). numbers_of (forms_over (Written m) m 0 (forms_at_work p))) own ∙ ap (λ (gs : List UnitForm). numbers_of (forms_over (Written n) n 0 gs)) forms
 
   -- each macro use of those that were gone through was a step
   pub passing_steps : (b : Bench) (total : ℕ) (ds : List code.Declared) → Passes b n known ts s total ds → nat_lt max_total total ≡ true → (before after : ℕ) → after ≡ before + used_by ds → after ≡ before + total_of (searched_unit_over known p s).1.uses (form_numbers p)

@@ -6,7 +6,7 @@ ghost use Rattle.scheme_model.specs.UnitExpansion.{max_total};
 ghost use Rattle.scheme_model.specs.Requirements.{Known};
 ghost use Rattle.macro_uses.specs.MacroUses.{total_of};
 ghost use Rattle.macro_uses.specs.ScopedUses.{form_numbers};
-ghost use Rattle.scheme_model.specs.Program.{Prepared};
+ghost use Rattle.scheme_model.specs.Program.{Prepared, forms_at_work};
 ghost use Rattle.scheme_model.specs.ScopedProgram.{forms_over};
 ghost use Rattle.scheme_model.specs.Order.{Note, Item as ModelItem};
 ghost use Rattle.scheme_model.specs.ScopedExpansion.{Frames, FramedIdent, ScopedState};
@@ -75,11 +75,11 @@ pub fn expand_forms<L: Ledger>(
     ensures grows { Grows bench.old.work bench.new.work bench.old.region }
     // They are the definition's, or work on the unit ended, and the bench stands for the state in which it did.
     ensures unfolds { (known : Known) (ls : List Frames) (s : ScopedState) (p : Prepared) → Knows bench.old.scope.libraries known → UnitStands bench.old.work bench.old.scope ls s [] → s.unit ≡ unit →
-        ((form : ℕ) → IsFresh s form) → p.number ≡ unit → p.forms ≡ forms_of forms.now → IfOk result (Unfolds bench.new known p s) }
+        ((form : ℕ) → IsFresh s form) → p.number ≡ unit → forms_at_work p ≡ forms_of forms.now → IfOk result (Unfolds bench.new known p s) }
     ensures count { IfOk result (λ expanded. IfSome expanded (λ expanded. length expanded ≡ length forms.now)) }
     // Each macro use that the definition counts is a step.
     ensures steps { (known : Known) (ls : List Frames) (s : ScopedState) (p : Prepared) → Knows bench.old.scope.libraries known → UnitStands bench.old.work bench.old.scope ls s [] → s.unit ≡ unit →
-        ((form : ℕ) → IsFresh s form) → p.number ≡ unit → p.forms ≡ forms_of forms.now →
+        ((form : ℕ) → IsFresh s form) → p.number ≡ unit → forms_at_work p ≡ forms_of forms.now →
         OnOk result (steps.new ≡ steps.old + total_of (searched_unit_over known p s).1.uses (form_numbers p)) }
 {
     let mut total = 0;

@@ -9,21 +9,21 @@ use Rattle.datum_reader.proofs.ReadLaws.{one_reading}
 use Rattle.datum_reader.proofs.TokensSeen.{text_once}
 use Rattle.datum_reader.proofs.Stops.{every_text, never_reads_and_stops, one_stop}
 use Rattle.document_store.specs.Texts.{Document, Texts}
-use Rattle.document_units.specs.Readings.{Read, Reads, Stops, IsReadAs, AreReadAs, span_of}
+use Rattle.document_units.specs.Readings.{Read, Reads, Stops, uri_of, IsReadAs, AreReadAs, span_of}
 use Rattle.document_units.specs.Listed.{lists_from, lists_of}
 use Rattle.program_answers.specs.Updates.{AreListsOfTexts, Lists}
 
 -- ---- readings
 
-one_read : (text : List ℕ) (r q : Read) → IsReadAs text r → IsReadAs text q → r ≡ q
-one_read text (Reads ds spans) (Reads es ss) h k =
+one_read : (text : List ℕ) (r q : Read) → IsReadAs text r → IsReadAs text q → uri_of r ≡ uri_of q → r ≡ q
+one_read text (Reads u ds spans) (Reads v es ss) h k uri =
     let read = one_reading (chars text) ds es h.3 k.3 in
     let tokens = text_once (chars text) h.0 k.0 None None h.1 k.1 in
     let same : spans ≡ ss = h.2 ∙ ap (map span_of) tokens.0 ∙ sym k.2 in
-    λ j. Reads (read j) (same j)
-one_read text (Reads ds spans) (Stops g) h k = absurd (never_reads_and_stops (chars text) ds g h.3 k)
-one_read text (Stops f) (Reads es ss) h k = absurd (never_reads_and_stops (chars text) es f k.3 h)
-one_read text (Stops f) (Stops g) h k = ap Stops (one_stop (chars text) f g h k)
+    λ j. Reads (uri j) (read j) (same j)
+one_read text (Reads u ds spans) (Stops v g) h k uri = absurd (never_reads_and_stops (chars text) ds g h.3 k)
+one_read text (Stops u f) (Reads v es ss) h k uri = absurd (never_reads_and_stops (chars text) es f k.3 h)
+one_read text (Stops u f) (Stops v g) h k uri = let same = one_stop (chars text) f g h k in λ j. Stops (uri j) (same j)
 
 pub one_row : (ds : List (List ℕ × Document)) (rs qs : List Read) → AreReadAs ds rs → AreReadAs ds qs → rs ≡ qs
 one_row [] [] [] h k = refl
@@ -31,17 +31,17 @@ one_row [] [] (q ∷ qs) h k = absurd k
 one_row [] (r ∷ rs) qs h k = absurd h
 one_row (d ∷ ds) [] qs h k = absurd h
 one_row (d ∷ ds) (r ∷ rs) [] h k = absurd k
-one_row (d ∷ ds) (r ∷ rs) (q ∷ qs) h k = λ j. one_read d.1.1 r q h.0 k.0 j ∷ one_row ds rs qs h.1 k.1 j
+one_row (d ∷ ds) (r ∷ rs) (q ∷ qs) h k = λ j. one_read d.1.1 r q h.0 k.0 (h.2 ∙ sym k.2) j ∷ one_row ds rs qs h.1 k.1 j
 
-some_read : (text : List ℕ) → (r : Read) × IsReadAs text r
-some_read text = elim (every_text (chars text)) [
-  | inl h ↦ (Reads h.0 (map span_of h.1.tokens), (h.1.tokens, h.1.spelled, refl, h.1))
-  | inr h ↦ (Stops h.0, h.1)
+some_read : (uri text : List ℕ) → (r : Read) × IsReadAs text r × (uri_of r ≡ uri)
+some_read uri text = elim (every_text (chars text)) [
+  | inl h ↦ (Reads uri h.0 (map span_of h.1.tokens), (h.1.tokens, h.1.spelled, refl, h.1), refl)
+  | inr h ↦ (Stops uri h.0, h.1, refl)
 ]
 
 pub some_row : (ds : List (List ℕ × Document)) → (rs : List Read) × AreReadAs ds rs
 some_row [] = ([], tt)
-some_row (d ∷ ds) = let first = some_read d.1.1 in let rest = some_row ds in (first.0 ∷ rest.0, (first.1, rest.1))
+some_row (d ∷ ds) = let first = some_read d.0 d.1.1 in let rest = some_row ds in (first.0 ∷ rest.0, (first.1, rest.1, first.2))
 
 -- ---- lists
 

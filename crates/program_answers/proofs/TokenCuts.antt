@@ -116,11 +116,11 @@ module _ (text : List ℕ) (utf8 : IsUtf8 text) where
   nothing_cut = can_cut (record { start = 0; end = 0 }) (no_stops (chars text))
 
   read_cut : (r : Read) → IsReadAs text r → (n : ℕ) → CanCut text (span_at (spans_in r) n)
-  read_cut (Reads ds spans) is n =
+  read_cut (Reads uri ds spans) is n =
       let told = spelled (chars text) is.0 is.1 in
       let same : spans ≡ map span_of (map token_seen told.0) = is.2 ∙ ap (map span_of) told.2 in
       subst (λ (ss : List Span). CanCut text (span_at ss n)) (sym same) (can_cut _ (spans_stop (chars text) told.0 told.1 n))
-  read_cut (Stops f) is n = nothing_cut
+  read_cut (Stops uri f) is n = nothing_cut
 
 -- ---- in open documents
 

@@ -8,12 +8,12 @@ use Rattle.scheme_model.specs.Program.{units_of}
 use Rattle.arrow_index.specs.declared.classes.ClassPart.{ClassPart}
 use Rattle.arrow_index.specs.Index.{IsIndexOf}
 use Rattle.arrow_index.specs.declared.index.Index.{Index}
-use Rattle.document_units.specs.Readings.{Read, AreReadAs, data_in, program_in}
+use Rattle.document_units.specs.Readings.{Read, AreReadAs, documents_in, program_in}
 
 -- documents that are read so, and the index of their program
 pub record IsSource (texts : Texts) (rs : List Read) (i : Index) : Type 0 where
   pub read : AreReadAs (entries texts) rs
-  pub index : IsIndexOf (units_of (map data_in rs)) (program_in rs) i
+  pub index : IsIndexOf (units_of (documents_in rs)) (program_in rs) i
 
 -- the prefixes of an occurrence among parts
 abbrev pub own_prefixes : List ClassPart → Occ → List (List ℕ)

@@ -20,7 +20,7 @@ use Rattle.document_store.specs.Texts.{Document}
 use Rattle.scheme_model.specs.Answers.{Answer, Nothing, Places, Lit, Prepared, Drawn, Facts, facts_of, answer_in, no_answer}
 use Rattle.document_units.specs.Listed.{range_of}
 use Rattle.document_units.specs.Places.{spans_of}
-use Rattle.document_units.specs.Readings.{Read, data_in, program_in}
+use Rattle.document_units.specs.Readings.{Read, documents_in, program_in}
 use Rattle.scheme_model.specs.Sites.{name_at}
 
 -- ---- documents
@@ -83,7 +83,7 @@ query_of queries.Arrows = Arrows
 abbrev pub answer_by : Encoding → List (List ℕ × Document) → List Read → Option ℕ → Pos → Query → Answer
 answer_by encoding ds rs None position query = no_answer query
 answer_by encoding ds rs (Some n) position query =
-    answer_in (spans_of rs) (units_of (map data_in rs)) (program_in rs) n (offset_of encoding (text_of ds n) position) query
+    answer_in (spans_of rs) (units_of (documents_in rs)) (program_in rs) n (offset_of encoding (text_of ds n) position) query
 
 abbrev pub answer_of : Encoding → List (List ℕ × Document) → List Read → (uri : List ℕ) → Pos → Query → told.Answer
 answer_of encoding ds rs uri position query = answer_told encoding ds (answer_by encoding ds rs (number_of ds uri) position query)
@@ -92,7 +92,7 @@ answer_of encoding ds rs uri position query = answer_told encoding ds (answer_by
 
 -- what answers take of the program of documents that are read so
 abbrev pub facts_in : List Read → Facts
-facts_in rs = facts_of (spans_of rs) (units_of (map data_in rs)) (program_in rs)
+facts_in rs = facts_of (spans_of rs) (units_of (documents_in rs)) (program_in rs)
 
 -- the identifier at a position of a document, where there is one
 abbrev pub name_by : Encoding → List (List ℕ × Document) → List Read → Option ℕ → Pos → Option Occ

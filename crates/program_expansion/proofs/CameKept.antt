@@ -1,7 +1,8 @@
 -- What units came to stands for the same in a work that has only grown.
 use Rattle.std.proofs.Common.{◌≡◌, ℕ, List, [], ◌++◌, length, Option, Some, None, refl, sym, subst}
 use Rattle.std.specs.Prelude.{reverse}
-use Rattle.scheme_model.specs.Program.{Placed, Prepared, Program, SetResult, UnitResult, result_at, exports_if, names_of_unit, export_all, unit_result, with_refused, ImportSpec}
+use Rattle.scheme_model.specs.IncludedUnits.{Placed}
+use Rattle.scheme_model.specs.Program.{Prepared, Program, SetResult, UnitResult, result_at, exports_if, names_of_unit, export_all, unit_result, forms_at_work, with_refused, ImportSpec}
 use Rattle.scheme_model.specs.ProgramArrows.{import_uses, unit_names}
 use Rattle.scheme_model.specs.Spelling.{second_places}
 use Rattle.std.specs.List.{flat_map}
@@ -64,13 +65,13 @@ finds_kept old new names es find h = record { stand = h.stand; are = entries_kep
 -- ---- what a unit came to, put together
 
 pub came_of : (us : List Placed) (q : Program) (p : Prepared) (imports : List model.Entry × List SetResult) (fs : List Formed) (work : Work) (c : Expanded) (unit : ℕ) → p.number ≡ unit → AreEntries work.symbols c.entries.items imports.0 →
-    FormsStand work unit 0 c.forms (with_refused p.number 0 p.forms fs) → length c.forms ≡ length p.forms → AreDefinitions work.symbols (reverse (definitions_from 0 c.forms)) (defined_by unit q.table) →
+    FormsStand work unit 0 c.forms (with_refused p.number 0 (forms_at_work p) fs) → length c.forms ≡ length p.forms → AreDefinitions work.symbols (reverse (definitions_from 0 c.forms)) (defined_by unit q.table) →
     AreNames work.symbols unit c.names (import_uses us q.units p.specs ++ all_export_uses (names_of_unit q.table unit imports.0) p.exports) (given_exports (names_of_unit q.table unit imports.0) [] p.exports) →
     AreEntries work.symbols c.exports (export_all (names_of_unit q.table unit imports.0) [] p.exports).entries → c.seconds ≡ flat_map (λ (s : ImportSpec). second_places s.set) p.specs → CameTo us q work c (unit_result p imports q.table (Some fs))
 came_of us q p imports fs work c unit own entries forms count definitions names exports seconds = record {
   whole = refl;
   entries = entries;
-  forms = subst (λ (n : ℕ). FormsStand work n 0 c.forms (with_refused p.number 0 p.forms fs)) (sym own) forms;
+  forms = subst (λ (n : ℕ). FormsStand work n 0 c.forms (with_refused p.number 0 (forms_at_work p) fs)) (sym own) forms;
   count = count;
   definitions = subst (λ (n : ℕ). AreDefinitions work.symbols (reverse (definitions_from 0 c.forms)) (defined_by n q.table)) (sym own) definitions;
   names =

@@ -8,14 +8,15 @@ use Rattle.scheme_model.specs.Requirements.{Known, LibraryName}
 use Rattle.scheme_model.specs.Declarations.{UnitForm}
 use Rattle.scheme_model.specs.Substitution.{Defined}
 use Rattle.scheme_model.specs.UnitExpansion.{Formed}
-use Rattle.scheme_model.specs.Program.{Placed, Prepared, prepare, WholeFault, UnitResult, Program, broken_result}
+use Rattle.scheme_model.specs.IncludedUnits.{Placed}
+use Rattle.scheme_model.specs.Program.{Prepared, prepare, WholeFault, UnitResult, Program, broken_result}
 use Rattle.scheme_model.specs.ProgramArrows.{unit_names}
 use Rattle.scheme_model.specs.Spelling.{second_places}
 use Rattle.scheme_model.specs.ScopedProgram.{scoped_program_with}
 use Rattle.syntax_tree.specs.Meant.{AreEntries}
 use Rattle.syntax_tree.specs.declared.trees.Work.{Work}
 use Rattle.syntax_tree.specs.declared.units.Entry.{Entry}
-use Rattle.core_tree.specs.Units.{IsBlank, FormsStand, AreDefinitions, definitions_from, defined_by, AreNames, externals, error_as, unit_errors, kind_as, UnitStands, UnitsStand, seconds_of, unless_broken}
+use Rattle.core_tree.specs.Units.{IsBlank, FormsStand, AreDefinitions, definitions_from, defined_by, AreNames, externals, error_as, unit_errors, kind_as, UnitStands, UnitsStand, seconds_of, unless_broken, ranges_from}
 use Rattle.core_tree.specs.declared.cores.Binder.{Binder}
 use Rattle.core_tree.specs.declared.units.NameUse as code_name
 use Rattle.core_tree.specs.declared.units.UnitForm as core
@@ -34,7 +35,7 @@ use Rattle.document_units.proofs.TurnGraph.{as_many}
 use Rattle.program_expansion.proofs.TurnResults.{scoped_units}
 use Rattle.unit_imports.proofs.Collecting.{blank_stand}
 
-blank_define : (form : ℕ) (cs : List core.UnitForm) → All IsBlank cs → definitions_from form cs ≡ []
+pub blank_define : (form : ℕ) (cs : List core.UnitForm) → All IsBlank cs → definitions_from form cs ≡ []
 blank_define form [] h = refl
 blank_define form (c ∷ cs) h =
     ap (λ (bs : List Binder). map (λ (b : Binder). (form, b)) bs ++ definitions_from (suc form) cs) ((h 0 c (omega arith)).definitions) ∙ blank_define (suc form) cs (λ k d lt. h (suc k) d (omega arith))
@@ -74,6 +75,7 @@ module _ (text : LibraryName → List ℕ) (uris : List (List ℕ)) (us : List P
           (subst (λ (cs : List core.UnitForm). AreDefinitions work.symbols (reverse (definitions_from 0 cs)) (defined_by n whole.table)) (sym k.come.forms)
           (subst (λ (i : ℕ). AreDefinitions work.symbols (reverse (definitions_from 0 e.forms)) (defined_by i whole.table)) own m.definitions));
       imports = k.imports ∙ head.imports;
+      ranges = k.ranges ∙ (head.ranges ∙ ap (λ i. ranges_from i 0 r.unit.forms) own);
       names =
           subst (λ (ns : List code_name.NameUse). AreNames work.symbols n ns (unit_names us whole r) (externals whole.table r)) (sym k.come.names)
           (subst (λ (i : ℕ). AreNames work.symbols i e.names (unit_names us whole r) (externals whole.table r)) own m.names);
@@ -95,6 +97,7 @@ module _ (text : LibraryName → List ℕ) (uris : List (List ℕ)) (us : List P
           subst (λ (ds : List Defined). AreDefinitions work.symbols (reverse (definitions_from 0 c.forms)) ds) (sym (defined_broken us known n r f at (ap (λ (q : UnitResult). q.fault) is)))
           (subst (λ (bs : List (ℕ × Binder)). AreDefinitions work.symbols (reverse bs) []) (sym (blank_define 0 c.forms k.come.blank)) tt);
       imports = k.imports ∙ head.imports;
+      ranges = k.ranges ∙ (head.ranges ∙ ap (λ i. ranges_from i 0 r.unit.forms) own);
       names =
           subst (λ (q : UnitResult). AreNames work.symbols n c.names (unit_names us whole q) (externals whole.table q)) (sym is)
           (subst (λ (ns : List code_name.NameUse). AreNames work.symbols n ns [] []) (sym k.come.names) (no_names work n));

@@ -4,7 +4,8 @@ use Rattle.std.specs.Prelude.{IfSome}
 use Rattle.std.specs.Option.{is_some as is_there}
 use Rattle.scheme_model.specs.Order.{is_some}
 use Rattle.scheme_model.specs.Requirements.{LibraryName, Known}
-use Rattle.scheme_model.specs.Program.{Placed, Prepared, prepared, prepare, UnitResult, result_at, broken_result, unit_result, unit_entries, with_entries, fault_before}
+use Rattle.scheme_model.specs.IncludedUnits.{Placed}
+use Rattle.scheme_model.specs.Program.{Prepared, prepared, prepare, UnitResult, result_at, broken_result, unit_result, unit_entries, with_entries, fault_before}
 use Rattle.scheme_model.specs.ScopedExpansion.{ScopedState}
 use Rattle.scheme_model.specs.ScopedProgram.{ScopedProgress, after_unit}
 use Rattle.scheme_model.specs.UnitExpansion.{Formed}

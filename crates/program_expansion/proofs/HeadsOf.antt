@@ -3,7 +3,8 @@ use Rattle.std.proofs.Common.{◌≡◌, ℕ, List, slice_get, Option, Some, Non
 use Rattle.std.specs.Option.{option_map}
 use Rattle.std.proofs.lemmas.Option.{same_Some}
 use Rattle.scheme_model.specs.Requirements.{LibraryName}
-use Rattle.scheme_model.specs.Program.{Placed}
+use Rattle.scheme_model.specs.Includes.{Document}
+use Rattle.scheme_model.specs.IncludedUnits.{Placed}
 use Rattle.scheme_tokens.specs.LibraryNames.{library_text}
 use Rattle.core_tree.specs.Units.{kind_as, text_of}
 use Rattle.document_units.specs.declared.listing.Head.{Head}
@@ -16,8 +17,8 @@ as_text : (o : Option LibraryName) → option_map library_text o ≡ text_of lib
 as_text None = refl
 as_text (Some n) = refl
 
-pub heads_of : (us : List Placed) (a b d : List Head) → ((n : ℕ) (p : Placed) (h : Head) → slice_get us n ≡ Some p → slice_get a n ≡ Some h → IsToldBy n p h) → AreJudged us a b → HeadsStay a b → HeadsStay b d → NamesKept b d → AreHeadsOf library_text us d
-heads_of us a b d told judged first later kept n u h there at =
+pub heads_of : (ds : List Document) (us : List Placed) (a b d : List Head) → ((n : ℕ) (p : Placed) (h : Head) → slice_get us n ≡ Some p → slice_get a n ≡ Some h → IsToldBy ds n p h) → AreJudged us a b → HeadsStay a b → HeadsStay b d → NamesKept b d → AreHeadsOf library_text us d
+heads_of ds us a b d told judged first later kept n u h there at =
     let k = kept.each n h at in
     let s = later.each n h at in
     let j = judged.each n k.0 k.1.0 in
@@ -31,4 +32,6 @@ heads_of us a b d told judged first later kept n u h there at =
       kind = ap kind_as (s.1.1.kind ∙ (ap (λ (x : Head). x.kind) one ∙ (f.1.1.kind ∙ ap (λ (x : Head). x.kind) two))) ∙ t.kind;
       name = k.1.1.0 ∙ (is.name ∙ (t.name ∙ as_text u.source.name));
       imports = k.1.1.1 ∙ is.imports;
+      ranges =
+          ap (λ rs. rs.items) (s.1.1.ranges ∙ (ap (λ (x : Head). x.ranges) one ∙ (f.1.1.ranges ∙ ap (λ (x : Head). x.ranges) two))) ∙ t.ranges;
     }

@@ -3,7 +3,8 @@ use Rattle.std.proofs.Common.{◌≡◌, ℕ, List, ◌++◌, map, sym, ap, ◌�
 use Rattle.std.specs.Prelude.{String}
 use Rattle.std.specs.declared.alloc.Global.{Global}
 use Rattle.std.specs.BTreeSet.{BTreeSet, contains_text}
-use Rattle.scheme_model.specs.Program.{Document, all_names, known_in, has_name}
+use Rattle.scheme_model.specs.Includes.{Document}
+use Rattle.scheme_model.specs.Program.{all_names, known_in, has_name}
 use Rattle.scheme_model.specs.Requirements.{LibraryName}
 use Rattle.scheme_tokens.specs.LibraryNames.{library_text, IsProper}
 use Rattle.library_table.proofs.KnownTexts.{known_told}

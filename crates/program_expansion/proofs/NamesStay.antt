@@ -9,7 +9,8 @@ use Rattle.scheme_model.specs.Entries.{Entry, entry_at, library_in}
 use Rattle.scheme_model.specs.StandardLibraries.{standard}
 use Rattle.scheme_model.specs.Substitution.{Defined, Table, defined_in}
 use Rattle.scheme_model.specs.Live.{NameUse, all_export_uses}
-use Rattle.scheme_model.specs.Program.{Placed, ImportSpec, UnitResult, Program, result_at, unit_named, imported_units, exports_if, unit_exports, library_exports, all_done, own_entry, names_of_unit, is_some_fault}
+use Rattle.scheme_model.specs.IncludedUnits.{Placed}
+use Rattle.scheme_model.specs.Program.{ImportSpec, UnitResult, Program, result_at, unit_named, imported_units, exports_if, unit_exports, library_exports, all_done, own_entry, names_of_unit, is_some_fault}
 use Rattle.scheme_model.specs.ProgramArrows.{uses_given, uses_in_set, import_uses, unit_names}
 use Rattle.core_tree.specs.Units.{externals, given_exports, unless_broken}
 use Rattle.unit_scopes.specs.Others.{Each, InFront}

@@ -1,6 +1,7 @@
 -- The units of a program stand for the same in a work that has grown.
 use Rattle.std.proofs.Common.{ℕ, suc, List, [], ◌∷◌, reverse}
-use Rattle.scheme_model.specs.Program.{Placed, Program, UnitResult}
+use Rattle.scheme_model.specs.IncludedUnits.{Placed}
+use Rattle.scheme_model.specs.Program.{Program, UnitResult}
 use Rattle.scheme_model.specs.ProgramArrows.{program_table, unit_names}
 use Rattle.scheme_model.specs.Requirements.{LibraryName}
 use Rattle.syntax_tree.specs.Names.{KeepsNames}
@@ -18,6 +19,7 @@ module _ (old new : Work) (trees : KeepsTrees old new) (names : KeepsNames old.s
   unit_kept : (text : LibraryName → List ℕ) (uris : List (List ℕ)) (all : List Placed) (p : Program) (place : ℕ) (c : code_unit.Unit) (r : UnitResult) →
       UnitStands old text uris all p place c r → UnitStands new text uris all p place c r
   unit_kept text uris all p place c r h = record {
+    ranges = h.ranges;
     number = h.number;
     uri = h.uri;
     kind = h.kind;

@@ -8,7 +8,8 @@ use Rattle.scheme_model.specs.Ident.{Ident}
 use Rattle.scheme_model.specs.Order.{is_some}
 use Rattle.scheme_model.specs.Requirements.{Known, LibraryName}
 use Rattle.scheme_model.specs.Substitution.{Defined, Table, defined_in}
-use Rattle.scheme_model.specs.Program.{Placed, Prepared, prepared, prepare, ExportSpec, WholeFault, TooMany, UnitResult, Program, result_at, imported_units, all_done, is_in, broken_result}
+use Rattle.scheme_model.specs.IncludedUnits.{Placed}
+use Rattle.scheme_model.specs.Program.{Prepared, prepared, prepare, ExportSpec, WholeFault, TooMany, UnitResult, Program, result_at, imported_units, all_done, is_in, broken_result}
 use Rattle.scheme_model.specs.Live.{NameUse}
 use Rattle.scheme_model.specs.ProgramArrows.{is_whole, program_table, unit_names}
 use Rattle.scheme_model.specs.ScopedProgram.{ScopedProgress, scoped_work, scoped_before, scoped_program_with}

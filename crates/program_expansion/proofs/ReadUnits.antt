@@ -3,7 +3,8 @@ use Rattle.std.proofs.Common.{◌≡◌, ℕ, List, [], Bool, true, false, cond,
 use Rattle.std.specs.Option.{option_map, is_some}
 use Rattle.scheme_model.specs.Requirements.{LibraryName}
 use Rattle.scheme_model.specs.Program as model
-use Rattle.scheme_model.specs.Program.{Placed, Prepared, prepared, prepare, fault_before}
+use Rattle.scheme_model.specs.IncludedUnits.{Placed}
+use Rattle.scheme_model.specs.Program.{Prepared, prepared, prepare, fault_before}
 use Rattle.scheme_model.specs.ScopedProgram.{scoped_before}
 use Rattle.library_table.specs.declared.units.UnitSource.{UnitSource}
 use Rattle.document_units.specs.Broken.{told, AreJudged, without_if, Forgets}
@@ -19,11 +20,11 @@ judged_heads us old new judged n u h there at = let j = judged.each n h at in (j
 -- a source keeps all but its imports, and these where its unit isn't broken
 module _ (spelled : LibraryName → List ℕ) (p : Prepared) (fault : Option model.WholeFault) (s : UnitSource) (h : IsSourceOf spelled p None s) where
   lost : IsSourceOf spelled p fault s
-  lost = record { kind = h.kind; forms = h.forms; imports = λ none. h.imports refl; exports = h.exports; single = h.single }
+  lost = record { kind = h.kind; forms = h.forms; imports = λ none. h.imports refl; exports = h.exports; single = h.single; lost = h.lost }
 
   by_head : (f : Option WholeFault) → f ≡ option_map told fault → (b : Bool) → is_some f ≡ b → IsSourceOf spelled p fault (cond b (record s { imports = [] }) s)
   by_head f is false e = lost
-  by_head f is true e = record { kind = h.kind; forms = h.forms; imports = λ none. clash (sym (ap (λ (o : Option WholeFault). is_some o) (is ∙ ap (option_map told) none)) ∙ e); exports = h.exports; single = h.single }
+  by_head f is true e = record { kind = h.kind; forms = h.forms; imports = λ none. clash (sym (ap (λ (o : Option WholeFault). is_some o) (is ∙ ap (option_map told) none)) ∙ e); exports = h.exports; single = h.single; lost = h.lost }
     where
       clash : {P : Type 0} → false ≡ true → P
       clash k = absurd cc

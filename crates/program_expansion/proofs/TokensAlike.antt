@@ -11,10 +11,10 @@ use Rattle.ls_base.specs.declared.places.Span as code_span
 
 module _ (text : List ℕ) (c : code.Document) where
   alike : (r q : Read) → IsReadSo c r → IsReadAs text r → IsReadAs text q → map span_seen c.spans.items ≡ spans_in q
-  alike (Reads ds spans) (Reads es ss) so h k = so.1 ∙ (h.2 ∙ (ap (λ (ts : List Token). map span_of ts) (text_once (chars text) h.0 k.0 _ _ h.1 k.1).0 ∙ sym k.2))
-  alike (Reads ds spans) (Stops g) so h k = absurd (never_reads_and_stops (chars text) ds g h.3 k)
-  alike (Stops f) (Reads es ss) so h k = absurd (never_reads_and_stops (chars text) es f k.3 h)
-  alike (Stops f) (Stops g) so h k = ap (λ (ss : List code_span.Span). map span_seen ss) so.1
+  alike (Reads u ds spans) (Reads v es ss) so h k = so.1 ∙ (h.2 ∙ (ap (λ (ts : List Token). map span_of ts) (text_once (chars text) h.0 k.0 _ _ h.1 k.1).0 ∙ sym k.2))
+  alike (Reads u ds spans) (Stops v g) so h k = absurd (never_reads_and_stops (chars text) ds g h.3 k)
+  alike (Stops u f) (Reads v es ss) so h k = absurd (never_reads_and_stops (chars text) es f k.3 h)
+  alike (Stops u f) (Stops v g) so h k = ap (λ (ss : List code_span.Span). map span_seen ss) so.1
 
 pub have_tokens : (ds : List (List ℕ × Document)) (cs : List code.Document) (rs : List Read) → AreDocuments ds cs → AreReadAs ds rs → HaveTokens cs rs
 have_tokens [] [] [] are rd = refl

@@ -7,7 +7,8 @@ use Rattle.std.proofs.lemmas.Option.{same_Some, slice_get_within}
 use Rattle.scheme_model.specs.Order.{is_some}
 use Rattle.scheme_model.specs.Requirements.{Known}
 use Rattle.scheme_model.specs.Substitution.{Table}
-use Rattle.scheme_model.specs.Program.{Placed, prepared, prepare, WholeFault, TooMany, UnitResult, Program, result_at, broken_result, fault_before}
+use Rattle.scheme_model.specs.IncludedUnits.{Placed}
+use Rattle.scheme_model.specs.Program.{prepared, prepare, WholeFault, TooMany, UnitResult, Program, result_at, broken_result, fault_before}
 use Rattle.scheme_model.specs.ScopedProgram.{ScopedProgress, scoped_program_with}
 use Rattle.std.specs.Prelude.{◌==◌}
 use Rattle.syntax_tree.specs.declared.trees.Work.{Work}

@@ -5,7 +5,8 @@ use Rattle.std.proofs.lemmas.List.Sums.{fold_push}
 use Rattle.std.proofs.lemmas.Bool.{not-true, and_parts}
 use Rattle.scheme_model.specs.Order.{is_some}
 use Rattle.scheme_model.specs.Requirements.{Known}
-use Rattle.scheme_model.specs.Program.{Placed, Prepared, prepared, prepare, WholeFault, result_at, is_in, fault_before, unit_entries, broken_result, is_ready, all_done}
+use Rattle.scheme_model.specs.IncludedUnits.{Placed}
+use Rattle.scheme_model.specs.Program.{Prepared, prepared, prepare, WholeFault, result_at, is_in, fault_before, unit_entries, broken_result, is_ready, all_done}
 use Rattle.scheme_model.specs.ScopedProgram.{scoped_expanded, scoped_by_fault, scoped_worked, scoped_work, scoped_before}
 use Rattle.document_units.specs.Turned.{turns, scoped_by_number, scoped_at}
 use Rattle.document_units.proofs.CircleNames.{prepared_at}

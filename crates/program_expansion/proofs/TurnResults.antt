@@ -7,7 +7,8 @@ use Rattle.std.proofs.lemmas.Option.{same_Some, slice_get_within, slice_get-map}
 use Rattle.std.specs.Option.{option_map}
 use Rattle.scheme_model.specs.Order.{is_some}
 use Rattle.scheme_model.specs.Requirements.{Known}
-use Rattle.scheme_model.specs.Program.{Placed, Prepared, prepare, UnitResult, TooMany, broken_result, result_at, in_order, is_in}
+use Rattle.scheme_model.specs.IncludedUnits.{Placed}
+use Rattle.scheme_model.specs.Program.{Prepared, prepare, UnitResult, TooMany, broken_result, result_at, in_order, is_in}
 use Rattle.scheme_model.specs.ScopedProgram.{ScopedProgress, scoped_work, scoped_before}
 use Rattle.document_units.specs.Turned.{turns, waiting, scoped_at, left_out}
 use Rattle.program_expansion.proofs.TurnSteps.{done_there}

@@ -5,7 +5,8 @@ use Rattle.std.proofs.lemmas.Bool.Decides.{nat_tests}
 use Rattle.std.proofs.lemmas.List.{reverse-append}
 use Rattle.std.proofs.lemmas.Option.{same_Some}
 use Rattle.scheme_model.specs.Order.{is_some}
-use Rattle.scheme_model.specs.Program.{Placed, Prepared, prepare, WholeFault, UnitResult, result_at, is_in, fault_before, all_done, is_ready, first_ready}
+use Rattle.scheme_model.specs.IncludedUnits.{Placed}
+use Rattle.scheme_model.specs.Program.{Prepared, prepare, WholeFault, UnitResult, result_at, is_in, fault_before, all_done, is_ready, first_ready}
 use Rattle.import_sets.specs.InTurn.{all_in, is_open}
 use Rattle.import_sets.proofs.ReachLaws.{in_append, or_none, or_turned}
 use Rattle.import_sets.proofs.TurnLaws.{ready_found}

@@ -3,7 +3,8 @@ use Rattle.std.proofs.Common.{◌≡◌, ℕ, zero, suc, ◌+◌, List, [], ◌�
 use Rattle.std.specs.List.{fold}
 use Rattle.std.proofs.lemmas.List.Sums.{fold_push}
 use Rattle.scheme_model.specs.Requirements.{Known}
-use Rattle.scheme_model.specs.Program.{Placed, Prepared, prepare, WholeFault, TooMany, fault_before, is_ready, first_ready}
+use Rattle.scheme_model.specs.IncludedUnits.{Placed}
+use Rattle.scheme_model.specs.Program.{Prepared, prepare, WholeFault, TooMany, fault_before, is_ready, first_ready}
 use Rattle.scheme_model.specs.ScopedProgram.{ScopedProgress, scoped_worked, scoped_work, scoped_before}
 use Rattle.macro_uses.specs.ScopedUses.{scoped_uses_by_fault, scoped_worked_uses, scoped_work_uses}
 use Rattle.document_units.specs.Turned.{turns, scoped_by_number, scoped_at}

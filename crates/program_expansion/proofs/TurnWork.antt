@@ -6,7 +6,8 @@ use Rattle.std.proofs.lemmas.Bool.{cases_lt}
 use Rattle.std.proofs.lemmas.Bool.Decides.{nat_tests}
 use Rattle.std.proofs.lemmas.List.{reverse-append}
 use Rattle.scheme_model.specs.Order.{is_some}
-use Rattle.scheme_model.specs.Program.{Placed, Prepared, prepare, UnitResult, is_in, fault_before, all_done, is_ready, first_ready}
+use Rattle.scheme_model.specs.IncludedUnits.{Placed}
+use Rattle.scheme_model.specs.Program.{Prepared, prepare, UnitResult, is_in, fault_before, all_done, is_ready, first_ready}
 use Rattle.import_sets.specs.InTurn.{is_open, in_turn, and_then}
 use Rattle.import_sets.proofs.ReachLaws.{or_left, or_right, in_push}
 use Rattle.import_sets.proofs.TurnLaws.{ready_at, ready_none}

@@ -11,7 +11,8 @@ use Rattle.scheme_model.specs.Requirements.{Known}
 use Rattle.scheme_model.specs.Substitution.{Table}
 use Rattle.scheme_model.specs.UnitExpansion.{Formed}
 use Rattle.scheme_model.specs.Entries.{Entry}
-use Rattle.scheme_model.specs.Program.{Placed, Prepared, prepare, UnitResult, SetResult, Progress, WholeFault, TooMany, broken_result, is_in, fault_before, unit_entries, with_entries, form_trees, start_of, unit_over, unit_result, by_fault, worked, work, progress_before}
+use Rattle.scheme_model.specs.IncludedUnits.{Placed}
+use Rattle.scheme_model.specs.Program.{Prepared, prepare, UnitResult, SetResult, Progress, WholeFault, TooMany, broken_result, is_in, fault_before, unit_entries, with_entries, form_trees, forms_at_work, start_of, unit_over, unit_result, by_fault, worked, work, progress_before}
 use Rattle.scheme_model.specs.ScopedProgram.{ScopedProgress, scoped_start_of, scoped_unit_over, scoped_by_fault, scoped_worked, scoped_work, scoped_before}
 use Rattle.import_sets.specs.InTurn.{in_turn}
 use Rattle.document_units.specs.Turned.{waiting, turns, expanded_at, scoped_at, left_out}
@@ -32,7 +33,7 @@ fault_numbers : (all : List Placed) (ps : List Prepared) (known : Known) (p : Pr
 fault_numbers all ps known p (Some fault) g = refl
 fault_numbers all ps known p None g =
     let imports = unit_entries all g.results p in
-    let q = unit_over known (form_trees p.number 0 p.forms) (start_of p g.table g.macros (with_entries p.number imports.0 g.entry)) in
+    let q = unit_over known (form_trees p.number 0 (forms_at_work p)) (start_of p g.table g.macros (with_entries p.number imports.0 g.entry)) in
     ap (λ (u : Prepared). u.number ∷ numbers g.results) (unit_of_result p imports q.1.table q.0)
 
 pub scoped_numbers : (all : List Placed) (known : Known) (p : Prepared) (f : Option WholeFault) (g : ScopedProgress) → numbers (scoped_by_fault all known p f g).results ≡ p.number ∷ numbers g.results

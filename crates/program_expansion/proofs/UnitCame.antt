@@ -9,7 +9,8 @@ use Rattle.scheme_model.specs.Requirements.{Known}
 use Rattle.scheme_model.specs.Substitution.{Entries}
 use Rattle.scheme_model.specs.UnitExpansion.{Formed}
 use Rattle.scheme_model.specs.ScopedExpansion.{Frames, FramedIdent, ScopedState}
-use Rattle.scheme_model.specs.Program.{Placed, Prepared, SetResult, TooLarge, entry_meaning, with_entries, is_program, unit_result}
+use Rattle.scheme_model.specs.IncludedUnits.{Placed}
+use Rattle.scheme_model.specs.Program.{Prepared, SetResult, TooLarge, entry_meaning, with_entries, is_program, unit_result}
 use Rattle.scheme_model.specs.ScopedProgram.{ScopedProgress, scoped_start_of, after_unit}
 use Rattle.macro_uses.specs.MacroUses.{total_of}
 use Rattle.macro_uses.specs.ScopedUses.{form_numbers}
@@ -65,6 +66,7 @@ imports_entered names xs ds h = record {
 same_kind : (k : UnitKind) → is_program_kind k ≡ is_program (kind_as k)
 same_kind kinds.Library = refl
 same_kind kinds.Program = refl
+same_kind kinds.Part = refl
 
 start_is : (kind : UnitKind) (unit : ℕ) (p : Prepared) (g : ScopedProgress) (ds : List Entry) (s : ScopedState) → Continues s g → p.number ≡ unit → kind_as kind ≡ p.placed.source.kind →
     started unit (is_program_kind kind) (with_imports unit (imported_by ds) s.entry) s ≡ scoped_start_of p g (with_entries p.number ds g.entry)

@@ -4,7 +4,7 @@ use Rattle.scheme_model.specs.Declarations.{UnitForm}
 use Rattle.scheme_model.specs.Expression.{expand}
 use Rattle.scheme_model.specs.Identifiers.{Name}
 use Rattle.scheme_model.specs.Order.{Ops}
-use Rattle.scheme_model.specs.Program.{Prepared, enough_turns, form_trees, with_refused}
+use Rattle.scheme_model.specs.Program.{Prepared, enough_turns, form_trees, forms_at_work, with_refused}
 use Rattle.scheme_model.specs.Requirements.{Known}
 use Rattle.scheme_model.specs.ScopedExpansion.{ScopedState}
 use Rattle.scheme_model.specs.ScopedProgram.{forms_over}
@@ -45,15 +45,15 @@ same_forms {A} written n form (f ∷ fs) = go (same_forms written n (suc form) f
     go same true x y = same
     go same false x y = ap (λ (ns : List ℕ). form ∷ ns) same
 
-pub searched_numbers : (known : Known) (p : Prepared) (s : ScopedState) (given : List Formed) → (searched_unit_over known p s).0 ≡ Some given → numbers_given given ≡ numbers_of (form_trees p.number 0 p.forms)
+pub searched_numbers : (known : Known) (p : Prepared) (s : ScopedState) (given : List Formed) → (searched_unit_over known p s).0 ≡ Some given → numbers_given given ≡ numbers_of (form_trees p.number 0 (forms_at_work p))
 searched_numbers known p s given h =
-    unit_numbers (searched known) enough_turns [] (forms_of p) s (searched_unit_over known p s).1 given (λ j. (h j, (searched_unit_over known p s).1)) ∙ same_forms _ p.number 0 p.forms
+    unit_numbers (searched known) enough_turns [] (forms_of p) s (searched_unit_over known p s).1 given (λ j. (h j, (searched_unit_over known p s).1)) ∙ same_forms _ p.number 0 (forms_at_work p)
 
 -- ---- forms of a unit that are told by its number and what was read
 
-pub with_own : (work : Work) (n : ℕ) (p : Prepared) (fs : List UnitForm) (cs : List code.UnitForm) (gs : List Formed) → p.number ≡ n → p.forms ≡ fs → FormsStand work n 0 cs (with_refused n 0 fs gs) → FormsStand work n 0 cs (with_refused p.number 0 p.forms gs)
+pub with_own : (work : Work) (n : ℕ) (p : Prepared) (fs : List UnitForm) (cs : List code.UnitForm) (gs : List Formed) → p.number ≡ n → forms_at_work p ≡ fs → FormsStand work n 0 cs (with_refused n 0 fs gs) → FormsStand work n 0 cs (with_refused p.number 0 (forms_at_work p) gs)
 with_own work n p fs cs gs own forms h =
-    subst (λ (m : ℕ). FormsStand work n 0 cs (with_refused m 0 p.forms gs)) (sym own) (subst (λ (xs : List UnitForm). FormsStand work n 0 cs (with_refused n 0 xs gs)) (sym forms) h)
+    subst (λ (m : ℕ). FormsStand work n 0 cs (with_refused m 0 (forms_at_work p) gs)) (sym own) (subst (λ (xs : List UnitForm). FormsStand work n 0 cs (with_refused n 0 xs gs)) (sym forms) h)
 
-pub own_numbers : (n : ℕ) (p : Prepared) (fs : List UnitForm) (gs : List Formed) → p.number ≡ n → p.forms ≡ fs → numbers_given gs ≡ numbers_of (form_trees p.number 0 p.forms) → numbers_given gs ≡ numbers_of (form_trees n 0 fs)
-own_numbers n p fs gs own forms h = h ∙ (ap (λ (m : ℕ). numbers_of (form_trees m 0 p.forms)) own ∙ ap (λ (xs : List UnitForm). numbers_of (form_trees n 0 xs)) forms)
+pub own_numbers : (n : ℕ) (p : Prepared) (fs : List UnitForm) (gs : List Formed) → p.number ≡ n → forms_at_work p ≡ fs → numbers_given gs ≡ numbers_of (form_trees p.number 0 (forms_at_work p)) → numbers_given gs ≡ numbers_of (form_trees n 0 fs)
+own_numbers n p fs gs own forms h = h ∙ (ap (λ (m : ℕ). numbers_of (form_trees m 0 (forms_at_work p))) own ∙ ap (λ (xs : List UnitForm). numbers_of (form_trees n 0 xs)) forms)

@@ -10,7 +10,8 @@ use Rattle.scheme_model.specs.Requirements.{Known}
 use Rattle.scheme_model.specs.Entries.{Entry}
 use Rattle.scheme_model.specs.Substitution.{Defined, Table, defined_in}
 use Rattle.scheme_model.specs.UnitExpansion.{Formed}
-use Rattle.scheme_model.specs.Program.{Placed, Prepared, prepared, prepare, ExportSpec, WholeFault, SetResult, UnitResult, Program, result_at, imported_units, all_done, broken_result, unit_result, fault_before}
+use Rattle.scheme_model.specs.IncludedUnits.{Placed}
+use Rattle.scheme_model.specs.Program.{Prepared, prepared, prepare, ExportSpec, WholeFault, SetResult, UnitResult, Program, result_at, imported_units, all_done, broken_result, unit_result, fault_before}
 use Rattle.scheme_model.specs.Live.{NameUse}
 use Rattle.scheme_model.specs.ProgramArrows.{unit_names}
 use Rattle.scheme_model.specs.ScopedProgram.{ScopedProgress, scoped_by_fault}

@@ -11,7 +11,8 @@ use Rattle.scheme_model.specs.Substitution.{Table, Entries}
 use Rattle.scheme_model.specs.ScopedExpansion.{ScopedState}
 use Rattle.scheme_model.specs.UnitExpansion.{Formed}
 use Rattle.scheme_model.specs.Program as model
-use Rattle.scheme_model.specs.Program.{Placed, Prepared, prepared, prepare, SetResult, UnitResult, result_at, is_ready, broken_result, unit_result, unit_entries, with_entries, fault_before}
+use Rattle.scheme_model.specs.IncludedUnits.{Placed}
+use Rattle.scheme_model.specs.Program.{Prepared, prepared, prepare, SetResult, UnitResult, result_at, is_ready, broken_result, unit_result, unit_entries, with_entries, fault_before}
 use Rattle.scheme_model.specs.ScopedProgram.{ScopedProgress, scoped_start_of, scoped_start_after, scoped_unit_over, after_unit}
 use Rattle.macro_uses.specs.MacroUses.{total_of}
 use Rattle.macro_uses.specs.ScopedUses.{form_numbers, scoped_uses_by_fault, scoped_worked_uses}

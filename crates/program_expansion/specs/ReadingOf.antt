@@ -9,13 +9,13 @@ use Rattle.core_tree.specs.Units.{ProgramStands}
 use Rattle.core_tree.specs.declared.units.Program.{Program}
 use Rattle.program_expansion.specs.declared.program.Reading.{Reading}
 use Rattle.document_units.specs.Listed.{AreFoundOf}
-use Rattle.document_units.specs.Readings.{AreReadAs, Read, data_in, program_in}
+use Rattle.document_units.specs.Readings.{AreReadAs, Read, documents_in, program_in}
 use Rattle.program_leaves.specs.Formed.{AreFormedIn}
 use Rattle.document_units.specs.Belongs.{Belongs}
 
 -- the program of texts that are read so
 abbrev pub HasProgram : Texts → List Read → Work → Program → Type 0
-HasProgram texts rs work p = ProgramStands work library_text (map (λ d. d.0) (entries texts)) (units_of (map data_in rs)) p (program_in rs)
+HasProgram texts rs work p = ProgramStands work library_text (map (λ d. d.0) (entries texts)) (units_of (documents_in rs)) p (program_in rs)
 
 -- there is a list of findings for each, and the forms of the units stand for something among these trees; what is found and the program
 -- are the definition's

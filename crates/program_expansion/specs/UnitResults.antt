@@ -8,7 +8,8 @@ use Rattle.scheme_model.specs.Requirements.{LibraryName, Known}
 use Rattle.scheme_model.specs.ScopedExpansion.{ScopedState}
 use Rattle.scheme_model.specs.Entries.{Entry}
 use Rattle.scheme_model.specs.UnitExpansion.{Formed}
-use Rattle.scheme_model.specs.Program.{Placed, Prepared, prepared, prepare, unit_named, WholeFault, fault_before, SetResult, UnitResult, Program, result_at, with_entries, broken_result, unit_result}
+use Rattle.scheme_model.specs.IncludedUnits.{Placed}
+use Rattle.scheme_model.specs.Program.{Prepared, prepared, prepare, unit_named, WholeFault, fault_before, SetResult, UnitResult, Program, result_at, with_entries, broken_result, unit_result}
 use Rattle.scheme_model.specs.ProgramArrows.{unit_names}
 use Rattle.scheme_model.specs.Spelling.{second_places}
 use Rattle.scheme_model.specs.ScopedProgram.{ScopedProgress, scoped_start_of, after_unit}

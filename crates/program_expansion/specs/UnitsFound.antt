@@ -1,7 +1,9 @@
 -- What is found wrong in units, as the definition's diagnostics and Errors of the program that they come to (R7RS 5.1, 5.6).
-use Rattle.std.specs.Prelude.{◌≡◌, ℕ, List, [], ◌∷◌, length, slice_get, Option, Some, None, if◌then◌else◌}
+use Rattle.std.specs.Prelude.{◌≡◌, ◌<◌, ℕ, List, [], ◌∷◌, length, slice_get, Option, Some, None, if◌then◌else◌}
 use Rattle.std.specs.List.{zip}
-use Rattle.scheme_model.specs.Program.{Placed, Prepared, prepared, imports_nothing, SetResult, UnitResult, Program, WholeFault, result_at}
+use Rattle.scheme_model.specs.Included.{LostString}
+use Rattle.scheme_model.specs.IncludedUnits.{Placed}
+use Rattle.scheme_model.specs.Program.{Prepared, prepared, imports_nothing, SetResult, UnitResult, Program, WholeFault, result_at}
 use Rattle.scheme_model.specs.ScopedProgram.{ScopedProgress}
 use Rattle.scheme_model.specs.Diagnostics.{Span, Diagnostic, document_of, at_bytes, bytes_of, set_diagnostics, unit_start}
 use Rattle.core_tree.specs.Units.{set_errors, set_forms}
@@ -29,7 +31,15 @@ AreSetsFound rs us p sets fs = Adds [] fs (set_diagnostics (bytes_of (spans_of r
 abbrev pub no_import_diagnostics : List (List Span) → Prepared → List Diagnostic
 no_import_diagnostics spans p = if imports_nothing p then at_bytes (unit_start spans p) 104 [] ∷ [] else []
 
+-- these strings, which mean no text, stand in so many documents
+abbrev pub LostIn : (count : ℕ) → List LostString → Type 0
+LostIn count ls = (n : ℕ) (l : LostString) → slice_get ls n ≡ Some l → l.document < count
+
 -- ---- all units
+
+-- those of all units do
+abbrev pub AreLostIn : (count : ℕ) → List Placed → Type 0
+AreLostIn count all = (n : ℕ) (u : Placed) → slice_get all n ≡ Some u → LostIn count u.source.lost
 
 -- these are results of the units, each at its number
 abbrev pub AreResultsOf : List Placed → List UnitResult → Type 0

@@ -1,12 +1,13 @@
 -- The macro uses that are counted while units are expanded in their turns (R7RS 4.3, 5.6).
-use Rattle.std.specs.Prelude.{ℕ, ◌+◌, List, map, slice_get, Option}
+use Rattle.std.specs.Prelude.{ℕ, ◌+◌, List, slice_get, Option}
 use Rattle.std.specs.List.{fold}
 use Rattle.scheme_model.specs.Requirements.{Known}
-use Rattle.scheme_model.specs.Program.{Placed, Prepared, prepare}
+use Rattle.scheme_model.specs.IncludedUnits.{Placed}
+use Rattle.scheme_model.specs.Program.{Prepared, prepare}
 use Rattle.scheme_model.specs.ScopedProgram.{ScopedProgress, scoped_worked, scoped_before}
 use Rattle.macro_uses.specs.MacroUses.{program_uses}
 use Rattle.macro_uses.specs.ScopedUses.{scoped_worked_uses}
-use Rattle.document_units.specs.Readings.{Read, data_in}
+use Rattle.document_units.specs.Readings.{Read, documents_in}
 
 -- what is expanded so far, and the macro uses that were counted
 abbrev pub counted_worked : List Placed → Known → Option Prepared → ScopedProgress × ℕ → ScopedProgress × ℕ
@@ -21,4 +22,4 @@ uses_at all known places = (fold (counted_by_number all known) (scoped_before, 0
 
 -- the macro uses of the program of texts that are read so
 abbrev pub uses_in : List Read → ℕ
-uses_in rs = program_uses (map data_in rs)
+uses_in rs = program_uses (documents_in rs)

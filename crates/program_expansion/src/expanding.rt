@@ -1,9 +1,11 @@
 //! Units one after another (R7RS 5.6), each after what it imports.
-ghost use Rattle.std.specs.Prelude.{◌≡◌, ℕ, ◌+◌, ◌<◌, List, [], ◌∷◌, ◌++◌, All, length, replicate, reverse, vec_len, Some, None, IfOk, OnOk, IfSome, true, if◌then◌else◌};
+ghost use Rattle.std.specs.Prelude.{◌≡◌, ℕ, ◌+◌, ◌<◌, List, [], ◌∷◌, ◌++◌, All, length, replicate, map, reverse, vec_len, Some, None, IfOk, OnOk, IfSome, true, ◌&&◌, ◌==◌, if◌then◌else◌};
 ghost use Rattle.scheme_model.specs.Entries.{Entry as ModelEntry};
+ghost use Rattle.scheme_model.specs.Declarations.{is_part_kind};
 ghost use Rattle.scheme_model.specs.Diagnostics.{bytes_of, unbound_diagnostics};
 ghost use Rattle.scheme_model.specs.Live.{unit_leaves};
-ghost use Rattle.scheme_model.specs.Program.{Placed, Prepared, Program, SetResult, UnitResult, WholeFault as Whole, is_in, unit_result, result_at, with_refused};
+ghost use Rattle.scheme_model.specs.IncludedUnits.{Placed};
+ghost use Rattle.scheme_model.specs.Program.{Prepared, Program, SetResult, UnitResult, WholeFault as Whole, is_in, form_trees, forms_at_work, unit_result, result_at, with_refused};
 ghost use Rattle.scheme_model.specs.Requirements.{Known, LibraryName};
 ghost use Rattle.scheme_model.specs.ScopedProgram.{ScopedProgress, scoped_before};
 ghost use Rattle.scheme_model.specs.UnitExpansion.{Formed};
@@ -12,9 +14,11 @@ ghost use Rattle.syntax_tree.specs.Names.{KeepsNames};
 ghost use Rattle.syntax_tree.specs.Works.{KeepsTrees};
 ghost use Rattle.syntax_tree.specs.declared.trees.Work.{Work as AnyWork};
 ghost use Rattle.core_tree.specs.Names.{AllMatch};
-ghost use Rattle.core_tree.specs.Units.{IsBlank, FormsStand, AreDefinitions, definitions_from, defined_by};
+ghost use Rattle.core_tree.specs.Units.{IsBlank, FormsStand, AreDefinitions, definitions_from, defined_by, kind_as};
 ghost use Rattle.library_table.specs.Orders.{ArePlaces};
 ghost use Rattle.library_table.specs.UnitsRead.{forms_of};
+ghost use Rattle.program_expansion.specs.AtWork.{worked_forms};
+ghost use Rattle.form_expansion.specs.Ends.{numbers_of};
 ghost use Rattle.feature_requirements.specs.Judged.{Knows};
 ghost use Rattle.unit_scopes.specs.Opened.{IsNew};
 ghost use Rattle.unit_scopes.specs.Outcomes.{Grows};
@@ -36,7 +40,7 @@ ghost use Rattle.program_findings.specs.StandIn.{StandIn};
 ghost use Rattle.document_units.specs.Turned.{scoped_at, turns};
 ghost use Rattle.program_expansion.specs.UnitsExpanded.{AreAllFound};
 ghost use Rattle.program_expansion.specs.UsesInTurn.{uses_at};
-ghost use Rattle.program_expansion.specs.UnitsFound.{AreResultsOf, AreSetsFound, HaveFound, in_the_end, no_import_diagnostics};
+ghost use Rattle.program_expansion.specs.UnitsFound.{AreResultsOf, AreSetsFound, AreLostIn, HaveFound, LostIn, in_the_end, no_import_diagnostics};
 ghost use Rattle.document_units.specs.UnitFindings.{IsFoundOf};
 ghost use Rattle.document_units.specs.WereRead.{WereRead};
 
@@ -49,7 +53,7 @@ use document_units::places::Places;
 use expander::Imported;
 use form_expansion::forms::{Bench, blank_trace, expand_forms};
 use form_expansion::refused::refuse;
-use library_table::UnitSource;
+use library_table::{LostString, UnitForm as SourceForm, UnitSource};
 use ls_base::{Items, Mem, Steps};
 use program_findings::diagnosing::{add_faults, add_lost, add_unbound, whole_finding};
 use std::alloc::Global;
@@ -95,7 +99,7 @@ pub fn expand_all<L: Ledger>(
     // What is found of each is what the definition has of it, where the program comes to have these units.
     ensures finds { (spelled : LibraryName → List ℕ) (us : List Placed) (known : Known) → order.now ≡ turns us → vec_len units.old.heads ≡ length us → FindsLibraries spelled us firsts.now →
         Knows bench.old.scope.libraries known → GoesOn bench.old scoped_before → HeadsBy us scoped_before units.old.heads.items → AreSourcesOf spelled us units.old.sources.items →
-        (reads : List Read) (ends : List UnitResult) → AreHeads reads 0 units.old.heads.items ends → HaveTokens documents.now reads → AreResultsOf us ends →
+        (reads : List Read) (ends : List UnitResult) → AreHeads reads 0 units.old.heads.items ends → HaveTokens documents.now reads → AreResultsOf us ends → AreLostIn (length documents.now) us →
         IfOk result (λ all. HaveFound reads ends (scoped_at us known (turns us)) all.items) }
     // Each macro use that the definition counts for them is a step.
     ensures steps { (spelled : LibraryName → List ℕ) (us : List Placed) (known : Known) → order.now ≡ turns us → vec_len units.old.heads ≡ length us → FindsLibraries spelled us firsts.now →
@@ -148,18 +152,13 @@ fn expand_at<L: Ledger>(
     // What is found of it is what the definition has of it.
     ensures finds { (spelled : LibraryName → List ℕ) (us : List Placed) (known : Known) (x y : List ℕ) → turns us ≡ x ++ place ∷ y → FindsLibraries spelled us firsts.now →
         IsUpTo spelled us known x bench.old units.old all.old.items → (reads : List Read) (ends : List UnitResult) → AreHeads reads 0 units.old.heads.items ends → HaveTokens documents.now reads → AreResultsOf us ends →
-        HaveFound reads ends (scoped_at us known x) all.old.items → OnOk result (HaveFound reads ends (scoped_at us known (x ++ place ∷ [])) all.new.items) }
+        AreLostIn (length documents.now) us → HaveFound reads ends (scoped_at us known x) all.old.items → OnOk result (HaveFound reads ends (scoped_at us known (x ++ place ∷ [])) all.new.items) }
     // Each macro use that the definition counts for it is a step.
     ensures steps { (spelled : LibraryName → List ℕ) (us : List Placed) (known : Known) (x y : List ℕ) → turns us ≡ x ++ place ∷ y → FindsLibraries spelled us firsts.now →
         IsUpTo spelled us known x bench.old units.old all.old.items → OnOk result (steps.new + uses_at us known x ≡ steps.old + uses_at us known (x ++ place ∷ [])) }
 {
     let unit = place as usize;
     if units.heads[unit].fault.is_some() {
-        return Ok(());
-    }
-    if units.heads[unit].kind == UnitKind::Part {
-        let count = units.sources[unit].forms.as_slice().len();
-        all[unit] = Some(part(alloc, count)?);
         return Ok(());
     }
     let heads = units.heads.as_slice();
@@ -224,6 +223,7 @@ fn expand_unit<L: Ledger>(
     ensures finds { (spelled : LibraryName → List ℕ) (known : Known) (g : ScopedProgress) (p : Prepared) (given_entries : List ModelEntry × List SetResult) → Knows bench.old.scope.libraries known →
         GoesOn bench.old g → p.number ≡ unit → IsSourceOf spelled p None source.now → AreEntries bench.old.work.symbols given.joined.entries.items given_entries.0 →
         (reads : List Read) (ends : List UnitResult) (r : UnitResult) → ArePlacesOf places.entry reads ends → result_at ends unit ≡ Some r → r.unit ≡ p → AreSetsFound reads ends p given_entries.1 given.findings.items →
+        LostIn (length places.entry.documents.now) p.placed.source.lost →
         IfOk result (λ came. IfSome came (λ came. IsFoundOf reads (in_the_end ends (with_unit g (expanded_after known g p given_entries.0).1))
         (unit_result p given_entries (expanded_after known g p given_entries.0).1.table (expanded_after known g p given_entries.0).0) came.findings.items)) }
 {
@@ -231,11 +231,11 @@ fn expand_unit<L: Ledger>(
     bench.work.symbols.told_apart();
     let Bench { work, scope, .. } = bench;
     scope.begin_unit(work, unit, source.kind, imports.as_slice())?;
-    let expanded = expand_forms(alloc, bench, unit, source.forms.as_slice(), steps)?;
+    let expanded = expand_forms(alloc, bench, unit, at_work(source), steps)?;
     match expanded {
         None => Ok(None),
         Some(forms) => {
-            let forms = refuse(unit, source.forms.as_slice(), forms)?;
+            let forms = all_forms(alloc, unit, source, forms)?;
             let came = finished(
                 alloc,
                 &mut bench.work,
@@ -250,6 +250,43 @@ fn expand_unit<L: Ledger>(
             Ok(Some(came))
         }
     }
+}
+
+/// Whether a unit is the program of a text that others include.
+fn is_part(kind: UnitKind) -> bool
+    ensures { result ≡ is_part_kind (kind_as kind) }
+{
+    kind == UnitKind::Part
+}
+
+/// The forms of a unit that are worked on. Those of a part are where it is included.
+fn at_work(source: &UnitSource) -> &[SourceForm]
+    ensures { result.now ≡ worked_forms source.now }
+{
+    if is_part(source.kind) {
+        return &[];
+    }
+    source.forms.as_slice()
+}
+
+/// The forms of a unit, by what those came to that are worked on. The others are blank.
+fn all_forms(
+    alloc: Global,
+    unit: u32,
+    source: &UnitSource,
+    forms: Items<UnitForm>,
+) -> Mem<Items<UnitForm>>
+    requires { length forms ≡ length (worked_forms source.now) }
+    ensures count { IfOk result (λ all. length all ≡ length source.now.forms) }
+    ensures definitions { IfOk result (λ all. definitions_from 0 all ≡ definitions_from 0 forms) }
+    ensures formed { (work : AnyWork) → AreFormed work unit forms → IfOk result (AreFormed work unit) }
+    ensures stand { (work : AnyWork) (fs : List Formed) → FormsStand work unit 0 forms fs → map (λ (f : Formed). f.form) fs ≡ numbers_of (form_trees unit 0 (forms_of (worked_forms source.now))) →
+        IfOk result (λ all. FormsStand work unit 0 all (with_refused unit 0 (forms_of (worked_forms source.now)) fs)) }
+{
+    if is_part(source.kind) {
+        return Ok(blank_forms(alloc, source.forms.as_slice().len())?);
+    }
+    Ok(refuse(unit, source.forms.as_slice(), forms)?)
 }
 
 /// The symbols of entries, and what they mean.
@@ -269,8 +306,8 @@ fn imported(alloc: Global, work: &mut Work, entries: &[Entry]) -> Mem<Vec<Import
     Ok(imports)
 }
 
-/// What a unit came to, by what it imports and what its forms expanded to. What is found wrong stands in this order: sets, exports,
-/// forms, definitions that hide, unbound names, no import.
+/// What a unit came to, by what it imports and what its forms expanded to. What is found wrong stands in this order: sets, strings that
+/// mean no text, exports, forms, definitions that hide, unbound names, no import.
 fn finished(
     alloc: Global,
     work: &mut Work,
@@ -295,12 +332,13 @@ fn finished(
     // They are what the definition has of the unit, where forms stand for what it has of them.
     ensures came { (spelled : LibraryName → List ℕ) (us : List Placed) (q : Program) (p : Prepared) (given_entries : List ModelEntry × List SetResult) (fs : List Formed) → p.number ≡ unit → IsSourceOf spelled p None source.now →
         AreLibraries work.old.symbols libraries.entry spelled us q.units → AreEntries work.old.symbols given.joined.entries.items given_entries.0 →
-        length forms ≡ length p.forms → FormsStand work.old unit 0 forms (with_refused p.number 0 p.forms fs) → AreDefinitions work.old.symbols (reverse (definitions_from 0 forms)) (defined_by unit q.table) →
+        length forms ≡ length p.forms → FormsStand work.old unit 0 forms (with_refused p.number 0 (forms_at_work p) fs) → AreDefinitions work.old.symbols (reverse (definitions_from 0 forms)) (defined_by unit q.table) →
         IfOk result (λ came. CameTo us q work.new came (unit_result p given_entries q.table (Some fs))) }
     // What is found is what the definition has of the unit, where the program comes to have these units.
     ensures finds { (spelled : LibraryName → List ℕ) (q : Program) (p : Prepared) (given_entries : List ModelEntry × List SetResult) (fs : List Formed) → p.number ≡ unit → IsSourceOf spelled p None source.now →
-        AreEntries work.old.symbols given.joined.entries.items given_entries.0 → FormsStand work.old unit 0 forms (with_refused p.number 0 p.forms fs) → AreDefinitions work.old.symbols (reverse (definitions_from 0 forms)) (defined_by unit q.table) →
+        AreEntries work.old.symbols given.joined.entries.items given_entries.0 → FormsStand work.old unit 0 forms (with_refused p.number 0 (forms_at_work p) fs) → AreDefinitions work.old.symbols (reverse (definitions_from 0 forms)) (defined_by unit q.table) →
         (reads : List Read) (ends : List UnitResult) (r : UnitResult) → ArePlacesOf places.entry reads ends → result_at ends unit ≡ Some r → r.unit ≡ p → AreSetsFound reads ends p given_entries.1 given.findings.items →
+        LostIn (length places.entry.documents.now) p.placed.source.lost →
         IfOk result (λ came. IsFoundOf reads (in_the_end ends q) (unit_result p given_entries q.table (Some fs)) came.findings.items) }
 {
     let Given {
@@ -314,7 +352,7 @@ fn finished(
     let used = names_used(alloc, work, libraries, unit, source, names.as_slice())?;
     let seconds = seconds_in(alloc, source.imports.as_slice())?;
     let symbols = &work.symbols;
-    add_lost(alloc, source.lost.as_slice(), &mut findings)?;
+    add_lost(alloc, places, source.lost.as_slice(), &mut findings)?;
     let exports = exports_given(alloc, places, unit, source, names.as_slice(), &mut findings)?;
     add_faults(
         alloc,
@@ -335,7 +373,7 @@ fn finished(
         &joined,
         &mut findings,
     )?;
-    let are_found = sets_are_good && source.lost.as_slice().is_empty();
+    let are_found = are_told(sets_are_good, source.lost.as_slice());
     add_unbound_if(alloc, symbols, places, slice, are_found, &mut findings)?;
     add_no_import(alloc, places, unit, source, &mut findings)?;
     Ok(Expanded {
@@ -346,6 +384,13 @@ fn finished(
         exports,
         findings,
     })
+}
+
+/// Whether unbound names are told: only where no set of the unit is wrong, and each string that includes means a text.
+fn are_told(sets_are_good: bool, lost: &[LostString]) -> bool
+    ensures { result ≡ (sets_are_good && (length lost.now == 0)) }
+{
+    sets_are_good && lost.is_empty()
 }
 
 /// Adds the references and assignments of forms that mean nothing, if they are to be found.
@@ -423,18 +468,6 @@ pub fn broken(
         seconds: Items::new(alloc),
         exports: Items::new(alloc),
         findings,
-    })
-}
-
-/// What the program of a text comes to that others include: it is worked on only there.
-fn part(alloc: Global, count: usize) -> Mem<Expanded> {
-    Ok(Expanded {
-        entries: Vec::new(alloc),
-        forms: blank_forms(alloc, count)?,
-        names: Items::new(alloc),
-        seconds: Items::new(alloc),
-        exports: Items::new(alloc),
-        findings: Vec::new(alloc),
     })
 }
 

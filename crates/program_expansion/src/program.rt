@@ -3,7 +3,8 @@ ghost use Rattle.std.specs.Prelude.{◌≡◌, ℕ, ◌+◌, ◌<◌, ◌≤◌,
 ghost use Rattle.std.specs.FinMap.{entries};
 ghost use Rattle.ls_base.specs.Limits.{max_documents};
 ghost use Rattle.scheme_model.specs.Prelude.{prelude};
-ghost use Rattle.scheme_model.specs.Program.{Document as ModelDocument, Program as Model, UnitResult, WholeFault as Whole, known_in, prelude_unit, units_of, result_at};
+ghost use Rattle.scheme_model.specs.Includes.{Document as ModelDocument};
+ghost use Rattle.scheme_model.specs.Program.{Program as Model, UnitResult, WholeFault as Whole, known_in, prelude_unit, units_of, result_at};
 ghost use Rattle.scheme_model.specs.Requirements.{LibraryName};
 ghost use Rattle.syntax_tree.specs.Names.{KeepsNames};
 ghost use Rattle.syntax_tree.specs.Works.{IsOpened, KeepsTrees};
@@ -24,7 +25,7 @@ ghost use Rattle.document_units.specs.Broken.{told};
 ghost use Rattle.program_expansion.specs.UnitResults.{IsUpTo};
 ghost use Rattle.unit_imports.specs.Collected.{AreCollected, AreHeadsOf, Has, IsNothing};
 ghost use Rattle.document_units.specs.UnitFindings.{HaveErrors, AreFirstErrors, IsFoundOf};
-ghost use Rattle.document_units.specs.DataRead.{AreReadIn, HaveData};
+ghost use Rattle.document_units.specs.DataRead.{AreOpened, AreReadIn};
 ghost use Rattle.program_expansion.specs.Formed.{CameFormed};
 ghost use Rattle.document_units.specs.Findings.{errors_in};
 ghost use Rattle.document_units.specs.Listed.{AreFoundOf};
@@ -122,13 +123,13 @@ fn work_on<L: Ledger>(
     ensures found { IfOk result (λ worked. AreAllFound (length documents.now) worked.expanded.items) }
     ensures formed { IfOk result (λ worked. CameFormed bench.new.work worked.expanded.items) }
     // The units are those of the documents' data, and in their turns they came to what the definition has of them.
-    ensures up { (ds : List ModelDocument) → HaveData ds documents.now → (spelled : LibraryName → List ℕ) → SpellsStandard spelled → WritesProper spelled →
+    ensures up { (ds : List ModelDocument) → AreOpened ds documents.now → (spelled : LibraryName → List ℕ) → SpellsStandard spelled → WritesProper spelled →
         IfOk result (λ worked. IsUpTo spelled (units_of ds) (known_in ds) (turns (units_of ds)) bench.new worked.units worked.expanded.items) }
     // Each macro use that the definition counts for them is a step.
-    ensures steps { (ds : List ModelDocument) → HaveData ds documents.now → (spelled : LibraryName → List ℕ) → SpellsStandard spelled → WritesProper spelled →
+    ensures steps { (ds : List ModelDocument) → AreOpened ds documents.now → (spelled : LibraryName → List ℕ) → SpellsStandard spelled → WritesProper spelled →
         OnOk result (steps.new ≡ steps.old + uses_at (units_of ds) (known_in ds) (turns (units_of ds))) }
     // Their heads have what they do.
-    ensures heads { (ds : List ModelDocument) → HaveData ds documents.now → (spelled : LibraryName → List ℕ) → SpellsStandard spelled → WritesProper spelled →
+    ensures heads { (ds : List ModelDocument) → AreOpened ds documents.now → (spelled : LibraryName → List ℕ) → SpellsStandard spelled → WritesProper spelled →
         IfOk result (λ worked. AreHeadsOf library_text (units_of ds) worked.units.heads.items) }
     // What came of them and is found in them is what the program of the texts has, however these are read.
     ensures told { (ds : List (List ℕ × Text)) (rs : List Read) → AreDocuments ds documents.now → AreReadAs ds rs →
@@ -262,6 +263,7 @@ fn unit_of(
     ensures kind { IfOk result (λ unit. unit.0.kind ≡ head.old.kind) }
     ensures name { IfOk result (λ unit. unit.0.name ≡ head.old.name) }
     ensures imports { IfOk result (λ unit. unit.0.imports ≡ head.old.imports) }
+    ensures ranges { IfOk result (λ unit. unit.0.ranges.items ≡ head.old.ranges.items) }
     ensures errors { IfOk result (λ unit. map error_as unit.0.errors ≡ errors_in came.findings.items) }
 {
     let Expanded {
@@ -277,7 +279,7 @@ fn unit_of(
         kind: head.kind,
         name: mem::replace(&mut head.name, None),
         forms,
-        ranges: mem::replace(&mut head.ranges, Vec::new(alloc)),
+        ranges: head.ranges.clone()?,
         imports: mem::replace(&mut head.imports, Items::new(alloc)),
         names,
         seconds,

@@ -2,7 +2,7 @@
 use Rattle.std.specs.Prelude.{◌≡◌, ℕ, List, [], All, length, slice_get, Option, Some, None}
 use Rattle.scheme_model.specs.Requirements.{LibraryName}
 use Rattle.scheme_model.specs.Program.{Placed, Prepared, prepared}
-use Rattle.core_tree.specs.Units.{IsBlank, imports_of, kind_as, text_of}
+use Rattle.core_tree.specs.Units.{IsBlank, imports_of, kind_as, ranges_from, text_of}
 use Rattle.core_tree.specs.declared.units.Unit as code
 use Rattle.library_table.specs.declared.units.UnitSource.{UnitSource}
 use Rattle.unit_imports.specs.declared.expanded.Expanded.{Expanded}
@@ -44,6 +44,7 @@ pub record IsCollected (uris : List (List ℕ)) (h : Head) (s : UnitSource) (o :
   pub kind : c.kind ≡ h.kind
   pub name : c.name ≡ h.name
   pub imports : c.imports ≡ h.imports
+  pub ranges : c.ranges.items ≡ h.ranges.items
   pub come : HasCome (length s.forms) o c
 
 -- all units, each at its place
@@ -59,6 +60,7 @@ pub record IsHeadOf (text : LibraryName → List ℕ) (p : Prepared) (h : Head) 
   pub kind : kind_as h.kind ≡ p.placed.source.kind
   pub name : h.name ≡ text_of text p.placed.source.name
   pub imports : h.imports ≡ imports_of p
+  pub ranges : h.ranges.items ≡ ranges_from p.number 0 p.forms
 
 abbrev pub AreHeadsOf : (LibraryName → List ℕ) → List Placed → List Head → Type 0
 AreHeadsOf text all hs = (n : ℕ) (u : Placed) (h : Head) → slice_get all n ≡ Some u → slice_get hs n ≡ Some h → IsHeadOf text (prepared all n u) h

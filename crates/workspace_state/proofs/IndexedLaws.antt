@@ -11,17 +11,17 @@ use Rattle.arrow_index.specs.declared.index.Index.{Index}
 use Rattle.program_answers.specs.AskedOf.{IsSource}
 use Rattle.workspace_state.specs.Expansions.{IsIndexFor}
 use Rattle.workspace_state.specs.ProgramOfTexts.{IsProgramOfTexts}
-use Rattle.document_units.specs.Readings.{Read, AreReadAs, data_in, program_in}
+use Rattle.document_units.specs.Readings.{Read, AreReadAs, documents_in, program_in}
 use Rattle.program_answers.proofs.TextLists.{some_row}
 
 -- documents are read somehow, so units stand for those of a program
 pub some_program : (texts : Texts) (work : Work) (program : Program) → IsProgramOfTexts texts work program → IsProgramOf work program
 some_program texts work program h =
     let row = some_row (entries texts) in
-    (library_text, map (λ d. d.0) (entries texts), units_of (map data_in row.0), program_in row.0, h row.0 row.1)
+    (library_text, map (λ d. d.0) (entries texts), units_of (documents_in row.0), program_in row.0, h row.0 row.1)
 
 pub source_of : (texts : Texts) (work : Work) (program : Program) (i : Index) (rs : List Read) → IsProgramOfTexts texts work program → IsIndexFor work program i → AreReadAs (entries texts) rs → IsSource texts rs i
-source_of texts work program i rs h right are = record { read = are; index = right.is library_text (map (λ d. d.0) (entries texts)) (units_of (map data_in rs)) (program_in rs) (h rs are) }
+source_of texts work program i rs h right are = record { read = are; index = right.is library_text (map (λ d. d.0) (entries texts)) (units_of (documents_in rs)) (program_in rs) (h rs are) }
 
 pub same_source : (texts seen : Texts) (i j : Index) (rs : List Read) → seen ≡ texts → j ≡ i → IsSource texts rs i → IsSource seen rs j
 same_source texts seen i j rs e k h = subst (λ (t : Texts). IsSource t rs j) (sym e) (subst (IsSource texts rs) (sym k) h)

@@ -1,5 +1,5 @@
 -- A workspace without documents.
-use Rattle.std.proofs.Common.{◌≡◌, ℕ, List, [], ◌∷◌, length, map, nat_cmp, refl, sym, ap, ◌∙◌, subst, arith}
+use Rattle.std.proofs.Common.{◌≡◌, ℕ, List, [], ◌∷◌, Bool, length, map, nat_cmp, refl, sym, ap, ◌∙◌, subst, arith}
 use Rattle.std.specs.Cmp.Lexicographic.{slice_cmp}
 use Rattle.std.specs.FinMap.{entries, empty, keys, len, len-entries, len-empty}
 use Rattle.ls_base.specs.declared.encoding.Encoding.{Encoding}
@@ -11,10 +11,11 @@ use Rattle.core_tree.specs.Units.{ProgramStands, UnitsStand}
 use Rattle.core_tree.specs.declared.units.Program.{Program}
 use Rattle.core_tree.specs.declared.units.Unit.{Unit as CodeUnit}
 use Rattle.document_store.specs.Texts.{Document, Texts}
-use Rattle.document_units.specs.Readings.{Read, AreReadAs, data_in, program_in}
+use Rattle.document_units.specs.Readings.{Read, AreReadAs, documents_in, program_in}
 use Rattle.document_units.specs.Listed.{lists_of}
+use Rattle.workspace_state.specs.Parts.{parts_in}
 use Rattle.workspace_state.specs.ProgramOfTexts.{IsProgramOfTexts}
-use Rattle.workspace_state.specs.State.{AreListsFor}
+use Rattle.workspace_state.specs.State.{AreListsFor, ArePartsOf}
 use Rattle.program_answers.proofs.TextLists.{some_row}
 
 no_length : {A : Type 0} (xs : List A) → length xs ≡ 0 → xs ≡ []
@@ -33,8 +34,11 @@ none_read texts none rs are = no_reads rs (subst (λ (ds : List (List ℕ × Doc
 
 pub no_program : (texts : Texts) → texts ≡ empty → (work : Work) (program : Program) → program.units ≡ [] → IsProgramOfTexts texts work program
 no_program texts none work program units = λ rs are.
-    subst (λ (q : List Read). ProgramStands work library_text (keys texts) (units_of (map data_in q)) program (program_in q)) (sym (none_read texts none rs are))
+    subst (λ (q : List Read). ProgramStands work library_text (keys texts) (units_of (documents_in q)) program (program_in q)) (sym (none_read texts none rs are))
     (subst (λ (us : List CodeUnit). UnitsStand work library_text (keys texts) [] (program_of []) 0 us []) (sym units) tt)
+
+pub no_parts : (texts : Texts) → texts ≡ empty → (parts : List Bool) → parts ≡ [] → ArePartsOf texts parts
+no_parts texts none parts nothing = λ rs are. nothing ∙ sym (ap (λ (q : List Read). parts_in (documents_in q)) (none_read texts none rs are))
 
 pub no_lists : (e : Encoding) (texts : Texts) → texts ≡ empty → (lists : List (List ℕ × List told.Diagnostic)) → lists ≡ [] → AreListsFor e texts lists
 no_lists e texts none lists nothing = λ rs are. nothing ∙ sym (ap (λ (ds : List (List ℕ × Document)). map (λ l. (l.uri, l.list)) (lists_of e ds rs)) (none_there texts none))

@@ -2,7 +2,8 @@
 use Rattle.std.specs.Prelude.{ℕ, List, Option, Some, None, refl}
 use Rattle.std.specs.Coded.{Coded, code_by, coded×}
 use Rattle.std.specs.List.Sorted.{IsStrictlySortedBy}
-use Rattle.scheme_model.specs.Program.{Placed, Program as ModelProgram}
+use Rattle.scheme_model.specs.IncludedUnits.{Placed}
+use Rattle.scheme_model.specs.Program.{Program as ModelProgram}
 use Rattle.scheme_model.specs.Requirements.{LibraryName}
 use Rattle.syntax_tree.specs.declared.trees.Work.{Work}
 use Rattle.syntax_tree.specs.contracts.trees.Work as work

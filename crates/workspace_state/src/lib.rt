@@ -3,6 +3,7 @@
 
 mod events;
 mod expansion;
+mod parts;
 mod reach;
 mod texts;
 mod trial;

@@ -1,22 +1,24 @@
 //! The workspace: the open documents and the program that they are. Each event reads and expands all of them anew.
 ghost use Rattle.std.specs.Prelude.{◌≡◌, ◌+◌, ◌<◌, ◌≤◌, ◌==◌, List, length, map, slice_get, true, false, IfOk, IfSome, OnOk, OnErr};
 ghost use Rattle.std.specs.Option.{option_map};
-ghost use Rattle.std.specs.FinMap.{empty, entries};
+ghost use Rattle.std.specs.FinMap.{empty, entries, keys};
 ghost use Rattle.std.specs.List.Sorted.{IsStrictlySortedBy};
 ghost use Rattle.ls_base.specs.Limits.{max_documents};
 ghost use Rattle.scheme_model.specs.Diagnostics.{bytes_of};
 ghost use Rattle.rename_model.specs.Reach.{in_reach};
 ghost use Rattle.document_store.specs.Texts as store;
 ghost use Rattle.document_units.specs.Listed.{AreFoundOf};
+ghost use Rattle.workspace_state.specs.Parts.{is_part_at, meant_by};
 ghost use Rattle.workspace_state.specs.ProgramOfTexts.{IsProgramOfTexts};
-ghost use Rattle.document_units.specs.Readings.{Read, AreReadAs, first_unread, program_in};
+ghost use Rattle.workspace_state.specs.State.{ArePartsOf};
+ghost use Rattle.document_units.specs.Readings.{Read, AreReadAs, documents_in, first_unread, program_in};
 ghost use Rattle.core_tree.specs.Units.{IsProgramOf};
 ghost use Rattle.program_leaves.specs.Formed.{AreFormedIn};
 ghost use Rattle.program_leaves.specs.Pairs.{pair_cmp};
 ghost use Rattle.program_answers.specs.AskedOf.{IsSource};
 ghost use Rattle.workspace_state.specs.Indexed.{index_in};
 ghost use Rattle.program_answers.specs.Classed.{IsClassAt, standard_for};
-ghost use Rattle.program_answers.specs.ToldAnswers.{answer_of, facts_in, name_there, query_of};
+ghost use Rattle.program_answers.specs.ToldAnswers.{answer_of, facts_in, name_there, number_of, query_of};
 ghost use Rattle.program_answers.specs.Placed.{IsErrorAt, IsIn, IsPlace, form_bytes};
 ghost use Rattle.document_units.specs.Places.{spans_of};
 ghost use Rattle.document_units.specs.UnitFindings.{first_error_at};
@@ -29,6 +31,7 @@ ghost use Rattle.program_expansion.specs.UsesInTurn.{uses_in};
 
 use crate::events::{DocEvent, Updated};
 use crate::expansion::{Expansion, Indexed};
+use crate::parts::{is_marked, meant_uri, parts_of};
 use crate::reach::units_in_reach;
 use crate::texts::{After, after_event};
 use crate::trial::{Trial, edited_store};
@@ -50,7 +53,8 @@ use std::marker::Model;
 use std::sync::ledger::Ledger;
 use syntax_tree::trees::Work;
 
-/// The open documents, the program that they are with the trees that it is over, their diagnostics, and the encoding of positions.
+/// The open documents, the program that they are with the trees that it is over, their diagnostics, which of them are parts of others,
+/// and the encoding of positions.
 /// Contracts see the encoding, the texts and the program; the program and the diagnostics are those of the texts.
 #[derive(Drop)]
 pub struct Workspace {
@@ -59,6 +63,7 @@ pub struct Workspace {
     texts: Open,
     expansion: Expansion,
     lists: Lists,
+    parts: Vec<bool>,
 }
 
 impl Model for Workspace {
@@ -71,7 +76,7 @@ impl Model for Workspace {
 
     ghost view = { λ w. record { encoding = w.encoding; texts = w.texts; expansion = w.expansion } };
 
-    ghost invariant = { λ w. BelongTo w.encoding w.texts w.expansion (entries_shown w.lists) };
+    ghost invariant = { λ w. BelongTo w.encoding w.texts w.expansion (entries_shown w.lists) w.parts.items };
 }
 
 impl Workspace {
@@ -86,6 +91,7 @@ impl Workspace {
             texts: Open::new(alloc),
             expansion: Expansion::new(alloc),
             lists: BTreeMap::new(alloc),
+            parts: Vec::new(alloc),
         })
     }
 
@@ -142,10 +148,13 @@ impl Workspace {
         let (texts, told) = read;
         let now = lists(alloc, &texts, told.findings.as_slice(), encoding)?;
         let lists = published(alloc, event.uri(), texts.documents(), &self.lists, &now)?;
-        let Told { expansion, .. } = told;
+        let Told {
+            expansion, parts, ..
+        } = told;
         self.texts = texts;
         self.expansion = expansion;
         self.lists = now;
+        self.parts = parts;
         Ok(Updated { refused, lists })
     }
 
@@ -168,6 +177,22 @@ impl Workspace {
         ensures { (rs : List Read) → AreReadAs (entries self.now.texts) rs → option_map (λ uri. uri.now) result ≡ first_unread (entries self.now.texts) rs }
     {
         self.texts.unreadable()
+    }
+
+    /// Whether a document is a part of others: whether it is open, another open one names it in a list that includes, and it isn't on
+    /// a circle of documents that name one another.
+    pub fn is_part(&self, uri: &str) -> bool
+        ensures { (rs : List Read) → AreReadAs (entries self.now.texts) rs → result ≡ is_part_at (documents_in rs) (number_of (entries self.now.texts) uri.now) }
+    {
+        is_marked(self.parts.as_slice(), self.texts.number_of(uri))
+    }
+
+    /// The uri of the document that a string means in an open document. `None` where it means none, or the document isn't open.
+    pub fn meant(&self, uri: &str, string: &str) -> Mem<Option<Text>>
+        ensures { IfOk result (λ meant. meant ≡ meant_by (keys self.now.texts) (number_of (entries self.now.texts) uri.now) string.now) }
+    {
+        let place = self.texts.number_of(uri);
+        Ok(meant_uri(self.alloc, self.texts.documents(), place, string)?)
     }
 
     /// The units of all documents.
@@ -334,11 +359,12 @@ impl Workspace {
     }
 }
 
-/// What is told of documents: their program with the trees that it is over, and their findings.
+/// What is told of documents: their program with the trees that it is over, their findings, and which are parts of others.
 #[derive(Drop)]
 struct Told {
     expansion: Expansion,
     findings: Vec<Sorted>,
+    parts: Vec<bool>,
 }
 
 /// Reads all documents and expands their units.
@@ -348,6 +374,7 @@ fn read_all<L: Ledger>(alloc: Global, store: Store, steps: &mut Steps<L>) -> Mem
     ensures few { IfOk result (λ read. length (entries store) ≤ max_documents) }
     ensures program { IfOk result (λ read. IsProgramOfTexts store read.1.expansion.work read.1.expansion.program) }
     ensures found { (rs : List Read) → AreReadAs (entries store) rs → IfOk result (λ read. AreFoundOf rs read.1.findings.items) }
+    ensures parts { IfOk result (λ read. ArePartsOf store read.1.parts.items) }
     ensures steps { (rs : List Read) → AreReadAs (entries store) rs → OnOk result (steps.new ≡ steps.old + uses_in rs) }
 {
     let mut work = Work::new(alloc);
@@ -359,12 +386,14 @@ fn read_all<L: Ledger>(alloc: Global, store: Store, steps: &mut Steps<L>) -> Mem
         findings,
         errors,
     } = reading;
+    let parts = parts_of(alloc, documents.as_slice())?;
     let texts = Open::of(store, documents, heads, errors);
     Ok((
         texts,
         Told {
             expansion: Expansion::of(work, program),
             findings,
+            parts,
         },
     ))
 }

@@ -51,7 +51,7 @@ loop-place-init g c =
       up = λ spelled us known order many finds knows goes heads sources.
           record { knows = knows; goes = goes; come = subst (λ (xs : List (Option Expanded)). HaveCome us scoped_before c.args.bench.now.work xs) (sym is) (none_come us scoped_before refl c.args.bench.now.work c.len.result); heads = heads; sources = sources; count = ap (λ (xs : List (Option Expanded)). length xs) is ∙ (length-replicate c.len.result none ∙ (c.len.ensures ∙ many)) };
       steps = λ spelled us known order many finds knows goes heads sources. none_more c.args.steps.now;
-      finds = λ spelled us known order many finds knows goes heads sources reads ends are tokens results. λ n e r at there. none_some r there;
+      finds = λ spelled us known order many finds knows goes heads sources reads ends are tokens results lost. λ n e r at there. none_some r there;
       new = λ k u le at. c.requires.new u (in_at c.args.order.now k u at);
     }
 
@@ -104,12 +104,12 @@ loop-place-preserved g c =
           let was = c.loop-place.invariant.steps spelled us known order many finds knows goes heads sources in
           let whole = ap (uses_at us known) (take_more c.args.order.now i 0 lt) in
           omega (arith, one, was, whole);
-      finds = λ spelled us known order many finds knows goes heads sources reads ends are tokens results.
+      finds = λ spelled us known order many finds knows goes heads sources reads ends are tokens results lost.
           subst (λ (done : List ℕ). HaveFound reads ends (scoped_at us known done) c.expand_at.new.all.items) (sym (take_more c.args.order.now i 0 lt))
           (c.in_ok-expand_at.ensures.finds spelled us known (take i c.args.order.now) (drop (suc i) c.args.order.now) (sym order ∙ split_at c.args.order.now i 0 lt) finds
           (c.loop-place.invariant.up spelled us known order many finds knows goes heads sources) reads ends
-          (heads_kept reads 0 c.args.units.now.heads.items c.loop-place.units.heads.items ends c.loop-place.invariant.heads are) tokens results
-          (c.loop-place.invariant.finds spelled us known order many finds knows goes heads sources reads ends are tokens results));
+          (heads_kept reads 0 c.args.units.now.heads.items c.loop-place.units.heads.items ends c.loop-place.invariant.heads are) tokens results lost
+          (c.loop-place.invariant.finds spelled us known order many finds knows goes heads sources reads ends are tokens results lost));
       new = later_hold c.args.order.now c.requires.order.once (IsNew c.loop-place.bench.scope) (IsNew c.expand_at.new.bench.scope) i p at c.in_ok-expand_at.ensures.others c.loop-place.invariant.new;
     }
 
@@ -124,9 +124,9 @@ returns-clause-steps g c = λ spelled us known order many finds knows goes heads
     ∙ ap (λ (done : List ℕ). c.args.steps.now + uses_at us known done) (take_all c.loop-place.place-index c.args.order.now (omega arith) ∙ order)
 
 pub returns-clause-finds : goal.returns-clause-finds
-returns-clause-finds g c = λ spelled us known order many finds knows goes heads sources reads ends are tokens results.
+returns-clause-finds g c = λ spelled us known order many finds knows goes heads sources reads ends are tokens results lost.
     subst (λ (done : List ℕ). HaveFound reads ends (scoped_at us known done) c.loop-place.all.items) (take_all c.loop-place.place-index c.args.order.now (omega arith) ∙ order)
-    (c.loop-place.invariant.finds spelled us known order many finds knows goes heads sources reads ends are tokens results)
+    (c.loop-place.invariant.finds spelled us known order many finds knows goes heads sources reads ends are tokens results lost)
 
 pub returns-clause-grows : goal.returns-clause-grows
 returns-clause-grows g c = c.loop-place.invariant.grows

@@ -1,5 +1,6 @@
 use Rattle.std.proofs.Common.{◌≡◌, ℕ, ◌+◌, ◌≤◌, List, length, take, vec_len, slice_get, Some}
-use Rattle.scheme_model.specs.Program.{Placed, UnitResult}
+use Rattle.scheme_model.specs.IncludedUnits.{Placed}
+use Rattle.scheme_model.specs.Program.{UnitResult}
 use Rattle.scheme_model.specs.Requirements.{Known, LibraryName}
 use Rattle.scheme_model.specs.ScopedProgram.{scoped_before}
 use Rattle.feature_requirements.specs.Judged.{Knows}
@@ -15,7 +16,7 @@ use Rattle.document_units.specs.Places.{AreHeads, HeadsStay, NamesKept, HaveToke
 use Rattle.document_units.specs.Readings.{Read}
 use Rattle.program_expansion.specs.UnitsExpanded.{AreAllFound}
 use Rattle.program_expansion.specs.UsesInTurn.{uses_at}
-use Rattle.program_expansion.specs.UnitsFound.{AreResultsOf, HaveFound}
+use Rattle.program_expansion.specs.UnitsFound.{AreLostIn, AreResultsOf, HaveFound}
 use Rattle.program_expansion.proofs.expanding.expand_all.Given as goal
 
 -- the units so far came to something, and those to come are still to be begun
@@ -36,7 +37,7 @@ invariant-loop-place g l = record {
   steps : (spelled : LibraryName → List ℕ) (us : List Placed) (known : Known) → l.order ≡ turns us → vec_len l.fn.units.heads ≡ length us → FindsLibraries spelled us l.firsts → Knows l.fn.bench.scope.libraries known → GoesOn l.fn.bench scoped_before → HeadsBy us scoped_before l.fn.units.heads.items →
       AreSourcesOf spelled us l.fn.units.sources.items → l.steps ≡ l.fn.steps + uses_at us known (take l.place-index l.order);
   finds : (spelled : LibraryName → List ℕ) (us : List Placed) (known : Known) → l.order ≡ turns us → vec_len l.fn.units.heads ≡ length us → FindsLibraries spelled us l.firsts → Knows l.fn.bench.scope.libraries known → GoesOn l.fn.bench scoped_before → HeadsBy us scoped_before l.fn.units.heads.items →
-      AreSourcesOf spelled us l.fn.units.sources.items → (reads : List Read) (ends : List UnitResult) → AreHeads reads 0 l.fn.units.heads.items ends → HaveTokens l.documents reads → AreResultsOf us ends →
+      AreSourcesOf spelled us l.fn.units.sources.items → (reads : List Read) (ends : List UnitResult) → AreHeads reads 0 l.fn.units.heads.items ends → HaveTokens l.documents reads → AreResultsOf us ends → AreLostIn (length l.documents) us →
       HaveFound reads ends (scoped_at us known (take l.place-index l.order)) l.all.items;
   new : (k u : ℕ) → l.place-index ≤ k → slice_get l.order k ≡ Some u → IsNew l.bench.scope u;
 }

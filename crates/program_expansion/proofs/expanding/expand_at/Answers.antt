@@ -187,7 +187,7 @@ returns-clause-steps g c = λ spelled us known x y order finds up.
     let more = expanded_uses spelled us known x y n order b c.args.units.now es up h at whole in let here = expands.steps in omega (arith, more, here)
 
 pub returns-clause-finds : goal.returns-clause-finds
-returns-clause-finds g c = λ spelled us known x y order finds up reads ends heads tokens results found.
+returns-clause-finds g c = λ spelled us known x y order finds up reads ends heads tokens results lost found.
     let b = c.args.bench.now in
     let mid = c.given_to.new.work in
     let now = c.expand_unit.new.bench in
@@ -223,11 +223,11 @@ returns-clause-finds g c = λ spelled us known x y order finds up reads ends hea
       told = c.in_ok-given.ensures.told spelled us gp.results libraries p (record { kind = source.kind; forms = source.forms; specs = source.imports refl }) reads ends places;
       errors = c.in_ok-given.ensures.errors spelled us gp.results libraries p (record { kind = source.kind; forms = source.forms; specs = source.imports refl }) source.forms refl;
     } in
-    let mine = c.in_ok-came.ensures.finds spelled known gp p (unit_entries us gp.results p) up.knows goes refl source given reads ends result.0 places result.1 result.2 told in
+    let mine = c.in_ok-came.ensures.finds spelled known gp p (unit_entries us gp.results p) up.knows goes refl source given reads ends result.0 places result.1 result.2 told (lost n turn.unit turn.there) in
     expanded_found spelled us known x y n order b c.args.units.now es up h at reads ends found whole c.in_ok-came.came mine
 
 pub returns-then-is_some-clause-finds : goal.returns-then-is_some-clause-finds
-returns-then-is_some-clause-finds g c = λ spelled us known x y order finds up reads ends heads tokens results found.
+returns-then-is_some-clause-finds g c = λ spelled us known x y order finds up reads ends heads tokens results lost found.
     let hs = c.args.units.now.heads.items in
     let h = c.index.result.now in
     let at = slice_get_read hs (length hs) c.args.place h refl (omega (arith, c.args.units.now.heads.ok.0, c.requires.place)) c.index.ensures in

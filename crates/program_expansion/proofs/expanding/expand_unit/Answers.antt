@@ -21,6 +21,7 @@ use Rattle.unit_scopes.proofs.ImportLaws.{same_trees}
 use Rattle.unit_scopes.proofs.OutcomeLaws.{grows_on, trees_on}
 use Rattle.form_expansion.specs.Begun.{IsImport}
 use Rattle.program_leaves.specs.Formed.{IsFormed}
+use Rattle.program_expansion.specs.AtWork.{worked_forms}
 use Rattle.program_expansion.specs.UnitResults.{expanded_after, with_unit}
 use Rattle.form_expansion.specs.Forms.{AreFormed, Unfolds}
 use Rattle.program_expansion.specs.UnitsFound.{in_the_end}
@@ -32,6 +33,7 @@ use Rattle.program_expansion.proofs.CameKept.{libraries_kept}
 use Rattle.unit_imports.proofs.MeaningLaws.{entries_kept, mean_kept, names_on}
 use Rattle.program_expansion.proofs.UnitCame.{goes_begun, none_expands, its_forms, some_expands, stands_at}
 use Rattle.program_expansion.proofs.UnitLaws.{imports_given, unit_begun}
+use Rattle.program_expansion.proofs.WorkedForms.{worked_is, worked_read}
 use Rattle.program_expansion.proofs.UnitNumbers.{own_numbers, searched_numbers, with_own}
 use Rattle.program_expansion.proofs.UnitsTurns.{all_mean, formed_on, of_some}
 use Rattle.program_expansion.proofs.expanding.expand_unit.Goals as goal
@@ -54,7 +56,7 @@ expand_forms-requires-clause-begun g c =
     c.told_apart.ensures.idents c.told_apart.ensures.symbols given.1 refl c.in_ok-begin_unit.ensures.trees c.in_ok-begin_unit.ensures.names c.in_ok-begin_unit.ensures.rests c.in_ok-begin_unit.ensures.fresh
 
 pub expand_forms-requires-clause-read : goal.expand_forms-requires-clause-read
-expand_forms-requires-clause-read g c = subst (λ (fs : List UnitForm). WereRead (forms_of fs)) (sym c.as_slice-3.ensures) c.requires.read
+expand_forms-requires-clause-read g c = subst (λ (fs : List UnitForm). WereRead (forms_of fs)) (sym c.at_work.ensures) (worked_read c.args.source.now c.requires.read)
 
 pub finished-requires-clause-exports : goal.finished-requires-clause-exports
 finished-requires-clause-exports g c =
@@ -93,10 +95,9 @@ pub returns-in_ok-came-in-Some-clause-bench : goal.returns-in_ok-came-in-Some-cl
 returns-in_ok-came-in-Some-clause-bench g c =
     bench_in c.expand_forms.new.bench c.finished.new.work c.in_ok-came-in-Some.ensures.trees c.in_ok-came-in-Some.ensures.names c.told_apart-in-Some.ensures.idents c.told_apart-in-Some.ensures.symbols c.in_ok-expanded.ensures.bench
 
-pub refuse-requires : goal.refuse-requires
-refuse-requires g c =
-    let as_many = of_some (λ (cs : List core.UnitForm). length cs ≡ length c.as_slice-3.result.now) c.in_ok-expanded.expanded c.in_ok-expanded.ensures.count c.in-Some.forms c.in-Some.is in
-    ap (λ (fs : List UnitForm). length fs) c.as_slice-in-Some.ensures ∙ (sym (ap (λ (fs : List UnitForm). length fs) c.as_slice-3.ensures) ∙ sym as_many)
+pub all_forms-requires : goal.all_forms-requires
+all_forms-requires g c =
+    of_some (λ (cs : List core.UnitForm). length cs ≡ length c.at_work.result.now) c.in_ok-expanded.expanded c.in_ok-expanded.ensures.count c.in-Some.forms c.in-Some.is ∙ ap (λ (fs : List UnitForm). length fs) c.at_work.ensures
 
 pub finished-requires-clause-forms : goal.finished-requires-clause-forms
 finished-requires-clause-forms g c =
@@ -144,11 +145,11 @@ returns-in-None-clause-expands g c = λ spelled all known gp p imports knows goe
     goes_begun b (record { work = c.begin_unit.new.work; region = b.region; scope = c.begin_unit.new.self }) w c.args.unit c.args.source.now.kind xs es p gp imports.0 goes own source.kind c.in_ok-imports.ensures.trees
     c.in_ok-imports.ensures.names c.told_apart.ensures.idents c.told_apart.ensures.symbols matched are c.requires.once c.in_ok-begin_unit.ensures.rests c.in_ok-begin_unit.ensures.fresh in
     let unfolds = c.in_ok-expanded.ensures.unfolds known begins.layout (scoped_start_of p gp (with_entries p.number imports.0 gp.entry)) p (c.in_ok-begin_unit.ensures.knows known knows) begins.stands own begins.fresh own
-    (source.forms ∙ ap (λ (fs : List UnitForm). forms_of fs) (sym c.as_slice-3.ensures)) in
+    (worked_is p c.args.source.now source.kind source.forms ∙ ap (λ (fs : List UnitForm). forms_of fs) (sym c.at_work.ensures)) in
     none_expands all known c.expand_forms.new.bench gp p imports c.args.steps.now c.expand_forms.new.steps
     (subst (λ (cs : Option (List core.UnitForm)). Unfolds c.expand_forms.new.bench known p (scoped_start_of p gp (with_entries p.number imports.0 gp.entry)) cs) c.in-None.is unfolds)
     (c.in_ok-expanded.ensures.steps known begins.layout (scoped_start_of p gp (with_entries p.number imports.0 gp.entry)) p (c.in_ok-begin_unit.ensures.knows known knows) begins.stands own begins.fresh own
-    (source.forms ∙ ap (λ (fs : List UnitForm). forms_of fs) (sym c.as_slice-3.ensures)))
+    (worked_is p c.args.source.now source.kind source.forms ∙ ap (λ (fs : List UnitForm). forms_of fs) (sym c.at_work.ensures)))
 
 pub returns-in_ok-came-in-Some-clause-expands : goal.returns-in_ok-came-in-Some-clause-expands
 returns-in_ok-came-in-Some-clause-expands g c = λ spelled all known gp p imports knows goes own source libraries are.
@@ -163,33 +164,32 @@ returns-in_ok-came-in-Some-clause-expands g c = λ spelled all known gp p import
     c.in_ok-imports.ensures.names c.told_apart.ensures.idents c.told_apart.ensures.symbols matched are c.requires.once c.in_ok-begin_unit.ensures.rests c.in_ok-begin_unit.ensures.fresh in
     let start = scoped_start_of p gp (with_entries p.number imports.0 gp.entry) in
     let unfolds = c.in_ok-expanded.ensures.unfolds known begins.layout start p (c.in_ok-begin_unit.ensures.knows known knows) begins.stands own begins.fresh own
-    (source.forms ∙ ap (λ (fs : List UnitForm). forms_of fs) (sym c.as_slice-3.ensures)) in
+    (worked_is p c.args.source.now source.kind source.forms ∙ ap (λ (fs : List UnitForm). forms_of fs) (sym c.at_work.ensures)) in
     let mid = c.expand_forms.new.bench in
     let d = c.begin_unit.new.work in
     let forms = c.in-Some.forms in
     let f = its_forms all known mid gp p imports forms (subst (λ (cs : Option (List core.UnitForm)). Unfolds mid known p start cs) c.in-Some.is unfolds) in
     let names = names_on b.work.symbols w.symbols mid.work.symbols c.in_ok-imports.ensures.names (names_on w.symbols d.symbols mid.work.symbols c.in_ok-begin_unit.ensures.names c.in_ok-expanded.ensures.stays.names) in
     let all_forms = c.in_ok-forms-in-Some.forms in
-    let read : p.forms ≡ forms_of c.as_slice-in-Some.result.now = source.forms ∙ ap (λ (fs : List UnitForm). forms_of fs) (sym c.as_slice-in-Some.ensures) in
+    let read = worked_is p c.args.source.now source.kind source.forms in
     let many : length all_forms ≡ length p.forms =
-    c.in_ok-forms-in-Some.ensures.count ∙ of_some (λ (cs : List core.UnitForm). length cs ≡ length c.as_slice-3.result.now) c.in_ok-expanded.expanded c.in_ok-expanded.ensures.count forms c.in-Some.is
-    ∙ (ap (λ (fs : List UnitForm). length fs) c.as_slice-3.ensures ∙ (sym (length-map c.args.source.now.forms form_of) ∙ ap (λ (fs : List ModelForm). length fs) (sym source.forms))) in
+    c.in_ok-forms-in-Some.ensures.count ∙ (sym (length-map c.args.source.now.forms form_of) ∙ ap (λ (fs : List ModelForm). length fs) (sym source.forms)) in
     let gone = expanded_after known gp p imports.0 in
     let came = c.in_ok-came-in-Some.ensures.came spelled all (with_unit gp gone.1) p imports f.formed own source (libraries_kept b.work.symbols mid.work.symbols names c.args.libraries spelled all gp.results libraries)
     (entries_kept b.work.symbols mid.work.symbols names es imports.0 are) many
-    (with_own mid.work c.args.unit p (forms_of c.as_slice-in-Some.result.now) all_forms f.formed own read
+    (with_own mid.work c.args.unit p (forms_of (worked_forms c.args.source.now)) all_forms f.formed own read
     (c.in_ok-forms-in-Some.ensures.stand mid.work f.formed (subst (λ (n : ℕ). FormsStand mid.work n 0 forms f.formed) own f.stand)
-    (own_numbers c.args.unit p (forms_of c.as_slice-in-Some.result.now) f.formed own read (searched_numbers known p start f.formed f.is))))
+    (own_numbers c.args.unit p (forms_of (worked_forms c.args.source.now)) f.formed own read (searched_numbers known p start f.formed f.is))))
     (subst (λ (bs : List (ℕ × Binder)). AreDefinitions mid.work.symbols (reverse bs) (defined_by c.args.unit gone.1.table)) (sym c.in_ok-forms-in-Some.ensures.definitions)
     (subst (λ (n : ℕ). AreDefinitions mid.work.symbols (reverse (definitions_from 0 forms)) (defined_by n gone.1.table)) own f.definitions)) in
     some_expands all known mid gp p imports (record mid { work = c.finished.new.work }) c.in_ok-came-in-Some.came forms
     (stands_at mid c.finished.new.work gone.1 c.in_ok-came-in-Some.ensures.trees c.in_ok-came-in-Some.ensures.names c.told_apart-in-Some.ensures.idents c.told_apart-in-Some.ensures.symbols unfolds.stands) f came
     c.args.steps.now c.expand_forms.new.steps
     (c.in_ok-expanded.ensures.steps known begins.layout start p (c.in_ok-begin_unit.ensures.knows known knows) begins.stands own begins.fresh own
-    (source.forms ∙ ap (λ (fs : List UnitForm). forms_of fs) (sym c.as_slice-3.ensures)))
+    (worked_is p c.args.source.now source.kind source.forms ∙ ap (λ (fs : List UnitForm). forms_of fs) (sym c.at_work.ensures)))
 
 pub returns-in_ok-came-in-Some-clause-finds : goal.returns-in_ok-came-in-Some-clause-finds
-returns-in_ok-came-in-Some-clause-finds g c = λ spelled known gp p imports knows goes own source are reads ends r places at unit_is sets.
+returns-in_ok-came-in-Some-clause-finds g c = λ spelled known gp p imports knows goes own source are reads ends r places at unit_is sets lost.
     let b = c.args.bench.now in
     let w = c.imported.new.work in
     let xs = c.as_slice-2.result.now in
@@ -201,7 +201,7 @@ returns-in_ok-came-in-Some-clause-finds g c = λ spelled known gp p imports know
     c.in_ok-imports.ensures.names c.told_apart.ensures.idents c.told_apart.ensures.symbols matched are c.requires.once c.in_ok-begin_unit.ensures.rests c.in_ok-begin_unit.ensures.fresh in
     let start = scoped_start_of p gp (with_entries p.number imports.0 gp.entry) in
     let unfolds = c.in_ok-expanded.ensures.unfolds known begins.layout start p (c.in_ok-begin_unit.ensures.knows known knows) begins.stands own begins.fresh own
-    (source.forms ∙ ap (λ (fs : List UnitForm). forms_of fs) (sym c.as_slice-3.ensures)) in
+    (worked_is p c.args.source.now source.kind source.forms ∙ ap (λ (fs : List UnitForm). forms_of fs) (sym c.at_work.ensures)) in
     let mid = c.expand_forms.new.bench in
     let d = c.begin_unit.new.work in
     let forms = c.in-Some.forms in
@@ -209,13 +209,13 @@ returns-in_ok-came-in-Some-clause-finds g c = λ spelled known gp p imports know
     let names = names_on b.work.symbols w.symbols mid.work.symbols c.in_ok-imports.ensures.names (names_on w.symbols d.symbols mid.work.symbols c.in_ok-begin_unit.ensures.names c.in_ok-expanded.ensures.stays.names) in
     let gone = expanded_after known gp p imports.0 in
     let came = c.in_ok-came-in-Some.came in
-    let read : p.forms ≡ forms_of c.as_slice-in-Some.result.now = source.forms ∙ ap (λ (fs : List UnitForm). forms_of fs) (sym c.as_slice-in-Some.ensures) in
+    let read = worked_is p c.args.source.now source.kind source.forms in
     let found = c.in_ok-came-in-Some.ensures.finds spelled (with_unit gp gone.1) p imports f.formed own source (entries_kept b.work.symbols mid.work.symbols names es imports.0 are)
-    (with_own mid.work c.args.unit p (forms_of c.as_slice-in-Some.result.now) c.in_ok-forms-in-Some.forms f.formed own read
+    (with_own mid.work c.args.unit p (forms_of (worked_forms c.args.source.now)) c.in_ok-forms-in-Some.forms f.formed own read
     (c.in_ok-forms-in-Some.ensures.stand mid.work f.formed (subst (λ (n : ℕ). FormsStand mid.work n 0 forms f.formed) own f.stand)
-    (own_numbers c.args.unit p (forms_of c.as_slice-in-Some.result.now) f.formed own read (searched_numbers known p start f.formed f.is))))
+    (own_numbers c.args.unit p (forms_of (worked_forms c.args.source.now)) f.formed own read (searched_numbers known p start f.formed f.is))))
     (subst (λ (bs : List (ℕ × Binder)). AreDefinitions mid.work.symbols (reverse bs) (defined_by c.args.unit gone.1.table)) (sym c.in_ok-forms-in-Some.ensures.definitions)
-    (subst (λ (n : ℕ). AreDefinitions mid.work.symbols (reverse (definitions_from 0 forms)) (defined_by n gone.1.table)) own f.definitions)) reads ends r places at unit_is sets in
+    (subst (λ (n : ℕ). AreDefinitions mid.work.symbols (reverse (definitions_from 0 forms)) (defined_by n gone.1.table)) own f.definitions)) reads ends r places at unit_is sets lost in
     subst (λ (o : Option (List Formed)). IsFoundOf reads (in_the_end ends (with_unit gp gone.1)) (unit_result p imports gone.1.table o) came.findings.items) (sym f.is) found
 
 pub returns-in-None-clause-libraries : goal.returns-in-None-clause-libraries

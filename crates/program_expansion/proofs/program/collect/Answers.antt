@@ -162,6 +162,7 @@ loop-place-preserved c =
             kind = c.in_ok-unit.ensures.kind;
             name = c.in_ok-unit.ensures.name;
             imports = c.in_ok-unit.ensures.imports;
+            ranges = c.in_ok-unit.ensures.ranges;
             come =
                 has_come (length s.forms) o e u (of_some (λ (v : Expanded). e ≡ v) o c.in_ok-came.ensures.some) (λ none. subst (λ (k : ℕ). IsNothing k e) many (c.in_ok-came.ensures.none none)) c.in_ok-unit.ensures.has;
           })

@@ -9,15 +9,15 @@ use Rattle.core_tree.specs.Units.{ProgramStands}
 use Rattle.base_library.proofs.StandardTexts as standard
 use Rattle.document_units.specs.Belongs.{AreErrorsIn}
 use Rattle.document_units.specs.UnitFindings.{HaveErrors}
-use Rattle.document_units.specs.DataRead.{AreReadIn, HaveData}
+use Rattle.document_units.specs.DataRead.{AreOpened, AreReadIn}
 use Rattle.document_units.specs.Places.{AreHeadsIn, HaveTokens}
-use Rattle.document_units.specs.Readings.{AreDocuments, AreReadAs, Read, data_in, program_in}
+use Rattle.document_units.specs.Readings.{AreDocuments, AreReadAs, Read, documents_in, program_in}
 use Rattle.document_units.specs.Sound.{IsSound}
 use Rattle.program_expansion.specs.UnitsExpanded.{AreAllFound}
 use Rattle.program_expansion.specs.UnitsFound.{AreTold}
 use Rattle.document_units.specs.declared.documents.Document.{Document}
 use Rattle.program_expansion.proofs.CollectLaws.{program_stands}
-use Rattle.program_expansion.proofs.DocumentsData.{documents_data}
+use Rattle.document_units.proofs.OpenedLaws.{documents_opened}
 use Rattle.document_units.proofs.HeadsKept.{heads_kept}
 use Rattle.program_expansion.proofs.TokensAlike.{have_tokens, uris_are}
 use Rattle.macro_uses.proofs.ProgramUses.{program_counts}
@@ -44,8 +44,8 @@ returns-clause-reading g c =
     let is : r.documents.items ≡ docs = cc (c.in_ok-collect.ensures.documents) in
     let as_many : vec_len c.in_ok-documents.documents ≡ length r.documents.items = omega (arith, ap length is, c.in_ok-documents.documents.ok.0) in
     let written = standard.told in
-    let have : (rs : List Read) → AreReadAs (entries texts) rs → HaveData (map data_in rs) c.as_slice.result.now =
-    λ rs are. subst (λ (ds : List Document). HaveData (map data_in rs) ds) (sym c.as_slice.ensures.value) (documents_data (entries texts) docs rs c.in_ok-documents.ensures.documents are) in
+    let have : (rs : List Read) → AreReadAs (entries texts) rs → AreOpened (documents_in rs) c.as_slice.result.now =
+    λ rs are. subst (λ (ds : List Document). AreOpened (documents_in rs) ds) (sym c.as_slice.ensures.value) (documents_opened (entries texts) docs rs c.in_ok-documents.ensures.documents are) in
     let tokens : (rs : List Read) → AreReadAs (entries texts) rs → HaveTokens docs rs = λ rs are. have_tokens (entries texts) docs rs c.in_ok-documents.ensures.documents are in
     let told : (rs : List Read) → AreReadAs (entries texts) rs → AreTold rs (program_in rs) ws.units.heads.items ws.expanded.items =
     λ rs are. c.in_ok-worked.ensures.told (entries texts) rs (subst (λ (ds : List Document). AreDocuments (entries texts) ds) (sym c.as_slice.ensures.value) c.in_ok-documents.ensures.documents) are in
@@ -64,7 +64,7 @@ returns-clause-reading g c =
       formed = c.in_ok-collect.ensures.formed c.work_on-came.new.bench.work c.in_ok-worked.ensures.formed;
       found = λ rs are. c.in_ok-collect.ensures.found (entries texts) rs c.in_ok-documents.ensures.documents are (tokens rs are) (told rs are);
       program = λ rs are.
-          let ds = map data_in rs in
+          let ds = documents_in rs in
           let us = units_of ds in
           let known = known_in ds in
           let up = c.in_ok-worked.ensures.up ds (have rs are) written.0 written.1 written.2 in
@@ -82,11 +82,11 @@ returns-clause-reading g c =
 
 pub returns-clause-steps : goal.returns-clause-steps
 returns-clause-steps g c = λ rs are.
-    let ds = map data_in rs in
+    let ds = documents_in rs in
     let us = units_of ds in
     let known = known_in ds in
     let written = standard.told in
-    let have : HaveData ds c.as_slice.result.now = subst (λ (xs : List Document). HaveData ds xs) (sym c.as_slice.ensures.value) (documents_data (entries c.args.store.now) c.in_ok-documents.documents.items rs c.in_ok-documents.ensures.documents are) in
+    let have : AreOpened ds c.as_slice.result.now = subst (λ (xs : List Document). AreOpened ds xs) (sym c.as_slice.ensures.value) (documents_opened (entries c.args.store.now) c.in_ok-documents.documents.items rs c.in_ok-documents.ensures.documents are) in
     c.in_ok-worked.ensures.steps ds have written.0 written.1 written.2 ∙ ap (λ (n : ℕ). c.args.steps.now + n) (sym (uses_by_turns us known) ∙ program_counts ds)
 
 pub work_on-came-requires-clause-region : goal.work_on-came-requires-clause-region

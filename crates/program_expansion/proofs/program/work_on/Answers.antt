@@ -1,11 +1,14 @@
 -- The units are those of the documents' data, and those that are expanded are new on the bench.
 use Rattle.std.proofs.Common.{◌≡◌, ℕ, ◌<◌, [], ◌∷◌, List, true, length, map, take, vec_len, sym, ap, ◌∙◌, subst, arith}
 use Rattle.std.specs.FinMap as finite
+use Rattle.std.proofs.lemmas.List.{length-map}
 use Rattle.scheme_model.specs.Prelude.{prelude}
-use Rattle.scheme_model.specs.Program.{Program, is_in, prelude_unit, max_units, known_in, units_of}
+use Rattle.scheme_model.specs.Includes.{Document as ModelDocument, data_of, max_units}
+use Rattle.scheme_model.specs.Program.{Program, is_in, prelude_unit, known_in, units_of}
 use Rattle.scheme_model.specs.ScopedProgram.{scoped_before, scoped_program_of}
 use Rattle.scheme_model.proofs.FramePrograms.{program_law}
 use Rattle.base_library.proofs.StandardTexts as standard
+use Rattle.datum_reader.specs.Views.{data_of as code_data}
 use Rattle.library_table.specs.declared.units.UnitSource.{UnitSource}
 use Rattle.library_table.specs.Named.{place_named}
 use Rattle.library_table.specs.Orders.{ArePlaces}
@@ -14,21 +17,28 @@ use Rattle.unit_scopes.specs.declared.scope.UnitScope.{UnitScope}
 use Rattle.unit_scopes.proofs.PreludeLaws.{prelude_continues}
 use Rattle.program_expansion.specs.UnitResults.{FindsLibraries, GoesOn, HeadsBy}
 use Rattle.document_units.specs.UnitSources.{AreSourcesOf}
+use Rattle.document_units.specs.DataRead.{HaveData}
 use Rattle.document_units.specs.Libraries.{FindsBelow}
 use Rattle.document_units.specs.Places.{AreHeads}
-use Rattle.document_units.specs.Readings.{data_in}
-use Rattle.program_expansion.specs.UnitsFound.{AreTold}
+use Rattle.document_units.specs.Readings.{documents_in}
+use Rattle.program_expansion.specs.UnitsFound.{AreLostIn, AreTold}
 use Rattle.document_units.proofs.JudgedLaws.{unit_found}
 use Rattle.program_expansion.proofs.KnownLaws.{known_listed}
+use Rattle.document_units.specs.declared.documents.Document.{Document}
+use Rattle.program_expansion.proofs.LostStand.{units_lost}
 use Rattle.program_expansion.proofs.ReadUnits.{judged_heads, forgotten_sources}
 use Rattle.program_expansion.proofs.SoundKept.{sound_kept, sound_with}
 use Rattle.document_units.proofs.HeadsKept.{heads_kept}
 use Rattle.program_expansion.proofs.HeadsStand.{heads_stand}
-use Rattle.program_expansion.proofs.DocumentsData.{documents_data}
+use Rattle.document_units.proofs.OpenedLaws.{documents_opened}
 use Rattle.program_expansion.proofs.TokensAlike.{have_tokens}
 use Rattle.program_expansion.proofs.HeadsOf.{heads_of}
 use Rattle.program_expansion.proofs.ToldProgram.{results_are, told_program}
 use Rattle.program_expansion.proofs.program.work_on.Goals as goal
+
+-- strings that mean no text stand in one of the documents that have these data
+lost_within : (ds : List ModelDocument) (cs : List Document) → HaveData ds cs → AreLostIn (length cs) (units_of ds)
+lost_within ds cs have = subst (λ (n : ℕ). AreLostIn n (units_of ds)) (sym (length-map ds data_of) ∙ (ap length have ∙ length-map cs (λ (c : Document). code_data c.items))) (units_lost ds)
 
 pub judge-requires-clause-same : goal.judge-requires-clause-same
 judge-requires-clause-same g c =
@@ -95,7 +105,7 @@ returns-clause-up g c = λ ds have spelled spells written.
     let us = units_of ds in
     let u = c.in_ok-units.units in
     let v = c.judge.new.units in
-    let told = known_listed ds c.in_ok-known.known (c.in_ok-known.ensures ds have) in
+    let told = known_listed ds c.in_ok-known.known (c.in_ok-known.ensures ds have.have) in
     let listed = c.in_ok-units.ensures.listed ds have (c.in_ok-libraries.ensures.knows (known_in ds) told) spelled written in
     let knows = c.know.ensures.knows (known_in ds) (c.in_ok-of.ensures.knows (known_in ds) told) in
     let many : vec_len v.heads ≡ length us = omega (arith, listed.listed.count, c.in_ok-order.ensures.heads.size, u.heads.ok.0, v.heads.ok.0) in
@@ -115,7 +125,7 @@ returns-clause-steps g c = λ ds have spelled spells written.
     let us = units_of ds in
     let u = c.in_ok-units.units in
     let v = c.judge.new.units in
-    let told = known_listed ds c.in_ok-known.known (c.in_ok-known.ensures ds have) in
+    let told = known_listed ds c.in_ok-known.known (c.in_ok-known.ensures ds have.have) in
     let listed = c.in_ok-units.ensures.listed ds have (c.in_ok-libraries.ensures.knows (known_in ds) told) spelled written in
     let knows = c.know.ensures.knows (known_in ds) (c.in_ok-of.ensures.knows (known_in ds) told) in
     let many : vec_len v.heads ≡ length us = omega (arith, listed.listed.count, c.in_ok-order.ensures.heads.size, u.heads.ok.0, v.heads.ok.0) in
@@ -132,8 +142,8 @@ returns-clause-steps g c = λ ds have spelled spells written.
 
 pub returns-clause-told : goal.returns-clause-told
 returns-clause-told g c = λ texts reads documents read.
-    let ds = map data_in reads in
-    let have = documents_data texts c.args.documents.now reads documents read in
+    let ds = documents_in reads in
+    let have = documents_opened texts c.args.documents.now reads documents read in
     let tokens = have_tokens texts c.args.documents.now reads documents read in
     let spelled = standard.told.0 in
     let spells = standard.told.1 in
@@ -141,7 +151,7 @@ returns-clause-told g c = λ texts reads documents read.
     let us = units_of ds in
     let u = c.in_ok-units.units in
     let v = c.judge.new.units in
-    let told = known_listed ds c.in_ok-known.known (c.in_ok-known.ensures ds have) in
+    let told = known_listed ds c.in_ok-known.known (c.in_ok-known.ensures ds have.have) in
     let listed = c.in_ok-units.ensures.listed ds have (c.in_ok-libraries.ensures.knows (known_in ds) told) spelled written in
     let knows = c.know.ensures.knows (known_in ds) (c.in_ok-of.ensures.knows (known_in ds) told) in
     let many : vec_len v.heads ≡ length us = omega (arith, listed.listed.count, c.in_ok-order.ensures.heads.size, u.heads.ok.0, v.heads.ok.0) in
@@ -164,7 +174,7 @@ returns-clause-told g c = λ texts reads documents read.
     let before : AreHeads reads 0 v.heads.items ends = heads_kept reads 0 u.heads.items v.heads.items ends c.in_ok-order.ensures.heads stand in
     let now : AreHeads reads 0 w.heads.items ends = heads_kept reads 0 v.heads.items w.heads.items ends c.in_ok-expanded.ensures.heads before in
     let up = c.in_ok-expanded.ensures.up spelled us known order many finds knows goes heads sources in
-    let found = c.in_ok-expanded.ensures.finds spelled us known order many finds knows goes heads sources reads ends before tokens (results_are us known) in
+    let found = c.in_ok-expanded.ensures.finds spelled us known order many finds knows goes heads sources reads ends before tokens (results_are us known) (lost_within ds c.args.documents.now have.have) in
     subst (λ (p : Program). AreTold reads p w.heads.items es) law (told_program us known reads c.expand_all.new.bench.work w.heads.items es up.come up.heads found now up.count)
 
 pub returns-clause-heads : goal.returns-clause-heads
@@ -172,6 +182,6 @@ returns-clause-heads g c = λ ds have spelled spells written.
     let us = units_of ds in
     let u = c.in_ok-units.units in
     let v = c.judge.new.units in
-    let told = known_listed ds c.in_ok-known.known (c.in_ok-known.ensures ds have) in
+    let told = known_listed ds c.in_ok-known.known (c.in_ok-known.ensures ds have.have) in
     let listed = c.in_ok-units.ensures.listed ds have (c.in_ok-libraries.ensures.knows (known_in ds) told) spelled written in
-    heads_of us u.heads.items v.heads.items c.expand_all.new.units.heads.items listed.told (c.in_ok-order.ensures.judged spelled spells us listed.units listed.listed) c.in_ok-order.ensures.heads c.in_ok-expanded.ensures.heads c.in_ok-expanded.ensures.kept
+    heads_of ds us u.heads.items v.heads.items c.expand_all.new.units.heads.items listed.told (c.in_ok-order.ensures.judged spelled spells us listed.units listed.listed) c.in_ok-order.ensures.heads c.in_ok-expanded.ensures.heads c.in_ok-expanded.ensures.kept

@@ -6,7 +6,7 @@ use Rattle.scheme_tokens.specs.LibraryNames.{library_text}
 use Rattle.syntax_tree.specs.declared.trees.Work.{Work}
 use Rattle.core_tree.specs.Units.{ProgramStands}
 use Rattle.core_tree.specs.declared.units.Program.{Program}
-use Rattle.document_units.specs.Readings.{data_in, program_in}
+use Rattle.document_units.specs.Readings.{documents_in, program_in}
 use Rattle.workspace_state.specs.State.{State}
 use Rattle.program_answers.proofs.TextLists.{some_row}
 use Rattle.workspace_state.proofs.workspace.Workspace.program.Goals as goal
@@ -16,7 +16,7 @@ returns-clause-stands c =
     let texts = c.self.inside.texts in
     let row = some_row (entries texts) in
     let uris = map (λ d. d.0) (entries texts) in
-    let all = units_of (map data_in row.0) in
+    let all = units_of (documents_in row.0) in
     let whole = program_in row.0 in
     let stands = c.self.invariant.program row.0 row.1 in
     let work = ap (λ (s : State). s.expansion.work) c.self.view_is in (

@@ -7,6 +7,7 @@ invariant_of-self g c = record {
   program =
       program_grown c.self.inside.expansion.work c.try_program.new.self.work c.try_program.ensures.trees c.try_program.ensures.names c.self.inside.texts c.self.inside.expansion.program c.try_program.new.self.program c.try_program.ensures.program c.self.invariant.program;
   lists = c.self.invariant.lists;
+  parts = c.self.invariant.parts;
 }
 
 pub invariant_of-self-2 : goal.invariant_of-self-2
@@ -14,6 +15,7 @@ invariant_of-self-2 g c = record {
   program =
       program_grown c.self.inside.expansion.work c.try_program.new.self.work c.try_program.ensures.trees c.try_program.ensures.names c.self.inside.texts c.self.inside.expansion.program c.try_program.new.self.program c.try_program.ensures.program c.self.invariant.program;
   lists = c.self.invariant.lists;
+  parts = c.self.invariant.parts;
 }
 
 pub returns-in_err-program-clause-of_texts : goal.returns-in_err-program-clause-of_texts

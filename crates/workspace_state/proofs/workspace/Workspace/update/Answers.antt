@@ -8,7 +8,7 @@ use Rattle.workspace_state.specs.Events.{event_of, fault_of, uri_of}
 use Rattle.document_units.specs.Listed.{AreFoundOf}
 use Rattle.workspace_state.specs.ProgramOfTexts.{IsProgramOfTexts}
 use Rattle.document_units.specs.Readings.{AreReadAs}
-use Rattle.workspace_state.specs.State.{State, AreListsFor}
+use Rattle.workspace_state.specs.State.{State, AreListsFor, ArePartsOf}
 use Rattle.program_answers.specs.Updates.{ArePublished, OthersStay, Publishes, entries_shown, list_at}
 use Rattle.workspace_state.proofs.LeavesLaws.{left_texts, not_left, is_left_so}
 use Rattle.workspace_state.proofs.NewsTold.{are_keyed, are_news}
@@ -61,6 +61,7 @@ pub invariant_of-self : goal.invariant_of-self
 invariant_of-self g c = record {
   program = subst (λ (t : Texts). IsProgramOfTexts t c.in_ok-read.read.1.expansion.work c.in_ok-read.read.1.expansion.program) (sym c.in_ok-read.ensures.texts) c.in_ok-read.ensures.program;
   lists = λ rs are. c.in_ok-now.ensures.listed rs are (subst (AreFoundOf rs) (sym c.as_slice.ensures.value) (c.in_ok-read.ensures.found rs (subst (λ (t : Texts). AreReadAs (entries t) rs) c.in_ok-read.ensures.texts are)));
+  parts = subst (λ (t : Texts). ArePartsOf t c.in_ok-read.read.1.parts.items) (sym c.in_ok-read.ensures.texts) c.in_ok-read.ensures.parts;
 }
 
 pub returns-clause-published : goal.returns-clause-published
