@@ -16,7 +16,7 @@ use Rattle.scheme_tokens.proofs.Fronts.{byte_count-chars}
 use Rattle.datum_reader.specs.Texts.{IsReading, token_seen}
 use Rattle.datum_reader.specs.WellFormed.{WasRead}
 use Rattle.datum_reader.proofs.ReadParts.{datum_was_read}
-use Rattle.document_units.specs.Readings.{Read, Reads, Stops, IsReadAs, data_in, program_in, spans_in, span_of}
+use Rattle.document_units.specs.Readings.{Read, Reads, Stops, IsReadAs, documents_in, program_in, spans_in, span_of}
 use Rattle.document_units.proofs.RisingParts.{Inner, read_rises}
 use Rattle.program_laws.specs.Turns.{Each}
 use Rattle.text_edits.specs.Edits.{Edit}
@@ -48,12 +48,12 @@ module _ (e : Encoding) (text : List ℕ) where
   -- those of the document with this number
   pub class_back : (k : ℕ) (rs : List Read) (name : Occ → Option (List ℕ)) (r : Read) → length text ≤ max_text → IsUtf8 text → slice_get rs k ≡ Some r → IsReadAs text r →
       EditsBack e text (name_at name (identifiers_of k (program_in rs).units)) (edits_of (name_at name (identifiers_of k (program_in rs).units)) text (spans_in r))
-  class_back k rs name (Stops f) fits utf8 there is = tt
-  class_back k rs name (Reads items spans) fits utf8 there is =
+  class_back k rs name (Stops uri f) fits utf8 there is = tt
+  class_back k rs name (Reads uri items spans) fits utf8 there is =
       let new : ℕ → Option (List ℕ) = name_at name (identifiers_of k (program_in rs).units) in
       let reading : IsReading (chars text) items = is.3 in
-      let document : slice_get (map data_in rs) k ≡ Some (Some items) = slice_get-map data_in rs k ∙ ap (option_map data_in) there in
-      let named = names_identifiers (map data_in rs) k items name document (data_rise text items items 0 fits utf8 reading (λ n. ap (slice_get items) (omega arith))) in
+      let document = document_there (meant (map uri_of rs)) 0 k rs (Reads uri items spans) there in
+      let named = names_identifiers (documents_in rs) k (record { read = Some items; meant = meant (map uri_of rs) (0 + k) }) name document (data_rise text items items 0 fits utf8 reading (λ n. ap (slice_get items) (omega arith))) in
       let told = tokens_of (chars text) items reading in
       let back = edits_back e text new told.0 told.1 (tokens_named new (chars text) items reading named) in
       let same = same_tokens (chars text) is.0 told.0 told.1 is.1 in

@@ -104,11 +104,11 @@ module _ (os ps : List Occ) (same : (o : Occ) → is_member os o ≡ is_member p
       (λ h. let r = any_from f os h in any_in f ps r.0 (member_in r.0 ps (sym (same r.0) ∙ in_member r.0 os r.1)) r.2)
       (λ h. let r = any_from f ps h in any_in f os r.0 (member_in r.0 os (same r.0 ∙ in_member r.0 ps r.1)) r.2)
 
-  holders_same : (us : List UnitResult) → filter (holds_one os) (unit_numbers us) ≡ filter (holds_one ps) (unit_numbers us)
-  holders_same us = same_filter (holds_one os) (holds_one ps) (λ unit. any_same (λ (o : Occ). o.unit == unit)) (unit_numbers us)
+  holders_same : (us : List UnitResult) → filter (holds_one os) us ≡ filter (holds_one ps) us
+  holders_same us = same_filter (holds_one os) (holds_one ps) (λ r. ap (λ b. is_reachable r && b) (any_same (one_holds r.unit.number 0 r.unit.forms))) us
 
   pub reach_same : (us : List UnitResult) → in_reach us os ≡ in_reach us ps
-  reach_same us = ap (λ ns. filter (λ n. is_in n (reaching us (length us) ns)) (unit_numbers us)) (holders_same us)
+  reach_same us = ap (reach_of us) (holders_same us)
 
   -- ---- differences, by members
 
