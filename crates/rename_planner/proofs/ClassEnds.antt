@@ -1,7 +1,5 @@
 -- The edits of the identifiers of a document, told at positions, are for the bytes that they were made for.
 use Rattle.std.proofs.Common.{◌≡◌, ◌≤◌, ◌+◌, ℕ, zero, suc, List, [], ◌∷◌, map, length, Option, Some, None, refl, sym, ap, ◌∙◌, subst, slice_get, arith}
-use Rattle.std.proofs.lemmas.Option.{slice_get-map}
-use Rattle.std.specs.Option.{option_map}
 use Rattle.std.specs.Str.{chars, IsUtf8}
 use Rattle.ls_base.specs.Limits.{max_text}
 use Rattle.ls_base.specs.Positions.{offset_of}
@@ -11,12 +9,13 @@ use Rattle.scheme_model.specs.declared.Occ.{Occ}
 use Rattle.scheme_model.specs.Data.{Datum}
 use Rattle.scheme_model.specs.Diagnostics.{Span}
 use Rattle.scheme_model.specs.Kinds.{Token}
-use Rattle.scheme_model.specs.Program.{Document}
+use Rattle.scheme_model.specs.Includes.{Document}
 use Rattle.scheme_tokens.proofs.Fronts.{byte_count-chars}
 use Rattle.datum_reader.specs.Texts.{IsReading, token_seen}
 use Rattle.datum_reader.specs.WellFormed.{WasRead}
 use Rattle.datum_reader.proofs.ReadParts.{datum_was_read}
-use Rattle.document_units.specs.Readings.{Read, Reads, Stops, IsReadAs, documents_in, program_in, spans_in, span_of}
+use Rattle.included_documents.specs.Meant.{meant}
+use Rattle.document_units.specs.Readings.{Read, Reads, Stops, IsReadAs, data_in, documents_from, documents_in, program_in, spans_in, span_of, uri_of}
 use Rattle.document_units.proofs.RisingParts.{Inner, read_rises}
 use Rattle.program_laws.specs.Turns.{Each}
 use Rattle.text_edits.specs.Edits.{Edit}
@@ -27,6 +26,17 @@ use Rattle.text_edits.proofs.NameLaws.{same_tokens, tokens_named}
 use Rattle.text_edits.proofs.ReadLaws.{tokens_of}
 use Rattle.rename_planner.proofs.NameEnds.{EditsBack, edits_back}
 use Rattle.rename_planner.proofs.NamedTokens.{names_identifiers}
+
+-- a document by how it is read
+document_there : (means : ℕ → List ℕ → Option ℕ) (n k : ℕ) (rs : List Read) (r : Read) → slice_get rs k ≡ Some r → slice_get (documents_from means n rs) k ≡ Some (record { read = data_in r; meant = means (n + k) })
+document_there means n k [] r h = absurd cc
+document_there means n zero (q ∷ rs) r h =
+    let same : q ≡ r = cc in
+    let here : n ≡ n + 0 = omega arith in
+    λ j. Some (record { read = data_in (same j); meant = means (here j) })
+document_there means n (suc k) (q ∷ rs) r h =
+    let here : suc n + k ≡ n + suc k = omega arith in
+    document_there means (suc n) k rs r h ∙ ap (λ i. Some (record { read = data_in r; meant = means i })) here
 
 -- the data of a text rise
 data_rise : (text : List ℕ) (all ds : List Datum) (i : ℕ) → length text ≤ max_text → IsUtf8 text → IsReading (chars text) all → ((n : ℕ) → slice_get all (i + n) ≡ slice_get ds n) → Each Inner ds

@@ -1,14 +1,16 @@
 -- The occurrences that a class has parts for are its members that have a prefix, and what is told by its members is told by them.
 use Rattle.std.proofs.Common.{◌≡◌, ◌⊎◌, inl, inr, ◌↔◌, ℕ, zero, suc, ◌==◌, List, [], ◌∷◌, ◌++◌, map, filter, length, Bool, true, false, Option, Some, None, cond, refl, sym, ap, ◌∙◌, subst, arith}
-use Rattle.std.specs.Prelude.{nat_lt, ◌||◌}
+use Rattle.std.specs.Prelude.{nat_lt, ◌||◌, ◌&&◌}
 use Rattle.std.specs.List.{Contains, list_any}
 use Rattle.std.proofs.lemmas.Bool.{lt-ltb, or_cases}
 use Rattle.scheme_model.specs.declared.Occ.{Occ}
 use Rattle.scheme_model.specs.Entries.{same_occ}
-use Rattle.scheme_model.specs.Program.{Placed, Program, UnitResult, is_in}
+use Rattle.scheme_model.specs.Declarations.{one_holds}
+use Rattle.scheme_model.specs.IncludedUnits.{Placed}
+use Rattle.scheme_model.specs.Program.{Program, UnitResult}
 use Rattle.scheme_model.specs.Spelling.{Link, is_member, class_of, prefixes_of}
 use Rattle.rename_model.specs.Difference.{Apart, Difference, Kind, Side, difference, first_among, first_difference, is_renamed, kind_of, option_difference, side_of, binders_of, use_kind}
-use Rattle.rename_model.specs.Reach.{holds_one, in_reach, reaching, unit_numbers}
+use Rattle.rename_model.specs.Reach.{holds_one, in_reach, is_reachable, reach_of}
 use Rattle.rename_model.specs.SameProgram.{ExportChange, Plan, live_in, stretches}
 use Rattle.rename_model.specs.Walks.{Spot, AtUse, AtQuoted, AtRule, AtTemplate, AtExport, AtErrors, AtShape}
 use Rattle.program_leaves.specs.Members.{IsIn}
