@@ -160,7 +160,7 @@ module _ (P : ℕ → Type 0) where
   own_held m (d ∷ ds) h = (λ e. h.0, own_held m ds h.1)
 
   module _ (o : Sources) (known : Known) (all : Naming) where
-    t : Texts
+    abbrev t : Texts
     t = all_texts o
 
     libraries_held : (m : ℕ) (ds : List Datum) → Each Held ds → Each SourceHeld (libraries_in t known m ds)
