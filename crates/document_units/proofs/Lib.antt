@@ -12,6 +12,7 @@ pub mod UnreadLaws  -- The first document that doesn't read, by the faults that 
 pub mod SoundLaws  -- Units stay sound as they are listed
 pub mod OneIfSame  -- An export that isn't renamed has one identifier
 pub mod RisingParts  -- The parts of what was read stand one behind the other, and of two neighbours one at most is implied by a mark
+pub mod ListedForms  -- What holds of data with their homes, and of all that stands in them, holds of each form that they give
 pub mod ReadForms  -- The forms of units were read, where the data of all documents were, also those that are declarations, and those of included texts
 pub mod RenamedLaws  -- An export stands under another name where its two identifiers stand at two places, as they were read from two tokens
 pub mod ExportsRead  -- Exports that are read are those of the definition

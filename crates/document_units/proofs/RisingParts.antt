@@ -197,7 +197,7 @@ mutual
 -- ---- parts of data
 
 mutual
-  in_rises : (d e : Datum) → IsIn d e → Inner e → Inner d
+  pub in_rises : (d e : Datum) → IsIn d e → Inner e → Inner d
   in_rises d (atom p a) h q = subst Inner (sym h) q
   in_rises d (list p ds) (inl h) q = subst Inner (sym h) q
   in_rises d (list p ds) (inr h) q = among_rises d p.first ds h q

@@ -12,6 +12,7 @@ use Rattle.scheme_model.specs.Kinds as k
 use Rattle.scheme_model.specs.Prelude.{prelude}
 use Rattle.scheme_model.specs.StandardLibraries.{standard_libraries}
 use Rattle.scheme_model.specs.StandardNames.{base_names}
+use Rattle.included_documents.specs.Meant.{meant}
 use Rattle.document_store.specs.Texts.{Document}
 use Rattle.document_units.specs.Listed.{lists_of}
 use Rattle.document_units.specs.Readings.{Read, Reads}
@@ -49,15 +50,15 @@ read_among [] text = None
 read_among (e ∷ es) text = cond (bytes_eq e.0 text) (Some e.1) (read_among es text)
 
 abbrev reader : List (List ℕ × Reading) → Option (List ℕ) → Reader
-reader readings symbol = record { read = read_among readings; symbol = λ name. symbol }
+reader readings symbol = record { read = read_among readings; symbol = λ name. symbol; meant = meant }
 
 -- ---- check
 
-keyword_redefined : printed_of (((codes "b.scm"), (pos 0, (codes "(begin (define begin list))"))) ∷ []) (Reads (((g.list (p 0 7 0 27) (g.part (g.atom (p 1 1 1 6) (g.spelled (k.Name (codes "begin") false))) (g.part (g.list (p 2 6 7 26) (g.part (g.atom (p 3 3 8 14) (g.spelled (k.Name (codes "define") false))) (g.part (g.atom (p 4 4 15 20) (g.spelled (k.Name (codes "begin") false))) (g.part (g.atom (p 5 5 21 25) (g.spelled (k.Name (codes "list") false))) g.none)))) g.none)))) ∷ []) ((s 0 1) ∷ (s 1 6) ∷ (s 7 8) ∷ (s 8 14) ∷ (s 15 20) ∷ (s 21 25) ∷ (s 25 26) ∷ (s 26 27) ∷ []) ∷ []) ≡ checked ((codes "b.scm:0:0: warning 104 no import, (scheme base) is used\nb.scm:0:15: error 41 keyword redefined begin\n")) true
+keyword_redefined : printed_of (((codes "b.scm"), (pos 0, (codes "(begin (define begin list))"))) ∷ []) (Reads (codes "b.scm") (((g.list (p 0 7 0 27) (g.part (g.atom (p 1 1 1 6) (g.spelled (k.Name (codes "begin") false))) (g.part (g.list (p 2 6 7 26) (g.part (g.atom (p 3 3 8 14) (g.spelled (k.Name (codes "define") false))) (g.part (g.atom (p 4 4 15 20) (g.spelled (k.Name (codes "begin") false))) (g.part (g.atom (p 5 5 21 25) (g.spelled (k.Name (codes "list") false))) g.none)))) g.none)))) ∷ []) ((s 0 1) ∷ (s 1 6) ∷ (s 7 8) ∷ (s 8 14) ∷ (s 15 20) ∷ (s 21 25) ∷ (s 25 26) ∷ (s 26 27) ∷ []) ∷ []) ≡ checked ((codes "b.scm:0:0: warning 104 no import, (scheme base) is used\nb.scm:0:15: error 41 keyword redefined begin\n")) true
 unfolding base_names standard_libraries prelude encode_utf8 chars digits
 keyword_redefined = refl
 
-import_hidden : printed_of (((codes "g.scm"), (pos 0, (codes "(import (scheme base))\n(define (f) (g))\n(define (square x) (* x x))\n(f)\n(define (g) (square 2))"))) ∷ []) (Reads (((g.list (p 0 6 0 22) (g.part (g.atom (p 1 1 1 7) (g.spelled (k.Name (codes "import") false))) (g.part (g.list (p 2 5 8 21) (g.part (g.atom (p 3 3 9 15) (g.spelled (k.Name (codes "scheme") false))) (g.part (g.atom (p 4 4 16 20) (g.spelled (k.Name (codes "base") false))) g.none))) g.none)))) ∷ ((g.list (p 7 15 23 39) (g.part (g.atom (p 8 8 24 30) (g.spelled (k.Name (codes "define") false))) (g.part (g.list (p 9 11 31 34) (g.part (g.atom (p 10 10 32 33) (g.spelled (k.Name (codes "f") false))) g.none)) (g.part (g.list (p 12 14 35 38) (g.part (g.atom (p 13 13 36 37) (g.spelled (k.Name (codes "g") false))) g.none)) g.none))))) ∷ ((g.list (p 16 27 40 67) (g.part (g.atom (p 17 17 41 47) (g.spelled (k.Name (codes "define") false))) (g.part (g.list (p 18 21 48 58) (g.part (g.atom (p 19 19 49 55) (g.spelled (k.Name (codes "square") false))) (g.part (g.atom (p 20 20 56 57) (g.spelled (k.Name (codes "x") false))) g.none))) (g.part (g.list (p 22 26 59 66) (g.part (g.atom (p 23 23 60 61) (g.spelled (k.Name (codes "*") false))) (g.part (g.atom (p 24 24 62 63) (g.spelled (k.Name (codes "x") false))) (g.part (g.atom (p 25 25 64 65) (g.spelled (k.Name (codes "x") false))) g.none)))) g.none))))) ∷ ((g.list (p 28 30 68 71) (g.part (g.atom (p 29 29 69 70) (g.spelled (k.Name (codes "f") false))) g.none))) ∷ ((g.list (p 31 40 72 95) (g.part (g.atom (p 32 32 73 79) (g.spelled (k.Name (codes "define") false))) (g.part (g.list (p 33 35 80 83) (g.part (g.atom (p 34 34 81 82) (g.spelled (k.Name (codes "g") false))) g.none)) (g.part (g.list (p 36 39 84 94) (g.part (g.atom (p 37 37 85 91) (g.spelled (k.Name (codes "square") false))) (g.part (g.atom (p 38 38 92 93) (g.spelled (k.Numeral (codes "2")))) g.none))) g.none))))) ∷ []) ((s 0 1) ∷ (s 1 7) ∷ (s 8 9) ∷ (s 9 15) ∷ (s 16 20) ∷ (s 20 21) ∷ (s 21 22) ∷ (s 23 24) ∷ (s 24 30) ∷ (s 31 32) ∷ (s 32 33) ∷ (s 33 34) ∷ (s 35 36) ∷ (s 36 37) ∷ (s 37 38) ∷ (s 38 39) ∷ (s 40 41) ∷ (s 41 47) ∷ (s 48 49) ∷ (s 49 55) ∷ (s 56 57) ∷ (s 57 58) ∷ (s 59 60) ∷ (s 60 61) ∷ (s 62 63) ∷ (s 64 65) ∷ (s 65 66) ∷ (s 66 67) ∷ (s 68 69) ∷ (s 69 70) ∷ (s 70 71) ∷ (s 72 73) ∷ (s 73 79) ∷ (s 80 81) ∷ (s 81 82) ∷ (s 82 83) ∷ (s 84 85) ∷ (s 85 91) ∷ (s 92 93) ∷ (s 93 94) ∷ (s 94 95) ∷ []) ∷ []) ≡ checked ((codes "g.scm:2:9: warning 101 definition hides import square\n")) false
+import_hidden : printed_of (((codes "g.scm"), (pos 0, (codes "(import (scheme base))\n(define (f) (g))\n(define (square x) (* x x))\n(f)\n(define (g) (square 2))"))) ∷ []) (Reads (codes "g.scm") (((g.list (p 0 6 0 22) (g.part (g.atom (p 1 1 1 7) (g.spelled (k.Name (codes "import") false))) (g.part (g.list (p 2 5 8 21) (g.part (g.atom (p 3 3 9 15) (g.spelled (k.Name (codes "scheme") false))) (g.part (g.atom (p 4 4 16 20) (g.spelled (k.Name (codes "base") false))) g.none))) g.none)))) ∷ ((g.list (p 7 15 23 39) (g.part (g.atom (p 8 8 24 30) (g.spelled (k.Name (codes "define") false))) (g.part (g.list (p 9 11 31 34) (g.part (g.atom (p 10 10 32 33) (g.spelled (k.Name (codes "f") false))) g.none)) (g.part (g.list (p 12 14 35 38) (g.part (g.atom (p 13 13 36 37) (g.spelled (k.Name (codes "g") false))) g.none)) g.none))))) ∷ ((g.list (p 16 27 40 67) (g.part (g.atom (p 17 17 41 47) (g.spelled (k.Name (codes "define") false))) (g.part (g.list (p 18 21 48 58) (g.part (g.atom (p 19 19 49 55) (g.spelled (k.Name (codes "square") false))) (g.part (g.atom (p 20 20 56 57) (g.spelled (k.Name (codes "x") false))) g.none))) (g.part (g.list (p 22 26 59 66) (g.part (g.atom (p 23 23 60 61) (g.spelled (k.Name (codes "*") false))) (g.part (g.atom (p 24 24 62 63) (g.spelled (k.Name (codes "x") false))) (g.part (g.atom (p 25 25 64 65) (g.spelled (k.Name (codes "x") false))) g.none)))) g.none))))) ∷ ((g.list (p 28 30 68 71) (g.part (g.atom (p 29 29 69 70) (g.spelled (k.Name (codes "f") false))) g.none))) ∷ ((g.list (p 31 40 72 95) (g.part (g.atom (p 32 32 73 79) (g.spelled (k.Name (codes "define") false))) (g.part (g.list (p 33 35 80 83) (g.part (g.atom (p 34 34 81 82) (g.spelled (k.Name (codes "g") false))) g.none)) (g.part (g.list (p 36 39 84 94) (g.part (g.atom (p 37 37 85 91) (g.spelled (k.Name (codes "square") false))) (g.part (g.atom (p 38 38 92 93) (g.spelled (k.Numeral (codes "2")))) g.none))) g.none))))) ∷ []) ((s 0 1) ∷ (s 1 7) ∷ (s 8 9) ∷ (s 9 15) ∷ (s 16 20) ∷ (s 20 21) ∷ (s 21 22) ∷ (s 23 24) ∷ (s 24 30) ∷ (s 31 32) ∷ (s 32 33) ∷ (s 33 34) ∷ (s 35 36) ∷ (s 36 37) ∷ (s 37 38) ∷ (s 38 39) ∷ (s 40 41) ∷ (s 41 47) ∷ (s 48 49) ∷ (s 49 55) ∷ (s 56 57) ∷ (s 57 58) ∷ (s 59 60) ∷ (s 60 61) ∷ (s 62 63) ∷ (s 64 65) ∷ (s 65 66) ∷ (s 66 67) ∷ (s 68 69) ∷ (s 69 70) ∷ (s 70 71) ∷ (s 72 73) ∷ (s 73 79) ∷ (s 80 81) ∷ (s 81 82) ∷ (s 82 83) ∷ (s 84 85) ∷ (s 85 91) ∷ (s 92 93) ∷ (s 93 94) ∷ (s 94 95) ∷ []) ∷ []) ≡ checked ((codes "g.scm:2:9: warning 101 definition hides import square\n")) false
 unfolding base_names standard_libraries prelude encode_utf8 chars digits
 import_hidden = refl
 

@@ -8,7 +8,8 @@ use Rattle.std.proofs.lemmas.Bool.Decides.{nat_tests}
 use Rattle.scheme_model.specs.declared.Occ.{Occ}
 use Rattle.scheme_model.specs.Entries.{Entry, same_occ}
 use Rattle.scheme_model.specs.Live.{NameUse}
-use Rattle.scheme_model.specs.Program.{Placed, Program, UnitResult, result_at}
+use Rattle.scheme_model.specs.IncludedUnits.{Placed}
+use Rattle.scheme_model.specs.Program.{Program, UnitResult, result_at}
 use Rattle.scheme_model.specs.Requirements.{LibraryName}
 use Rattle.scheme_model.specs.Spelling.{Link, class_of, is_member}
 use Rattle.rename_model.specs.SameProgram.{ExportChange, external_occ}

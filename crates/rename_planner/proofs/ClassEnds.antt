@@ -1,7 +1,5 @@
 -- The edits of the identifiers of a document, told at positions, are for the bytes that they were made for.
 use Rattle.std.proofs.Common.{◌≡◌, ◌≤◌, ◌+◌, ℕ, zero, suc, List, [], ◌∷◌, map, length, Option, Some, None, refl, sym, ap, ◌∙◌, subst, slice_get, arith}
-use Rattle.std.proofs.lemmas.Option.{slice_get-map}
-use Rattle.std.specs.Option.{option_map}
 use Rattle.std.specs.Str.{chars, IsUtf8}
 use Rattle.ls_base.specs.Limits.{max_text}
 use Rattle.ls_base.specs.Positions.{offset_of}
@@ -11,12 +9,13 @@ use Rattle.scheme_model.specs.declared.Occ.{Occ}
 use Rattle.scheme_model.specs.Data.{Datum}
 use Rattle.scheme_model.specs.Diagnostics.{Span}
 use Rattle.scheme_model.specs.Kinds.{Token}
-use Rattle.scheme_model.specs.Program.{Document}
+use Rattle.scheme_model.specs.Includes.{Document}
 use Rattle.scheme_tokens.proofs.Fronts.{byte_count-chars}
 use Rattle.datum_reader.specs.Texts.{IsReading, token_seen}
 use Rattle.datum_reader.specs.WellFormed.{WasRead}
 use Rattle.datum_reader.proofs.ReadParts.{datum_was_read}
-use Rattle.document_units.specs.Readings.{Read, Reads, Stops, IsReadAs, data_in, program_in, spans_in, span_of}
+use Rattle.included_documents.specs.Meant.{meant}
+use Rattle.document_units.specs.Readings.{Read, Reads, Stops, IsReadAs, data_in, documents_from, documents_in, program_in, spans_in, span_of, uri_of}
 use Rattle.document_units.proofs.RisingParts.{Inner, read_rises}
 use Rattle.program_laws.specs.Turns.{Each}
 use Rattle.text_edits.specs.Edits.{Edit}
@@ -27,6 +26,17 @@ use Rattle.text_edits.proofs.NameLaws.{same_tokens, tokens_named}
 use Rattle.text_edits.proofs.ReadLaws.{tokens_of}
 use Rattle.rename_planner.proofs.NameEnds.{EditsBack, edits_back}
 use Rattle.rename_planner.proofs.NamedTokens.{names_identifiers}
+
+-- a document by how it is read
+document_there : (means : ℕ → List ℕ → Option ℕ) (n k : ℕ) (rs : List Read) (r : Read) → slice_get rs k ≡ Some r → slice_get (documents_from means n rs) k ≡ Some (record { read = data_in r; meant = means (n + k) })
+document_there means n k [] r h = absurd cc
+document_there means n zero (q ∷ rs) r h =
+    let same : q ≡ r = cc in
+    let here : n ≡ n + 0 = omega arith in
+    λ j. Some (record { read = data_in (same j); meant = means (here j) })
+document_there means n (suc k) (q ∷ rs) r h =
+    let here : suc n + k ≡ n + suc k = omega arith in
+    document_there means (suc n) k rs r h ∙ ap (λ i. Some (record { read = data_in r; meant = means i })) here
 
 -- the data of a text rise
 data_rise : (text : List ℕ) (all ds : List Datum) (i : ℕ) → length text ≤ max_text → IsUtf8 text → IsReading (chars text) all → ((n : ℕ) → slice_get all (i + n) ≡ slice_get ds n) → Each Inner ds
@@ -48,12 +58,12 @@ module _ (e : Encoding) (text : List ℕ) where
   -- those of the document with this number
   pub class_back : (k : ℕ) (rs : List Read) (name : Occ → Option (List ℕ)) (r : Read) → length text ≤ max_text → IsUtf8 text → slice_get rs k ≡ Some r → IsReadAs text r →
       EditsBack e text (name_at name (identifiers_of k (program_in rs).units)) (edits_of (name_at name (identifiers_of k (program_in rs).units)) text (spans_in r))
-  class_back k rs name (Stops f) fits utf8 there is = tt
-  class_back k rs name (Reads items spans) fits utf8 there is =
+  class_back k rs name (Stops uri f) fits utf8 there is = tt
+  class_back k rs name (Reads uri items spans) fits utf8 there is =
       let new : ℕ → Option (List ℕ) = name_at name (identifiers_of k (program_in rs).units) in
       let reading : IsReading (chars text) items = is.3 in
-      let document : slice_get (map data_in rs) k ≡ Some (Some items) = slice_get-map data_in rs k ∙ ap (option_map data_in) there in
-      let named = names_identifiers (map data_in rs) k items name document (data_rise text items items 0 fits utf8 reading (λ n. ap (slice_get items) (omega arith))) in
+      let document = document_there (meant (map uri_of rs)) 0 k rs (Reads uri items spans) there in
+      let named = names_identifiers (documents_in rs) k (record { read = Some items; meant = meant (map uri_of rs) (0 + k) }) name document (data_rise text items items 0 fits utf8 reading (λ n. ap (slice_get items) (omega arith))) in
       let told = tokens_of (chars text) items reading in
       let back = edits_back e text new told.0 told.1 (tokens_named new (chars text) items reading named) in
       let same = same_tokens (chars text) is.0 told.0 told.1 is.1 in

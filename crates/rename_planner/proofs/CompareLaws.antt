@@ -9,7 +9,7 @@ use Rattle.syntax_tree.specs.declared.trees.Work.{Work}
 use Rattle.core_tree.specs.Units.{ProgramStands}
 use Rattle.core_tree.specs.declared.units.Program.{Program}
 use Rattle.document_store.specs.Texts.{Document, Texts}
-use Rattle.document_units.specs.Readings.{Read, AreReadAs, data_in, program_in}
+use Rattle.document_units.specs.Readings.{Read, AreReadAs, documents_in, program_in}
 use Rattle.program_answers.proofs.TextLists.{some_row}
 use Rattle.program_differences.specs.Both.{AreComparable}
 use Rattle.program_differences.specs.Differences.{AreOne}
@@ -21,12 +21,10 @@ use Rattle.workspace_state.specs.Edited.{edited_documents, edited_texts}
 use Rattle.workspace_state.specs.ProgramOfTexts.{IsProgramOfTexts}
 use Rattle.workspace_state.proofs.EditedLaws.{edited_entries}
 use Rattle.rename_planner.specs.Planning.{ComesTo, Holds}
+use Rattle.rename_planner.specs.ToldRenames.{uris_of}
 use Rattle.rename_planner.specs.declared.faults.RenameFault.TheVariants as faults
 use Rattle.rename_planner.proofs.DistinctLaws.{uris_distinct}
 use Rattle.rename_planner.proofs.TellsLaws.{names_tell}
-
-abbrev pub uris_of : List (List ℕ × Document) → List (List ℕ)
-uris_of ds = map (λ (d : List ℕ × Document). d.0) ds
 
 uris_stay : (e : Encoding) (edits : List DocEdits) (ds : List (List ℕ × Document)) → uris_of (edited_documents e edits ds) ≡ uris_of ds
 uris_stay e edits [] = refl
@@ -37,8 +35,8 @@ pub same_uris : (e : Encoding) (edits : List DocEdits) (texts : Texts) → uris_
 same_uris e edits texts = ap uris_of (edited_entries e edits texts) ∙ uris_stay e edits (entries texts)
 
 pub new_stands : (e : Encoding) (edits : List DocEdits) (texts : Texts) (work : Work) (new : Program) (ts : List Read) → IsProgramOfTexts (edited_texts e edits texts) work new → AreReadAs (entries (edited_texts e edits texts)) ts →
-    ProgramStands work library_text (uris_of (entries texts)) (units_of (map data_in ts)) new (program_in ts)
-new_stands e edits texts work new ts is are = subst (λ us. ProgramStands work library_text us (units_of (map data_in ts)) new (program_in ts)) (same_uris e edits texts) (is ts are)
+    ProgramStands work library_text (uris_of (entries texts)) (units_of (documents_in ts)) new (program_in ts)
+new_stands e edits texts work new ts is are = subst (λ us. ProgramStands work library_text us (units_of (documents_in ts)) new (program_in ts)) (same_uris e edits texts) (is ts are)
 
 pub comparable : (e : Encoding) (edits : List DocEdits) (texts : Texts) (work : Work) (old new : Program) → IsProgramOfTexts texts work old → IsProgramOfTexts (edited_texts e edits texts) work new → AreComparable work old new
 comparable e edits texts work old new was now =
@@ -46,16 +44,16 @@ comparable e edits texts work old new was now =
     let ts = some_row (entries (edited_texts e edits texts)) in record {
       text = library_text;
       uris = uris_of (entries texts);
-      before = units_of (map data_in rs.0);
-      after = units_of (map data_in ts.0);
+      before = units_of (documents_in rs.0);
+      after = units_of (documents_in ts.0);
       p = program_in rs.0;
       q = program_in ts.0;
-      tells = names_tell (map data_in rs.0) (map data_in ts.0);
+      tells = names_tell (documents_in rs.0) (documents_in ts.0);
       distinct = uris_distinct texts;
       old_stands = was rs.0 rs.1;
       new_stands = new_stands e edits texts work new ts.0 now ts.1;
-      old_given = exports_are_given (map data_in rs.0);
-      new_given = exports_are_given (map data_in ts.0);
+      old_given = exports_are_given (documents_in rs.0);
+      new_given = exports_are_given (documents_in ts.0);
     }
 
 -- ---- what is found

@@ -51,8 +51,8 @@ pub unread_one : (n : ℕ) (ds : List (List ℕ × Document)) (rs : List Read) �
 unread_one n [] [] h = tt
 unread_one n [] (r ∷ rs) h = absurd h
 unread_one n (d ∷ ds) [] h = absurd h
-unread_one n (d ∷ ds) (Stops f ∷ rs) h = (0, at_once n, refl)
-unread_one n (d ∷ ds) (Reads es spans ∷ rs) h = later n d ds (read.first_unread ds rs) (first_unread (suc n) (map reading_of rs)) (unread_one (suc n) ds rs h.1)
+unread_one n (d ∷ ds) (Stops uri f ∷ rs) h = (0, at_once n, refl)
+unread_one n (d ∷ ds) (Reads uri es spans ∷ rs) h = later n d ds (read.first_unread ds rs) (first_unread (suc n) (map reading_of rs)) (unread_one (suc n) ds rs h.1)
 
 long_more : (n : ℕ) (d : List ℕ × Document) (ds : List (List ℕ × Document)) (text : List ℕ) (a : Option (List ℕ)) (b : Option ℕ) → IsNumbered (suc n) ds a b →
     IsNumbered n (d ∷ ds) (cond (nat_lt max_text (length text)) (Some d.0) a) (cond (nat_lt max_text (length text)) (Some n) b)
@@ -67,10 +67,10 @@ pub long_one : (w : Opened) (o : Occ) (stem : List ℕ) (n : ℕ) (ds : List (Li
 long_one w o stem n [] [] h = tt
 long_one w o stem n [] (r ∷ rs) h = absurd h
 long_one w o stem n (d ∷ ds) [] h = absurd h
-long_one w o stem n (d ∷ ds) (Reads es spans ∷ rs) h =
+long_one w o stem n (d ∷ ds) (Reads uri es spans ∷ rs) h =
     long_more n d ds (edited (class_edits w.links w.program.units stem o n d.1.1 spans) d.1.1) (code.too_long ds (code.edits_from w.links w.program.units stem o (suc n) ds rs))
     (first_too_long (suc n) (all_edited (edits_from w o stem (suc n) (texts_of ds) (map reading_of rs)) (texts_of ds))) (long_one w o stem (suc n) ds rs h.1)
-long_one w o stem n (d ∷ ds) (Stops f ∷ rs) h =
+long_one w o stem n (d ∷ ds) (Stops uri f ∷ rs) h =
     long_more n d ds (edited (class_edits w.links w.program.units stem o n d.1.1 []) d.1.1) (code.too_long ds (code.edits_from w.links w.program.units stem o (suc n) ds rs))
     (first_too_long (suc n) (all_edited (edits_from w o stem (suc n) (texts_of ds) (map reading_of rs)) (texts_of ds))) (long_one w o stem (suc n) ds rs h.1)
 

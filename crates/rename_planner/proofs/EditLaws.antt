@@ -26,12 +26,12 @@ module _ (e : Encoding) (all : List (List ℕ × Document)) (w : Opened) (o : Oc
   told_from n [] [] h at = refl
   told_from n [] (r ∷ rs) h at = absurd h
   told_from n (d ∷ ds) [] h at = absurd h
-  told_from n (d ∷ ds) (Reads ys spans ∷ rs) h at =
+  told_from n (d ∷ ds) (Reads uri ys spans ∷ rs) h at =
       let here : document_at all n ≡ d = let q : n ≡ n + 0 = omega arith in ap (document_at all) q ∙ at 0 in
       let next : (k : ℕ) → document_at all (suc n + k) ≡ document_at ds k = λ k. let q : suc n + k ≡ n + suc k = omega arith in ap (document_at all) q ∙ at (suc k) in
       one_told n d (class_edits w.links w.program.units stem o n d.1.1 spans) (edits_from w o stem (suc n) (texts_of ds) (map reading_of rs))
       (code.told e ds (code.edits_from w.links w.program.units stem o (suc n) ds rs)) here (told_from (suc n) ds rs h.1 next)
-  told_from n (d ∷ ds) (Stops f ∷ rs) h at =
+  told_from n (d ∷ ds) (Stops uri f ∷ rs) h at =
       let here : document_at all n ≡ d = let q : n ≡ n + 0 = omega arith in ap (document_at all) q ∙ at 0 in
       let next : (k : ℕ) → document_at all (suc n + k) ≡ document_at ds k = λ k. let q : suc n + k ≡ n + suc k = omega arith in ap (document_at all) q ∙ at (suc k) in
       one_told n d (class_edits w.links w.program.units stem o n d.1.1 []) (edits_from w o stem (suc n) (texts_of ds) (map reading_of rs))
@@ -47,8 +47,8 @@ edited_from : (w : Opened) (o : Occ) (stem : List ℕ) (n : ℕ) (ds : List (Lis
 edited_from w o stem n [] [] h = refl
 edited_from w o stem n [] (r ∷ rs) h = absurd h
 edited_from w o stem n (d ∷ ds) [] h = absurd h
-edited_from w o stem n (d ∷ ds) (Reads ys spans ∷ rs) h = ap (λ ts. edited (class_edits w.links w.program.units stem o n d.1.1 spans) d.1.1 ∷ ts) (edited_from w o stem (suc n) ds rs h.1)
-edited_from w o stem n (d ∷ ds) (Stops f ∷ rs) h = ap (λ ts. edited (class_edits w.links w.program.units stem o n d.1.1 []) d.1.1 ∷ ts) (edited_from w o stem (suc n) ds rs h.1)
+edited_from w o stem n (d ∷ ds) (Reads uri ys spans ∷ rs) h = ap (λ ts. edited (class_edits w.links w.program.units stem o n d.1.1 spans) d.1.1 ∷ ts) (edited_from w o stem (suc n) ds rs h.1)
+edited_from w o stem n (d ∷ ds) (Stops uri f ∷ rs) h = ap (λ ts. edited (class_edits w.links w.program.units stem o n d.1.1 []) d.1.1 ∷ ts) (edited_from w o stem (suc n) ds rs h.1)
 
 -- the edited texts are these
 pub edited_same : (ds : List (List ℕ × Document)) (rs : List Read) (o : Occ) (stem : List ℕ) → AreReadAs ds rs → code.all_edited ds (code.edits_of_class ds rs stem o) ≡ edited_in (read_as ds rs) o stem

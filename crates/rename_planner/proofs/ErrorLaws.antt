@@ -7,7 +7,8 @@ use Rattle.std.proofs.lemmas.List.Concat.{flat_map-cons}
 use Rattle.std.proofs.lemmas.Bool.Decides.{nat_tests}
 use Rattle.ls_base.specs.declared.encoding.Encoding.{Encoding}
 use Rattle.scheme_model.specs.Diagnostics.{Bytes, Diagnostic, Span}
-use Rattle.scheme_model.specs.Program.{Placed, Program, UnitResult, result_at}
+use Rattle.scheme_model.specs.IncludedUnits.{Placed}
+use Rattle.scheme_model.specs.Program.{Program, UnitResult, result_at}
 use Rattle.scheme_model.specs.Requirements.{LibraryName}
 use Rattle.syntax_tree.specs.declared.trees.Work.{Work}
 use Rattle.core_tree.specs.Units.{UnitsStand}

@@ -1,14 +1,16 @@
 -- The occurrences that a class has parts for are its members that have a prefix, and what is told by its members is told by them.
 use Rattle.std.proofs.Common.{◌≡◌, ◌⊎◌, inl, inr, ◌↔◌, ℕ, zero, suc, ◌==◌, List, [], ◌∷◌, ◌++◌, map, filter, length, Bool, true, false, Option, Some, None, cond, refl, sym, ap, ◌∙◌, subst, arith}
-use Rattle.std.specs.Prelude.{nat_lt, ◌||◌}
+use Rattle.std.specs.Prelude.{nat_lt, ◌||◌, ◌&&◌}
 use Rattle.std.specs.List.{Contains, list_any}
 use Rattle.std.proofs.lemmas.Bool.{lt-ltb, or_cases}
 use Rattle.scheme_model.specs.declared.Occ.{Occ}
 use Rattle.scheme_model.specs.Entries.{same_occ}
-use Rattle.scheme_model.specs.Program.{Placed, Program, UnitResult, is_in}
+use Rattle.scheme_model.specs.Declarations.{one_holds}
+use Rattle.scheme_model.specs.IncludedUnits.{Placed}
+use Rattle.scheme_model.specs.Program.{Program, UnitResult}
 use Rattle.scheme_model.specs.Spelling.{Link, is_member, class_of, prefixes_of}
 use Rattle.rename_model.specs.Difference.{Apart, Difference, Kind, Side, difference, first_among, first_difference, is_renamed, kind_of, option_difference, side_of, binders_of, use_kind}
-use Rattle.rename_model.specs.Reach.{holds_one, in_reach, reaching, unit_numbers}
+use Rattle.rename_model.specs.Reach.{holds_one, in_reach, is_reachable, reach_of}
 use Rattle.rename_model.specs.SameProgram.{ExportChange, Plan, live_in, stretches}
 use Rattle.rename_model.specs.Walks.{Spot, AtUse, AtQuoted, AtRule, AtTemplate, AtExport, AtErrors, AtShape}
 use Rattle.program_leaves.specs.Members.{IsIn}
@@ -104,11 +106,11 @@ module _ (os ps : List Occ) (same : (o : Occ) → is_member os o ≡ is_member p
       (λ h. let r = any_from f os h in any_in f ps r.0 (member_in r.0 ps (sym (same r.0) ∙ in_member r.0 os r.1)) r.2)
       (λ h. let r = any_from f ps h in any_in f os r.0 (member_in r.0 os (same r.0 ∙ in_member r.0 ps r.1)) r.2)
 
-  holders_same : (us : List UnitResult) → filter (holds_one os) (unit_numbers us) ≡ filter (holds_one ps) (unit_numbers us)
-  holders_same us = same_filter (holds_one os) (holds_one ps) (λ unit. any_same (λ (o : Occ). o.unit == unit)) (unit_numbers us)
+  holders_same : (us : List UnitResult) → filter (holds_one os) us ≡ filter (holds_one ps) us
+  holders_same us = same_filter (holds_one os) (holds_one ps) (λ r. ap (λ b. is_reachable r && b) (any_same (one_holds r.unit.number 0 r.unit.forms))) us
 
   pub reach_same : (us : List UnitResult) → in_reach us os ≡ in_reach us ps
-  reach_same us = ap (λ ns. filter (λ n. is_in n (reaching us (length us) ns)) (unit_numbers us)) (holders_same us)
+  reach_same us = ap (reach_of us) (holders_same us)
 
   -- ---- differences, by members
 

@@ -1,19 +1,25 @@
 -- The identifiers of units are identifiers of the data of their document, so only such get the new names of a class.
 use Rattle.std.proofs.Common.{◌≡◌, ◌⊎◌, ℕ, zero, suc, ◌+◌, ◌-◌, ◌≤◌, ◌==◌, arith, List, [], ◌∷◌, ◌++◌, map, filter, Bool, true, false, not, cond, Option, Some, None, Result, Ok, Err, refl, sym, ap, ◌∙◌, subst, inl, inr, slice_get}
-use Rattle.std.specs.Prelude.{◌&&◌, ◌||◌, codes}
+use Rattle.std.specs.Prelude.{◌||◌, if◌then◌else◌}
+use Rattle.std.specs.Option.{is_some}
 use Rattle.std.specs.List.{flat_map}
 use Rattle.std.proofs.lemmas.Bool.{eqb-true, eq-eqb}
 use Rattle.std.proofs.lemmas.List.{map-append}
 use Rattle.std.proofs.lemmas.List.Concat.{flat_map-cons}
 use Rattle.scheme_model.specs.declared.Occ.{Occ}
+use Rattle.scheme_model.specs.declared.Home.{Home}
 use Rattle.scheme_model.specs.Data.{Place, Atom, Datum, atom, list, vector, bytes, Data, none, part, tail, place_of}
-use Rattle.scheme_model.specs.Declarations.{with_part, proper_parts, symbol_in, symbol_tree, is_headed, UnitForm, plain_form, declared_form, Flat, ◌>>=◌, or_bad, all_export_parts, Clause, later_clauses, picked, chosen_clause, flat_of, some_clauses, both, parts_or, Declared, Exports, Imports, Begins, Chooses, Includes, Undeclared, declared_by, declared_as, declaration, declarations, clauses, clause_of, UnitSource, name_or, no_name, library_with, behind_head, library_of, is_library, libraries_in, is_proper, program_forms, program_in, units_in}
+use Rattle.scheme_model.specs.Declarations.{UnitForm, plain_form, UnitKind, IsLibrary, IsProgram, behind_head, is_library, library_name}
 use Rattle.scheme_model.specs.Diagnostics.{first_token}
-use Rattle.scheme_model.specs.ExpansionFaults.{Fault}
-use Rattle.scheme_model.specs.Program.{Document, Placed, Prepared, UnitResult, data_of, forms_or_none, is_in, known_in, prepare, prepared, program_of, units_from, units_of}
-use Rattle.scheme_model.specs.Requirements.{Known, LibraryName, library_name_of, clause_holds}
+use Rattle.scheme_model.specs.Included.{Homed, FlatForm, Listing, Lists, BadAfter, TooLong, Texts, Sources, inside, homed_from, all_texts, forms_of as model_forms}
+use Rattle.scheme_model.specs.IncludedUnits.{EarlyFault, UnitSource, Placed, unit_form, source_by, unless_circular, own, library_listing, library_of, libraries_in, importing, part_of, program_in, units_in, units_from, max_tokens, sources_within}
+use Rattle.scheme_model.specs.Includes.{Document, Naming, naming, data_of, document_at, program_data, program_number, is_on_circle, is_part}
+use Rattle.scheme_model.specs.Program.{Prepared, UnitResult, forms_or_none, is_in, known_in, prepare, program_of, units_of}
+use Rattle.scheme_model.specs.Requirements.{Known, LibraryName}
 use Rattle.scheme_model.specs.Sites.{is_spelled, name_tokens, name_tokens_all, names_in_form, names_in_forms, or_else}
-use Rattle.document_units.proofs.RisingParts.{Inner, Rise}
+use Rattle.datum_reader.specs.WellFormed.{IsIn, IsAmong}
+use Rattle.document_units.proofs.ListedForms.{AllSuch, FormsSuch, Gives, TextsGive, all_texts_such, library_such, program_such}
+use Rattle.document_units.proofs.RisingParts.{Inner, Rise, in_rises}
 use Rattle.program_laws.specs.Turns.{Each}
 use Rattle.program_laws.proofs.Lists.{each_map, each_both, one_of_two, each_filtered}
 use Rattle.program_laws.proofs.Results.{results_in_order}
@@ -82,6 +88,23 @@ mutual
   all_least low (part d ds) n h i = least_of low (place_of d).first n h.0 (first_least d n h.1.0) (all_least (suc (place_of d).first) ds n h.1.1.1) (in_either n (name_tokens d) (name_tokens_all ds) i)
   all_least low (tail d) n h i = omega (arith, h.0, first_least d n h.1 i)
 
+-- ---- identifiers of what stands in a datum
+
+mutual
+  tokens_in : (e d : Datum) (n : ℕ) → IsIn e d → is_in n (name_tokens e) ≡ true → is_in n (name_tokens d) ≡ true
+  tokens_in e (atom p a) n h i = subst (λ x. is_in n (name_tokens x) ≡ true) h i
+  tokens_in e (list p ds) n (inl h) i = subst (λ x. is_in n (name_tokens x) ≡ true) h i
+  tokens_in e (list p ds) n (inr h) i = tokens_among e ds n h i
+  tokens_in e (vector p ds) n (inl h) i = subst (λ x. is_in n (name_tokens x) ≡ true) h i
+  tokens_in e (vector p ds) n (inr h) i = tokens_among e ds n h i
+  tokens_in e (bytes p texts) n h i = subst (λ x. is_in n (name_tokens x) ≡ true) h i
+
+  tokens_among : (e : Datum) (ds : Data) (n : ℕ) → IsAmong e ds → is_in n (name_tokens e) ≡ true → is_in n (name_tokens_all ds) ≡ true
+  tokens_among e none n h i = absurd h
+  tokens_among e (part d ds) n (inl h) i = in_left n (name_tokens d) (name_tokens_all ds) (tokens_in e d n h i)
+  tokens_among e (part d ds) n (inr h) i = in_right n (name_tokens d) (name_tokens_all ds) (tokens_among e ds n h i)
+  tokens_among e (tail d) n h i = tokens_in e d n h i
+
 -- ---- data of which each identifier is one of these tokens
 
 -- a value of which this holds, or nothing
@@ -89,172 +112,77 @@ abbrev Good : {X Y : Type 0} → (X → Type 0) → Result X Y → Type 0
 Good P (Ok x) = P x
 Good P (Err e) = Unit {0}
 
-then_good : {X Y : Type 0} (P : X → Type 0) (Q : Y → Type 0) (r : Result X Datum) (f : X → Result Y Datum) → Good P r → ((x : X) → P x → Good Q (f x)) → Good Q (r >>= f)
-then_good P Q (Ok x) f h g = g x h
-then_good P Q (Err e) f h g = tt
-
-all_good : {X Y : Type 0} (r : Result X Y) → Good (λ (x : X). Unit {0}) r
-all_good (Ok x) = tt
-all_good (Err e) = tt
-
 module _ (P : ℕ → Type 0) where
   pub record Held (d : Datum) : Type 0 where
     tokens : (n : ℕ) → is_in n (name_tokens d) ≡ true → P n
     inner : Inner d
 
-  abbrev Row : Data → Type 0
-  Row none = Unit {0}
-  Row (part d ds) = Held d × Row ds
-  Row (tail d) = Held d
+  -- what isn't included
+  abbrev OwnHeld : Homed → Type 0
+  OwnHeld h = h.home ≡ None → Held h.datum
 
-  rows : (low : ℕ) (ds : Data) → ((n : ℕ) → is_in n (name_tokens_all ds) ≡ true → P n) → Rise low ds → Row ds
-  rows low none t r = tt
-  rows low (part d ds) t r =
-      (record { tokens = λ n i. t n (in_left n (name_tokens d) (name_tokens_all ds) i); inner = r.1.0 }, rows (suc (place_of d).first) ds (λ n i. t n (in_right n (name_tokens d) (name_tokens_all ds) i)) r.1.1.1)
-  rows low (tail d) t r = record { tokens = t; inner = r.1 }
+  held_within : (h : Homed) (e : Datum) → IsIn e h.datum → OwnHeld h → OwnHeld (inside h e)
+  held_within h e i q own = record { tokens = λ n j. (q own).tokens n (tokens_in e h.datum n i j); inner = in_rises e h.datum i (q own).inner }
 
-  row_of : (p : Place) (ds : Data) → Held (list p ds) → Row ds
-  row_of p ds h = rows p.first ds h.tokens h.inner
+  included_held : (n unit form : ℕ) (ds : List Datum) → AllSuch OwnHeld (homed_from n unit form ds)
+  included_held n unit form [] = tt
+  included_held n unit form (d ∷ ds) = (λ e. absurd cc, included_held n unit (suc form) ds)
+
+  texts_held : (o : Sources) → TextsGive OwnHeld (all_texts o)
+  texts_held o = all_texts_such OwnHeld held_within o (λ n. included_held n (program_number o.documents n) 0 (program_data (data_of (document_at o.documents n))))
 
   abbrev pub FormHeld : UnitForm → Type 0
-  FormHeld f = Held f.datum
+  FormHeld f = f.home ≡ None → Held f.datum
 
-  abbrev FlatHeld : Flat → Type 0
-  FlatHeld r = Good (Each FormHeld) r
-
-  abbrev ClauseHeld : Clause → Type 0
-  ClauseHeld c = FlatHeld c.forms
-
-  abbrev PartsHeld : Option (List Datum) → Type 0
-  PartsHeld None = Unit {0}
-  PartsHeld (Some ds) = Each Held ds
-
-  with_held : (d : Datum) (o : Option (List Datum)) → Held d → PartsHeld o → PartsHeld (with_part d o)
-  with_held d None h k = tt
-  with_held d (Some ds) h k = (h, k)
-
-  proper_held : (ds : Data) → Row ds → PartsHeld (proper_parts ds)
-  proper_held none r = tt
-  proper_held (part d ds) r = with_held d (proper_parts ds) r.0 (proper_held ds r.1)
-  proper_held (tail d) r = tt
+  flat_held : (fs : List FlatForm) → FormsSuch OwnHeld fs → Each FormHeld (map unit_form fs)
+  flat_held [] h = tt
+  flat_held (f ∷ fs) h = (h.0, flat_held fs h.1)
 
   plain_held : (ds : List Datum) → Each Held ds → Each FormHeld (map plain_form ds)
-  plain_held ds h = each_map Held FormHeld plain_form ds h (λ d k. k)
+  plain_held ds h = each_map Held FormHeld plain_form ds h (λ d k own. k)
 
-  picked_held : (b : Bool) (x y : Flat) → FlatHeld x → FlatHeld y → FlatHeld (picked b x y)
-  picked_held true x y h k = h
-  picked_held false x y h k = k
+  -- ---- units
 
-  both_held : (x y : Flat) → FlatHeld x → FlatHeld y → FlatHeld (both x y)
-  both_held x y h k =
-      then_good (Each FormHeld) (Each FormHeld) x (λ xs. y >>= λ ys. Ok (xs ++ ys)) h
-      (λ xs a. then_good (Each FormHeld) (Each FormHeld) y (λ ys. Ok (xs ++ ys)) k (λ ys b. each_both FormHeld xs ys a b))
+  abbrev pub SourceHeld : UnitSource → Type 0
+  SourceHeld u = Good (Each FormHeld) u.forms
 
-  module _ (known : Known) where
-    chosen_held : (whole : Datum) (cs : List Clause) → Each ClauseHeld cs → Good FlatHeld (chosen_clause known whole cs)
-    chosen_held whole [] h = tt
-    chosen_held whole (c ∷ cs) h =
-        let held : Result Bool (Fault (List ℕ)) = clause_holds (λ s. s) known c.requirement (later_clauses cs) in
-        then_good (λ (b : Bool). Unit {0}) FlatHeld (or_bad whole held) (λ b. chosen_clause known whole cs >>= λ later. Ok (picked b c.forms later)) (all_good (or_bad whole held))
-        (λ b x. then_good FlatHeld FlatHeld (chosen_clause known whole cs) (λ later. Ok (picked b c.forms later)) (chosen_held whole cs h.1) (λ later k. picked_held b c.forms later h.0 k))
+  listed_held : (kind : UnitKind) (name : Option LibraryName) (start : Place) (l : Listing) → Gives OwnHeld l → SourceHeld (source_by kind name start l)
+  listed_held kind name start (Lists n fs ls) h = flat_held fs h
+  listed_held kind name start (BadAfter n x) h = tt
+  listed_held kind name start TooLong h = tt
 
-    flat_held : (r : Result Flat Datum) → Good FlatHeld r → FlatHeld (flat_of r)
-    flat_held (Ok x) h = h
-    flat_held (Err e) h = tt
+  unless_held : (b : Bool) (u : UnitSource) → SourceHeld u → SourceHeld (unless_circular b u)
+  unless_held true u h = tt
+  unless_held false u h = h
 
-    some_held : (whole : Datum) (cs : List Clause) → Each ClauseHeld cs → Good (Each ClauseHeld) (some_clauses whole cs)
-    some_held whole [] h = tt
-    some_held whole (c ∷ cs) h = h
+  own_held : (m : ℕ) (ds : List Datum) → Each Held ds → AllSuch OwnHeld (map (own m) ds)
+  own_held m [] h = tt
+  own_held m (d ∷ ds) h = (λ e. h.0, own_held m ds h.1)
 
-    parts_good : (d : Datum) (o : Option (List Datum)) → PartsHeld o → Good (Each Held) (parts_or d o)
-    parts_good d None h = tt
-    parts_good d (Some ds) h = h
+  module _ (o : Sources) (known : Known) (all : Naming) where
+    abbrev t : Texts
+    t = all_texts o
 
-    declared_held : (k : Declared) (d : Datum) (o : Option (List Datum)) (cs : Result (List Clause) Datum) → Held d → PartsHeld o → Good (Each ClauseHeld) cs → FlatHeld (declared_as known k d o cs)
-    declared_held Exports d o cs h k l =
-        then_good (Each Held) (Each FormHeld) (parts_or d o) (λ ds. cond (all_export_parts ds) (Ok (declared_form d ∷ [])) (Err d)) (parts_good d o k)
-        (λ ds x. one_of_two FlatHeld (all_export_parts ds) (Ok (declared_form d ∷ [])) (Err d) (h, tt) tt)
-    declared_held Imports d o cs h k l = then_good (Each Held) (Each FormHeld) (parts_or d o) (λ ds. Ok (declared_form d ∷ [])) (parts_good d o k) (λ ds x. (h, tt))
-    declared_held Begins d o cs h k l = then_good (Each Held) (Each FormHeld) (parts_or d o) (λ ds. Ok (map plain_form ds)) (parts_good d o k) (λ ds x. plain_held ds x)
-    declared_held Chooses d o cs h k l =
-        flat_held (cs >>= some_clauses d >>= chosen_clause known d)
-        (then_good (Each ClauseHeld) FlatHeld (cs >>= some_clauses d) (chosen_clause known d) (then_good (Each ClauseHeld) (Each ClauseHeld) cs (some_clauses d) l (λ xs x. some_held d xs x)) (λ xs x. chosen_held d xs x))
-    declared_held Includes d o cs h k l = then_good (Each Held) (Each FormHeld) (parts_or d o) (λ ds. Ok (declared_form d ∷ [])) (parts_good d o k) (λ ds x. (h, tt))
-    declared_held Undeclared d o cs h k l = tt
+    libraries_held : (m : ℕ) (ds : List Datum) → Each Held ds → Each SourceHeld (libraries_in t known m ds)
+    libraries_held m [] h = tt
+    libraries_held m (d ∷ ds) h =
+        let here : SourceHeld (library_of t known m d) =
+        listed_held IsLibrary (library_name d) (place_of d) (library_listing t known (own m d) (behind_head d)) (library_such OwnHeld held_within t (texts_held o) known m d (λ e. h.0)) in
+        one_of_two (Each SourceHeld) (is_library d) (library_of t known m d ∷ libraries_in t known m ds) (libraries_in t known m ds) (here, libraries_held m ds h.1) (libraries_held m ds h.1)
 
-    mutual
-      declaration_held : (d : Datum) → Held d → FlatHeld (declaration known d)
-      declaration_held (atom p k) h = tt
-      declaration_held (vector p ds) h = tt
-      declaration_held (bytes p bs) h = tt
-      declaration_held (list p none) h = tt
-      declaration_held (list p (tail d)) h = tt
-      declaration_held (list p (part d ds)) h =
-          let r = row_of p (part d ds) h in
-          declared_held (declared_by (symbol_in d)) (list p (part d ds)) (proper_parts ds) (clauses known (list p (part d ds)) ds) h (proper_held ds r.1) (clauses_held ds (list p (part d ds)) r.1)
+    program_held : (m : ℕ) (b : Bool) (ds : List Datum) → Each Held ds → Each SourceHeld (program_in t m b ds)
+    program_held m b [] h = tt
+    program_held m b (d ∷ ds) h =
+        let forms = importing (model_forms t (map (own m) (d ∷ ds))) in
+        (one_of_two SourceHeld b (part_of (place_of d) (d ∷ ds)) (source_by IsProgram None (place_of d) forms) (plain_held (d ∷ ds) h)
+        (listed_held IsProgram None (place_of d) forms (program_such OwnHeld held_within t (texts_held o) m (d ∷ ds) (own_held m (d ∷ ds) h))), tt)
 
-      declarations_held : (ds : Data) (whole : Datum) → Row ds → FlatHeld (declarations known whole ds)
-      declarations_held none whole r = tt
-      declarations_held (part d ds) whole r = both_held (declaration known d) (declarations known whole ds) (declaration_held d r.0) (declarations_held ds whole r.1)
-      declarations_held (tail d) whole r = tt
-
-      clauses_held : (ds : Data) (whole : Datum) → Row ds → Good (Each ClauseHeld) (clauses known whole ds)
-      clauses_held none whole r = tt
-      clauses_held (part d ds) whole r =
-          then_good ClauseHeld (Each ClauseHeld) (clause_of known whole d) (λ c. clauses known whole ds >>= λ cs. Ok (c ∷ cs)) (clause_held d whole r.0)
-          (λ c x. then_good (Each ClauseHeld) (Each ClauseHeld) (clauses known whole ds) (λ cs. Ok (c ∷ cs)) (clauses_held ds whole r.1) (λ cs y. (x, y)))
-      clauses_held (tail d) whole r = tt
-
-      clause_held : (d : Datum) (whole : Datum) → Held d → Good ClauseHeld (clause_of known whole d)
-      clause_held (atom p k) whole h = tt
-      clause_held (vector p ds) whole h = tt
-      clause_held (bytes p bs) whole h = tt
-      clause_held (list p none) whole h = tt
-      clause_held (list p (tail d)) whole h = tt
-      clause_held (list p (part d ds)) whole h =
-          then_good (λ (xs : List Datum). Unit {0}) ClauseHeld (parts_or whole (proper_parts ds)) (λ rest. Ok (record { requirement = symbol_tree d; forms = declarations known whole ds })) (all_good (parts_or whole (proper_parts ds)))
-          (λ xs x. declarations_held ds whole (row_of p (part d ds) h).1)
-
-    -- ---- units
-
-    abbrev pub SourceHeld : UnitSource → Type 0
-    SourceHeld u = FlatHeld u.forms
-
-    named_held : (o : Option LibraryName) (d : Datum) (x : Flat) → FlatHeld x → FlatHeld (no_name o d x)
-    named_held None d x h = tt
-    named_held (Some m) d x h = h
-
-    library_held : (d : Datum) (ds : Data) → Row ds → SourceHeld (library_with known d ds)
-    library_held d none r = tt
-    library_held d (tail e) r = tt
-    library_held d (part m ds) r = named_held (name_or (library_name_of (λ s. s) (symbol_tree m))) d (declarations known d ds) (declarations_held ds d r.1)
-
-    behind_held : (d : Datum) → Held d → Row (behind_head d)
-    behind_held (atom p k) h = tt
-    behind_held (list p none) h = tt
-    behind_held (list p (tail d)) h = tt
-    behind_held (list p (part d ds)) h = (row_of p (part d ds) h).1
-    behind_held (vector p ds) h = tt
-    behind_held (bytes p bs) h = tt
-
-    libraries_held : (ds : List Datum) → Each Held ds → Each SourceHeld (libraries_in known ds)
-    libraries_held [] h = tt
-    libraries_held (d ∷ ds) h =
-        one_of_two (Each SourceHeld) (is_library d) (library_of known d ∷ libraries_in known ds) (libraries_in known ds) (library_held d (behind_head d) (behind_held d h.0), libraries_held ds h.1) (libraries_held ds h.1)
-
-    forms_held : (ds : List Datum) → Each Held ds → Each FormHeld (program_forms ds)
-    forms_held [] h = tt
-    forms_held (d ∷ ds) h =
-        one_of_two (Each FormHeld) (is_headed (codes "import") d && is_proper d) (declared_form d ∷ program_forms ds) (map plain_form (d ∷ ds)) (h.0, forms_held ds h.1) (plain_held (d ∷ ds) h)
-
-    program_held : (ds : List Datum) → Each Held ds → Each SourceHeld (program_in ds)
-    program_held [] h = tt
-    program_held (d ∷ ds) h = (forms_held (d ∷ ds) h, tt)
-
-    units_held : (ds : List Datum) → Each Held ds → Each SourceHeld (units_in known ds)
-    units_held ds h =
-        let rest : List Datum = filter (λ d. not (is_library d)) ds in
-        each_both SourceHeld (libraries_in known ds) (program_in rest) (libraries_held ds h) (program_held rest (each_filtered Held (λ d. not (is_library d)) ds h))
+    units_held : (m : ℕ) (ds : List Datum) → Each Held ds → Each SourceHeld (units_in t known all m ds)
+    units_held m ds h =
+        let rest : List Datum = program_data ds in
+        each_map SourceHeld SourceHeld (unless_circular (is_on_circle all m)) (libraries_in t known m ds ++ program_in t m (is_part all m) rest)
+        (each_both SourceHeld (libraries_in t known m ds) (program_in t m (is_part all m) rest) (libraries_held m ds h) (program_held m (is_part all m) rest (each_filtered Held (λ d. not (is_library d)) ds h)))
+        (λ u k. unless_held (is_on_circle all m) u k)
 
     -- ---- the units of one document among others
 
@@ -267,22 +195,25 @@ module _ (P : ℕ → Type 0) where
       others m [] h = tt
       others m (u ∷ us) h = (λ e. absurd (h e), others m us h)
 
-      later : (m : ℕ) (ds : List Document) → suc k ≤ m → Each HeldIf (units_from known m ds)
+      later : (m : ℕ) (ds : List Document) → suc k ≤ m → Each HeldIf (units_from t known all m ds)
       later m [] h = tt
       later m (d ∷ ds) h =
-          each_both HeldIf (map (λ u. record { document = m; source = u }) (units_in known (data_of d))) (units_from known (suc m) ds) (others m (units_in known (data_of d)) (λ e. omega (arith, eqb-true m k e, h))) (later (suc m) ds (omega (arith, h)))
+          let us = units_in t known all m (data_of d) in
+          each_both HeldIf (map (λ u. record { document = m; source = u }) us) (units_from t known all (suc m) ds) (others m us (λ e. omega (arith, eqb-true m k e, h))) (later (suc m) ds (omega (arith, h)))
 
       these : (m : ℕ) (us : List UnitSource) → Each SourceHeld us → Each HeldIf (map (λ u. record { document = m; source = u }) us)
       these m [] h = tt
       these m (u ∷ us) h = (λ e. h.0, these m us h.1)
 
-      one_document : (i m : ℕ) (ds : List Document) (items : List Datum) → m + i ≡ k → slice_get ds i ≡ Some (Some items) → Each Held items → Each HeldIf (units_from known m ds)
-      one_document i m [] items e there h = cc
-      one_document zero m (d ∷ ds) items e there h =
-          let same : Some items ≡ d = cc in
-          each_both HeldIf (map (λ u. record { document = m; source = u }) (units_in known (data_of d))) (units_from known (suc m) ds) (these m (units_in known (data_of d)) (units_held (data_of d) (subst (λ (x : Document). Each Held (data_of x)) same h))) (later (suc m) ds (omega (arith, e)))
-      one_document (suc i) m (d ∷ ds) items e there h =
-          each_both HeldIf (map (λ u. record { document = m; source = u }) (units_in known (data_of d))) (units_from known (suc m) ds) (others m (units_in known (data_of d)) (λ q. omega (arith, eqb-true m k q, e))) (one_document i (suc m) ds items (omega (arith, e)) there h)
+      one_document : (i m : ℕ) (ds : List Document) (it : Document) → m + i ≡ k → slice_get ds i ≡ Some it → Each Held (data_of it) → Each HeldIf (units_from t known all m ds)
+      one_document i m [] it e there h = cc
+      one_document zero m (d ∷ ds) it e there h =
+          let same : it ≡ d = cc in
+          let us = units_in t known all m (data_of d) in
+          each_both HeldIf (map (λ u. record { document = m; source = u }) us) (units_from t known all (suc m) ds) (these m us (units_held m (data_of d) (subst (λ (x : Document). Each Held (data_of x)) same h))) (later (suc m) ds (omega (arith, e)))
+      one_document (suc i) m (d ∷ ds) it e there h =
+          let us = units_in t known all m (data_of d) in
+          each_both HeldIf (map (λ u. record { document = m; source = u }) us) (units_from t known all (suc m) ds) (others m us (λ q. omega (arith, eqb-true m k q, e))) (one_document i (suc m) ds it (omega (arith, e)) there h)
 
   -- ---- prepared, and worked
 
@@ -290,13 +221,13 @@ module _ (P : ℕ → Type 0) where
     abbrev PreparedIf : Prepared → Type 0
     PreparedIf p = (p.placed.document == k) ≡ true → Each FormHeld p.forms
 
-    forms_of : (r : Flat) → FlatHeld r → Each FormHeld (forms_or_none r)
+    forms_of : (r : Result (List UnitForm) EarlyFault) → Good (Each FormHeld) r → Each FormHeld (forms_or_none r)
     forms_of (Ok fs) h = h
     forms_of (Err d) h = tt
 
-    prepared_held : (known : Known) (all : List Placed) (n : ℕ) (us : List Placed) → Each (HeldIf known k) us → Each PreparedIf (prepare all n us)
-    prepared_held known all n [] h = tt
-    prepared_held known all n (u ∷ us) h = (λ e. forms_of u.source.forms (h.0 e), prepared_held known all (suc n) us h.1)
+    prepared_held : (all : List Placed) (n : ℕ) (us : List Placed) → Each (λ (u : Placed). (u.document == k) ≡ true → SourceHeld u.source) us → Each PreparedIf (prepare all n us)
+    prepared_held all n [] h = tt
+    prepared_held all n (u ∷ us) h = (λ e. forms_of u.source.forms (h.0 e), prepared_held all (suc n) us h.1)
 
     -- ---- identifiers
 
@@ -310,14 +241,21 @@ module _ (P : ℕ → Type 0) where
         let same : n ≡ first_token all j + (n - (place_of d).first) = omega (arith, e, h.0.1) in
         (subst P same h.0.0, form_tokens u j all d ns e h.1)
 
+    own_tokens : (u j : ℕ) (all : List UnitForm) (f : UnitForm) → first_token all j ≡ (place_of f.datum).first → FormHeld f → Each TokenHeld (map (identifier_in all) (if is_some f.home then [] else names_in_form u j f.datum))
+    own_tokens u j all f here h = go f.home refl
+      where
+        go : (o : Option Home) → f.home ≡ o → Each TokenHeld (map (identifier_in all) (if is_some o then [] else names_in_form u j f.datum))
+        go (Some x) q = tt
+        go None q = form_tokens u j all f.datum (name_tokens f.datum) here (each_in (λ n. P n × ((place_of f.datum).first ≤ n)) (name_tokens f.datum) (λ n i. ((h q).tokens n i, first_least f.datum n (h q).inner i)))
+
     unit_tokens : (u j : ℕ) (all fs : List UnitForm) → ((i : ℕ) → first_token all (j + i) ≡ first_token fs i) → Each FormHeld fs → Each TokenHeld (map (identifier_in all) (names_in_forms u j fs))
     unit_tokens u j all [] e h = tt
     unit_tokens u j all (f ∷ fs) e h =
         let here : first_token all j ≡ (place_of f.datum).first = let z : j + 0 ≡ j = omega arith in ap (first_token all) (sym z) ∙ e 0 in
         let next : (i : ℕ) → first_token all (suc j + i) ≡ first_token fs i = λ i. let z : suc j + i ≡ j + suc i = omega arith in ap (first_token all) z ∙ e (suc i) in
-        let mine = each_in (λ n. P n × ((place_of f.datum).first ≤ n)) (name_tokens f.datum) (λ n i. (h.0.tokens n i, first_least f.datum n h.0.inner i)) in
-        subst (Each TokenHeld) (sym (map-append (identifier_in all) (names_in_form u j f.datum) (names_in_forms u (suc j) fs)))
-        (each_both TokenHeld (map (identifier_in all) (names_in_form u j f.datum)) (map (identifier_in all) (names_in_forms u (suc j) fs)) (form_tokens u j all f.datum (name_tokens f.datum) here mine) (unit_tokens u (suc j) all fs next h.1))
+        let mine = if is_some f.home then [] else names_in_form u j f.datum in
+        subst (Each TokenHeld) (sym (map-append (identifier_in all) mine (names_in_forms u (suc j) fs)))
+        (each_both TokenHeld (map (identifier_in all) mine) (map (identifier_in all) (names_in_forms u (suc j) fs)) (own_tokens u j all f here h.0) (unit_tokens u (suc j) all fs next h.1))
 
     document_tokens : (rs : List UnitResult) → Each PreparedIf (map (λ (r : UnitResult). r.unit) rs) → Each TokenHeld (identifiers_of k rs)
     document_tokens [] h = tt
@@ -344,14 +282,17 @@ among P (x ∷ xs) h i =
     (record { tokens = λ n j. from n (in_left n (name_tokens x) (flat_map name_tokens xs) j); inner = i.0 }, among P xs (λ n j. from n (in_right n (name_tokens x) (flat_map name_tokens xs) j)) i.1)
 
 -- the identifiers of a document that get new names are identifiers of its data
-pub names_identifiers : (ds : List Document) (k : ℕ) (items : List Datum) (name : Occ → Option (List ℕ)) → slice_get ds k ≡ Some (Some items) → Each Inner items → NamesIdentifiers (name_at name (identifiers_of k (program_of ds).units)) items
-names_identifiers ds k items name there inner = λ n s e. named_token P k name (identifiers_of k (program_of ds).units) n s tokens e
+pub names_identifiers : (ds : List Document) (k : ℕ) (d : Document) (name : Occ → Option (List ℕ)) → slice_get ds k ≡ Some d → Each Inner (data_of d) → NamesIdentifiers (name_at name (identifiers_of k (program_of ds).units)) (data_of d)
+names_identifiers ds k d name there inner = λ n s e. named_token P k name (identifiers_of k (program_of ds).units) n s tokens e
   where
     P : ℕ → Type 0
-    P n = is_in n (flat_map name_tokens items) ≡ true
+    P n = is_in n (flat_map name_tokens (data_of d)) ≡ true
+
+    sources : Sources
+    sources = sources_within max_tokens (naming ds) (known_in ds) ds
 
     tokens : Each (TokenHeld P k) (identifiers_of k (program_of ds).units)
     tokens =
         document_tokens P k (program_of ds).units
         (subst (Each (PreparedIf P k)) (sym (results_in_order ds))
-        (prepared_held P k (known_in ds) (units_of ds) 0 (units_of ds) (one_document P (known_in ds) k k 0 ds items (omega arith) there (among P items (λ n h. h) inner))))
+        (prepared_held P k (units_of ds) 0 (units_of ds) (one_document P sources (known_in ds) (naming ds) k k 0 ds d (omega arith) there (among P (data_of d) (λ n h. h) inner))))

@@ -9,7 +9,7 @@ use Rattle.scheme_model.specs.declared.Occ.{Occ}
 use Rattle.scheme_model.specs.Program.{units_of}
 use Rattle.rename_model.specs.Difference.{Difference, first_difference}
 use Rattle.document_store.specs.Texts.{Document, Texts}
-use Rattle.document_units.specs.Readings.{Read, AreReadAs, data_in, program_in}
+use Rattle.document_units.specs.Readings.{Read, AreReadAs, documents_in, program_in}
 use Rattle.program_answers.specs.ToldAnswers.{name_there}
 use Rattle.program_differences.specs.Differences.{plan_as}
 use Rattle.program_differences.specs.declared.plan.Difference as code
@@ -23,11 +23,12 @@ use Rattle.workspace_state.proofs.EditedLaws.{edited_entries}
 use Rattle.rename_planner.specs.Planning.{ComesTo, Holds, IsPlanned, planned_in}
 use Rattle.rename_planner.specs.ReadDocuments.{read_as}
 use Rattle.rename_planner.specs.RenameOutcomes.{AnswersAs}
-use Rattle.rename_planner.specs.ToldRenames.{edited_by, identifier_at, is_tried, opened_as, rename_at, rename_uses, text_uses, texts_of}
+use Rattle.rename_planner.specs.ToldRenames.{edited_by, identifier_at, is_tried, opened_as, rename_at, rename_uses, text_uses, texts_of, uris_of}
 use Rattle.rename_planner.specs.declared.faults.RenameFault.{RenameFault}
 use Rattle.rename_planner.specs.declared.faults.RenameFault.TheVariants as faults
 use Rattle.rename_planner.specs.declared.planning.Planned.{Planned}
 use Rattle.rename_planner.proofs.BindLaws.{AreEdits, answers, bind_err, bind_ok, compared_in, rename_parted}
+use Rattle.rename_planner.proofs.CompareLaws.{same_uris}
 use Rattle.rename_planner.proofs.MemberLaws.{difference_same}
 use Rattle.rename_planner.proofs.ReadersAgree.{opened_is_read, program_is_read}
 use Rattle.rename_planner.proofs.ReadingLaws.{uses_one}
@@ -54,12 +55,12 @@ module _ (r : Reader) (is : IsReader r) (e : Encoding) (texts : Texts) (rs : Lis
   now_edited p c is_planned = ap texts_of (edited_entries e p.edits texts) ∙ is_planned.texts
 
   difference_is : (p : Planned) (c : Occ × List ℕ) (ts : List Read) → IsPlanned e ds w c p → AreReadAs (entries (edited_texts e p.edits texts)) ts →
-      first_difference (units_of (map data_in rs)) (program_in rs) (program_in ts) (plan_as p.plan) ≡ difference_by r w c.0 c.1
+      first_difference (units_of (documents_in rs)) (program_in rs) (program_in ts) (plan_as p.plan) ≡ difference_by r w c.0 c.1
   difference_is p c ts is_planned there =
-      let same : program_in ts ≡ program_read r (edited_in w c.0 c.1) =
-      sym (program_is_read r is (entries (edited_texts e p.edits texts)) ts there) ∙ ap (program_read r) (now_edited p c is_planned) in
-      difference_same p.plan.class (plan_in w c.0 c.1).members is_planned.members (units_of (map data_in rs)) (program_in rs) (program_in ts) (changes_as p.plan.exports) (plan_in w c.0 c.1).exports is_planned.exports
-      ∙ ap (λ q. first_difference (units_of (map data_in rs)) (program_in rs) q (plan_in w c.0 c.1)) same
+      let same : program_in ts ≡ program_read r w.uris (edited_in w c.0 c.1) =
+      sym (program_is_read r is (entries (edited_texts e p.edits texts)) ts there) ∙ (λ j. program_read r (same_uris e p.edits texts j) (now_edited p c is_planned j)) in
+      difference_same p.plan.class (plan_in w c.0 c.1).members is_planned.members (units_of (documents_in rs)) (program_in rs) (program_in ts) (changes_as p.plan.exports) (plan_in w c.0 c.1).exports is_planned.exports
+      ∙ ap (λ q. first_difference (units_of (documents_in rs)) (program_in rs) q (plan_in w c.0 c.1)) same
 
   module _ (at : Option Occ) (new : List ℕ) where
     abbrev planned : Result (Occ × List ℕ) Refusal
@@ -73,7 +74,7 @@ module _ (r : Reader) (is : IsReader r) (e : Encoding) (texts : Texts) (rs : Lis
 
     module _ (p : Planned) (h1 : ComesTo e ds (IsPlanned e ds w) planned (Ok p)) (ts : List Read) (there : AreReadAs (entries (edited_texts e p.edits texts)) ts) where
       abbrev found : Option Difference
-      found = first_difference (units_of (map data_in rs)) (program_in rs) (program_in ts) (plan_as p.plan)
+      found = first_difference (units_of (documents_in rs)) (program_in rs) (program_in ts) (plan_as p.plan)
 
       pub refused_now : (fault : RenameFault) → ComesTo {B = Unit {0}} e ds Holds (unless found Differs) (Err fault) → AnswersAs e ds (rename_in r w at new) (Err fault)
       refused_now fault h = answer_from (Err fault) (bind_ok e ds (IsPlanned e ds w) (AreEdits e ds) planned (compared_in r w) p (Err fault) h1 (λ c q is_planned.
@@ -133,7 +134,7 @@ module _ (r : Reader) (is : IsReader r) (e : Encoding) (texts : Texts) (rs : Lis
   place = name_there e (entries texts) rs uri position
 
   abbrev uses_by : Bool → ℕ
-  uses_by b = cond b (text_uses r (edited_by (opened_as r (entries texts)) (identifier_at e (entries texts) (opened_as r (entries texts)) uri position) (r.symbol new))) 0
+  uses_by b = cond b (text_uses r (uris_of (entries texts)) (edited_by (opened_as r (entries texts)) (identifier_at e (entries texts) (opened_as r (entries texts)) uri position) (r.symbol new))) 0
 
   tried_as : (b : Bool) → is_tried (rename_in r read place new) ≡ b → rename_uses r e (entries texts) uri position new ≡ uses_by b
   tried_as b h = ap uses_by (ap is_tried (rename_is r is e texts rs are uri position new) ∙ h)
@@ -153,5 +154,6 @@ module _ (r : Reader) (is : IsReader r) (e : Encoding) (texts : Texts) (rs : Lis
   counted p h ts there =
       let it = value_there e (entries texts) (IsPlanned e (entries texts) read) (planned_in read place (r.symbol new)) p h in
       tried_as true (tried r read place new it.0 it.1)
-      ∙ ap (text_uses r) (edited_as ∙ texts_led read place (r.symbol new) it.0 it.1 ∙ sym (now_edited r is e texts rs are p it.0 it.2))
+      ∙ ap (text_uses r (uris_of (entries texts))) (edited_as ∙ texts_led read place (r.symbol new) it.0 it.1 ∙ sym (now_edited r is e texts rs are p it.0 it.2))
+      ∙ ap (λ us. text_uses r us (texts_of (entries (edited_texts e p.edits texts)))) (sym (same_uris e p.edits texts))
       ∙ uses_one r is (entries (edited_texts e p.edits texts)) ts there

@@ -3,18 +3,19 @@ use Rattle.std.specs.Prelude.{ℕ, List, map, Option, Some, None}
 use Rattle.scheme_model.specs.Program.{units_of}
 use Rattle.scheme_model.specs.Spelling.{links_of}
 use Rattle.document_store.specs.Texts.{Document}
-use Rattle.document_units.specs.Readings.{Read, Reads, Stops, data_in, program_in}
+use Rattle.document_units.specs.Readings.{Read, Reads, Stops, documents_in, program_in}
 use Rattle.rename_conditions.specs.Opened.{Opened}
 use Rattle.rename_conditions.specs.Readers.{Reading}
-use Rattle.rename_planner.specs.ToldRenames.{texts_of}
+use Rattle.rename_planner.specs.ToldRenames.{texts_of, uris_of}
 
 abbrev pub reading_of : Read → Option Reading
-reading_of (Reads ds spans) = Some (record { items = ds; spans = spans })
-reading_of (Stops f) = None
+reading_of (Reads uri ds spans) = Some (record { items = ds; spans = spans })
+reading_of (Stops uri f) = None
 
 abbrev pub read_as : List (List ℕ × Document) → List Read → Opened
 read_as ds rs =
-    let units = units_of (map data_in rs) in record {
+    let units = units_of (documents_in rs) in record {
+      uris = uris_of ds;
       texts = texts_of ds;
       readings = map reading_of rs;
       units = units;

@@ -12,8 +12,8 @@ use Rattle.program_answers.specs.ToldAnswers.{document_at, text_of, number_of}
 use Rattle.text_edits.specs.Members.{prefix_of, stem_of}
 use Rattle.text_edits.specs.Views.{edit_told}
 use Rattle.macro_uses.specs.MacroUses.{program_uses}
-use Rattle.rename_conditions.specs.Readers.{Reader, document_in}
-use Rattle.rename_conditions.specs.Opened.{Opened, DocEdits, opened, spans_read, edited_in}
+use Rattle.rename_conditions.specs.Readers.{Reader}
+use Rattle.rename_conditions.specs.Opened.{Opened, DocEdits, documents_read, opened, spans_read, edited_in}
 use Rattle.rename_conditions.specs.Renames.{Refusal, NotBound, IsStandard, BadName, Unreadable, PrefixLost, PrefixClash, BrokenUnit, TooLong, Differs, rename_in}
 use Rattle.rename_planner.specs.RefusalTexts.{refusal_text}
 
@@ -21,8 +21,11 @@ use Rattle.rename_planner.specs.RefusalTexts.{refusal_text}
 abbrev pub texts_of : List (List ℕ × Document) → List (List ℕ)
 texts_of ds = map (λ (d : List ℕ × Document). d.1.1) ds
 
+abbrev pub uris_of : List (List ℕ × Document) → List (List ℕ)
+uris_of ds = map (λ (d : List ℕ × Document). d.0) ds
+
 abbrev pub opened_as : Reader → List (List ℕ × Document) → Opened
-opened_as r ds = opened r (texts_of ds)
+opened_as r ds = opened r (uris_of ds) (texts_of ds)
 
 -- the identifier at a position of a document
 abbrev pub identifier_by : Encoding → List (List ℕ × Document) → Opened → Option ℕ → Pos → Option Occ
@@ -73,10 +76,10 @@ edited_by w (Some o) (Some s) = by_stem (stem_of (prefix_of w.links o) s)
     by_stem None = w.texts
     by_stem (Some stem) = edited_in w o stem
 
-abbrev pub text_uses : Reader → List (List ℕ) → ℕ
-text_uses r texts = program_uses (map (λ text. document_in (r.read text)) texts)
+abbrev pub text_uses : Reader → (uris : List (List ℕ)) → List (List ℕ) → ℕ
+text_uses r uris texts = program_uses (documents_read r uris texts)
 
 abbrev pub rename_uses : Reader → Encoding → List (List ℕ × Document) → (uri : List ℕ) → Pos → (new : List ℕ) → ℕ
 rename_uses r encoding ds uri position new =
     let w = opened_as r ds in
-    if is_tried (rename_at r encoding ds uri position new) then text_uses r (edited_by w (identifier_at encoding ds w uri position) (r.symbol new)) else 0
+    if is_tried (rename_at r encoding ds uri position new) then text_uses r w.uris (edited_by w (identifier_at encoding ds w uri position) (r.symbol new)) else 0

@@ -3,7 +3,7 @@ ghost use Rattle.std.specs.Prelude.{◌≡◌, ◌≢◌, ◌+◌, List, Err, ma
 ghost use Rattle.std.specs.FinMap.{entries};
 ghost use Rattle.scheme_model.specs.Program.{units_of};
 ghost use Rattle.rename_model.specs.Difference as difference;
-ghost use Rattle.document_units.specs.Readings.{Read, AreReadAs, data_in, program_in};
+ghost use Rattle.document_units.specs.Readings.{Read, AreReadAs, documents_in, program_in};
 ghost use Rattle.program_differences.specs.Differences.{plan_as};
 ghost use Rattle.program_expansion.specs.UsesInTurn.{uses_in};
 ghost use Rattle.workspace_state.specs.Edited.{CanEdit, edited_texts};
@@ -30,7 +30,7 @@ pub fn compare<L: Ledger>(
     ensures texts { ws.new.texts ≡ ws.old.texts }
     ensures encoding { ws.new.encoding ≡ ws.old.encoding }
     ensures exact { (rs ts : List Read) → AreReadAs (entries ws.old.texts) rs → AreReadAs (entries (edited_texts ws.old.encoding edits.now ws.old.texts)) ts →
-        ComesTo ws.old.encoding (entries ws.old.texts) Holds (model.unless (difference.first_difference (units_of (map data_in rs)) (program_in rs) (program_in ts) (plan_as plan.now)) model.Differs) result }
+        ComesTo ws.old.encoding (entries ws.old.texts) Holds (model.unless (difference.first_difference (units_of (documents_in rs)) (program_in rs) (program_in ts) (plan_as plan.now)) model.Differs) result }
     ensures steps { (ts : List Read) → AreReadAs (entries (edited_texts ws.old.encoding edits.now ws.old.texts)) ts → result ≢ Err RenameFault.Memory → steps.new ≡ steps.old + uses_in ts }
 {
     let trial = ws.try_edits(edits, steps)?;

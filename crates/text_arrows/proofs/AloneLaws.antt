@@ -21,7 +21,7 @@ use Rattle.document_store.specs.Texts.{Added, Document, Refusal, Texts, after, h
 use Rattle.workspace_state.specs.Events.{leaves}
 use Rattle.document_units.specs.Listed.{found_of, lists_of, of_stop, told_in}
 use Rattle.program_answers.specs.Listings.{or_none}
-use Rattle.document_units.specs.Readings.{Read, Reads, Stops, AreReadAs, IsReadAs, first_unread}
+use Rattle.document_units.specs.Readings.{Read, Reads, Stops, AreReadAs, first_unread}
 use Rattle.workspace_state.specs.State as workspace
 use Rattle.program_answers.specs.ToldAnswers.{answer_of}
 use Rattle.program_answers.specs.Updates.{AreListsOfTexts, ArePublished, IsNewsOf, IsPublished, Lists, Publishes, listed_in}
@@ -31,7 +31,7 @@ use Rattle.program_answers.proofs.TextLists.{one_row, some_row}
 use Rattle.program_expansion.specs.UsesInTurn.{uses_in}
 use Rattle.text_arrows.specs.Alone.{ArePublishedAlone, HoldsAlone, IsDrawn}
 use Rattle.command_lines.specs.Diagnostics.{diagnostic_line, diagnostic_lines}
-use Rattle.text_arrows.specs.Printed.{AreLines, IsStopLine, alone, arrows_alone, input_name, lines_of, published_lines}
+use Rattle.text_arrows.specs.Printed.{AreLines, IsReadAlone, IsStopLine, alone, arrows_alone, input_name, lines_of, published_lines}
 
 -- ---- the texts
 
@@ -75,9 +75,9 @@ rows_of rs ds = map (λ l. (l.uri, l.list)) (lists_of Utf16 ds rs)
 none_were : (t : Texts) (old : Lists) → t ≡ empty → AreListsOfTexts Utf16 t old → entries old ≡ []
 none_were t old none h = h.2 ∙ ap (rows_of h.0) (no_entries t none)
 
-one_is : (t : Texts) (new : Lists) (text : List ℕ) (r : Read) → entries t ≡ alone text → IsReadAs text r → AreListsOfTexts Utf16 t new → entries new ≡ (input_name, diagnostics_alone text r) ∷ []
+one_is : (t : Texts) (new : Lists) (text : List ℕ) (r : Read) → entries t ≡ alone text → IsReadAlone text r → AreListsOfTexts Utf16 t new → entries new ≡ (input_name, diagnostics_alone text r) ∷ []
 one_is t new text r is read h =
-    let rows = one_row (alone text) h.0 (r ∷ []) (subst (λ (ds : List (List ℕ × Document)). AreReadAs ds h.0) is h.1) (read, tt) in
+    let rows = one_row (alone text) h.0 (r ∷ []) (subst (λ (ds : List (List ℕ × Document)). AreReadAs ds h.0) is h.1) (read.0, tt, read.1) in
     h.2 ∙ ap (rows_of h.0) is ∙ ap (λ (rs : List Read). rows_of rs (alone text)) rows
 
 listed_by : (lists : Lists) (rows : Rows) (uri : List ℕ) → entries lists ≡ rows → listed_in lists uri ≡ or_none (find (slice_cmp nat_cmp) uri rows)
@@ -113,7 +113,7 @@ differs_at : (uri : List ℕ) (l : List told.Diagnostic) (b : Bool) → eq_by_cm
 differs_at uri l true tie differs = ties_are uri input_name tie
 differs_at uri l false tie differs = absurd (differs refl)
 
-published_alone : (t u : Texts) (text : List ℕ) (r : Read) (ps : List Published) → t ≡ empty → entries u ≡ alone text → IsReadAs text r → IsNewsOf Utf16 t u input_name ps → ArePublishedAlone text r ps
+published_alone : (t u : Texts) (text : List ℕ) (r : Read) (ps : List Published) → t ≡ empty → entries u ≡ alone text → IsReadAlone text r → IsNewsOf Utf16 t u input_name ps → ArePublishedAlone text r ps
 published_alone t u text r ps none is read news =
     let was : (uri : List ℕ) → listed_in news.old uri ≡ [] = λ uri. listed_by news.old [] uri (none_were t news.old none news.were) in
     let now : (uri : List ℕ) → listed_in news.new uri ≡ or_none (cond (eq_by_cmp (slice_cmp nat_cmp) uri input_name) (Some (diagnostics_alone text r)) None) =
@@ -152,20 +152,20 @@ holds_alone w old uri text copy lists utf8 none utf16 short at same encoding tex
 -- the macro uses that are counted once the text is opened
 pub counted_alone : (w old : workspace.State) (uri text copy : List ℕ) (before now : ℕ) → old.texts ≡ empty → old.encoding ≡ Utf16 → length text ≤ max_text → uri ≡ input_name → copy ≡ text → entries w.texts ≡ alone text →
     (leaves (Added uri (pos 0) copy) (after old.encoding old.texts (Added uri (pos 0) copy)).1 ≡ false → (rs : List Read) → AreReadAs (entries w.texts) rs → now ≡ before + uses_in rs) →
-    (r : Read) → IsReadAs text r → now ≡ before + uses_in (r ∷ [])
+    (r : Read) → IsReadAlone text r → now ≡ before + uses_in (r ∷ [])
 counted_alone w old uri text copy before now none utf16 short at same documents counts r read =
     let stays : leaves (Added uri (pos 0) copy) (after old.encoding old.texts (Added uri (pos 0) copy)).1 ≡ false =
     (λ j. leaves (Added (at j) (pos 0) (same j)) (after (utf16 j) old.texts (Added (at j) (pos 0) (same j))).1)
     ∙ ap (λ (a : Texts × Option Refusal). leaves (Added input_name (pos 0) text) a.1) (added_alone Utf16 old.texts text none short) in
-    counts stays (r ∷ []) (subst (λ (ds : List (List ℕ × Document)). AreReadAs ds (r ∷ [])) (sym documents) (read, tt))
+    counts stays (r ∷ []) (subst (λ (ds : List (List ℕ × Document)). AreReadAs ds (r ∷ [])) (sym documents) (read.0, tt, read.1))
 
 -- ---- what is told
 
-picked : (text : List ℕ) (rs : List Read) → AreReadAs (alone text) rs → (r : Read) × IsReadAs text r
+picked : (text : List ℕ) (rs : List Read) → AreReadAs (alone text) rs → (r : Read) × IsReadAlone text r
 picked text [] h = absurd h
-picked text (r ∷ rs) h = (r, h.0)
+picked text (r ∷ rs) h = (r, h.0, h.2)
 
-pub read_alone : (text : List ℕ) → (r : Read) × IsReadAs text r
+pub read_alone : (text : List ℕ) → (r : Read) × IsReadAlone text r
 read_alone text = let row = some_row (alone text) in picked text row.0 row.1
 
 is_some_map : {X Y : Type 0} (f : X → Y) (o : Option X) → is_some (option_map f o) ≡ is_some o
@@ -181,11 +181,11 @@ drawn_alone : (text : List ℕ) (r : Read) (at : Pos) → answer_of Utf16 (alone
 drawn_alone text r at = refl
 
 module _ (text : List ℕ) (w : workspace.State) (lists : List Published) (holds : HoldsAlone text w lists) where
-  row : (r : Read) → IsReadAs text r → AreReadAs (entries w.texts) (r ∷ [])
-  row r read = subst (λ (ds : List (List ℕ × Document)). AreReadAs ds (r ∷ [])) (sym holds.documents) (read, tt)
+  row : (r : Read) → IsReadAlone text r → AreReadAs (entries w.texts) (r ∷ [])
+  row r read = subst (λ (ds : List (List ℕ × Document)). AreReadAs ds (r ∷ [])) (sym holds.documents) (read.0, tt, read.1)
 
   answers_so : (answer : Answer) (at : Pos) → ((rs : List Read) → AreReadAs (entries w.texts) rs → answer ≡ answer_of w.encoding (entries w.texts) rs input_name at Arrows) →
-      (r : Read) → IsReadAs text r → answer ≡ answers.Arrows (arrows_alone text r)
+      (r : Read) → IsReadAlone text r → answer ≡ answers.Arrows (arrows_alone text r)
   answers_so answer at is r read =
       is (r ∷ []) (row r read) ∙ (λ j. answer_of (holds.encoding_is j) (holds.documents j) (r ∷ []) input_name at Arrows) ∙ drawn_alone text r at
 
@@ -193,24 +193,30 @@ module _ (text : List ℕ) (w : workspace.State) (lists : List Published) (holds
   is_drawn answer at is = let read = read_alone text in (arrows_alone text read.0, answers_so answer at is read.0 read.1)
 
   module _ {X : Type 0} (f : X → List ℕ) (found : Option X) (unread : (rs : List Read) → AreReadAs (entries w.texts) rs → option_map f found ≡ first_unread (entries w.texts) rs) where
-    unread_by : (r : Read) → IsReadAs text r → is_some (first_unread (alone text) (r ∷ [])) ≡ is_some found
+    unread_by : (r : Read) → IsReadAlone text r → is_some (first_unread (alone text) (r ∷ [])) ≡ is_some found
     unread_by r read =
         sym (ap is_some (unread (r ∷ []) (row r read) ∙ ap (λ (ds : List (List ℕ × Document)). first_unread ds (r ∷ [])) holds.documents)) ∙ is_some_map f found
 
-    stop_at : (output : List ℕ) → output ≡ published_lines lists → is_some found ≡ true → (r : Read) → IsReadAs text r → IsStopLine text output
-    stop_at output is there (Reads ds spans) read = absurd (true≢false (sym there ∙ sym (unread_by (Reads ds spans) read)))
-    stop_at output is there (Stops stop) read =
-        let p = holds.published (Stops stop) read in
-        record { utf8 = holds.utf8; stop = stop; stops = read; line = is ∙ one_line p.0 lists (told_in Utf16 text (of_stop 0 stop)) p.1 p.2 p.3 }
+    stop_at : (output : List ℕ) → output ≡ published_lines lists → is_some found ≡ true → (r : Read) → IsReadAlone text r → IsStopLine text output
+    stop_at output is there (Reads uri ds spans) read = absurd (true≢false (sym there ∙ sym (unread_by (Reads uri ds spans) read)))
+    stop_at output is there (Stops uri stop) read =
+        let p = holds.published (Stops uri stop) read in
+        record { utf8 = holds.utf8; stop = stop; stops = (read.0, refl); line = is ∙ one_line p.0 lists (told_in Utf16 text (of_stop 0 stop)) p.1 p.2 p.3 }
 
     pub is_stop_line : (output : List ℕ) → output ≡ published_lines lists → is_some found ≡ true → IsStopLine text output
     is_stop_line output is there = let read = read_alone text in stop_at output is there read.0 read.1
 
     lines_at : (answer : Answer) (at : Pos) → ((rs : List Read) → AreReadAs (entries w.texts) rs → answer ≡ answer_of w.encoding (entries w.texts) rs input_name at Arrows) →
-        (output : List ℕ) → ((arrows : List drawn.Arrow) → answer ≡ answers.Arrows arrows → output ≡ lines_of arrows) → is_some found ≡ false → (r : Read) → IsReadAs text r → AreLines text output
-    lines_at answer at is output lined none (Reads ds spans) read =
-        record { utf8 = holds.utf8; items = ds; spans = spans; reads = read; lines = lined (arrows_alone text (Reads ds spans)) (answers_so answer at is (Reads ds spans) read) }
-    lines_at answer at is output lined none (Stops stop) read = absurd (true≢false (unread_by (Stops stop) read ∙ none))
+        (output : List ℕ) → ((arrows : List drawn.Arrow) → answer ≡ answers.Arrows arrows → output ≡ lines_of arrows) → is_some found ≡ false → (r : Read) → IsReadAlone text r → AreLines text output
+    lines_at answer at is output lined none (Reads uri ds spans) read =
+        record {
+          utf8 = holds.utf8;
+          items = ds;
+          spans = spans;
+          reads = (read.0, refl);
+          lines = lined (arrows_alone text (Reads uri ds spans)) (answers_so answer at is (Reads uri ds spans) read) ∙ ap (λ (u : List ℕ). lines_of (arrows_alone text (Reads u ds spans))) read.1;
+        }
+    lines_at answer at is output lined none (Stops uri stop) read = absurd (true≢false (unread_by (Stops uri stop) read ∙ none))
 
     pub are_lines : (answer : Answer) (at : Pos) → ((rs : List Read) → AreReadAs (entries w.texts) rs → answer ≡ answer_of w.encoding (entries w.texts) rs input_name at Arrows) →
         (output : List ℕ) → ((arrows : List drawn.Arrow) → answer ≡ answers.Arrows arrows → output ≡ lines_of arrows) → is_some found ≡ false → AreLines text output

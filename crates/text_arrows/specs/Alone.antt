@@ -8,10 +8,10 @@ use Rattle.ls_base.specs.declared.answers.Answer.TheVariants as answers
 use Rattle.ls_base.specs.declared.answers.Arrow as drawn
 use Rattle.ls_base.specs.declared.encoding.Encoding.TheVariants.{Utf16}
 use Rattle.document_units.specs.Listed.{found_of, told_in}
-use Rattle.document_units.specs.Readings.{Read, IsReadAs}
+use Rattle.document_units.specs.Readings.{Read}
 use Rattle.workspace_state.specs.State as workspace
 use Rattle.program_answers.specs.declared.publications.Published.{Published}
-use Rattle.text_arrows.specs.Printed.{AreLines, IsStopLine, alone, input_name}
+use Rattle.text_arrows.specs.Printed.{AreLines, IsReadAlone, IsStopLine, alone, input_name}
 use Rattle.text_arrows.specs.declared.alone.Told.{Told}
 use Rattle.text_arrows.specs.declared.alone.Told.TheVariants.{Arrows, Stop}
 
@@ -24,7 +24,7 @@ pub record HoldsAlone (text : List ℕ) (w : workspace.State) (lists : List Publ
   pub utf8 : IsUtf8 text
   pub encoding_is : w.encoding ≡ Utf16
   pub documents : entries w.texts ≡ alone text
-  pub published : (r : Read) → IsReadAs text r → ArePublishedAlone text r lists
+  pub published : (r : Read) → IsReadAlone text r → ArePublishedAlone text r lists
 
 abbrev pub HoldsText : workspace.State → List Published → Type 0
 HoldsText w lists = (text : List ℕ) × HoldsAlone text w lists

@@ -9,7 +9,7 @@ use Rattle.scheme_model.specs.Faults as faults
 use Rattle.document_store.specs.Texts.{Document}
 use Rattle.scheme_model.specs.Answers.{drawn_in}
 use Rattle.document_units.specs.Listed.{of_stop, told_in}
-use Rattle.document_units.specs.Readings.{Read, Reads, Stops, IsReadAs}
+use Rattle.document_units.specs.Readings.{Read, Reads, Stops, IsReadAs, uri_of}
 use Rattle.program_answers.specs.ToldAnswers.{arrow_told, facts_in}
 use Rattle.program_answers.specs.declared.publications.Published.{Published}
 use Rattle.command_lines.specs.Diagnostics.{diagnostic_line, diagnostic_lines}
@@ -38,6 +38,10 @@ input_name = codes "input"
 abbrev pub alone : List ℕ → List (List ℕ × Document)
 alone text = (input_name, (pos 0, text)) ∷ []
 
+-- how it reads
+abbrev pub IsReadAlone : List ℕ → Read → Type 0
+IsReadAlone text r = IsReadAs text r × (uri_of r ≡ input_name)
+
 -- its arrows, where it is read so, with columns in UTF-16
 abbrev pub arrows_alone : List ℕ → Read → List Arrow
 arrows_alone text r = map (arrow_told Utf16 (alone text)) (drawn_in (facts_in (r ∷ [])) 0)
@@ -47,14 +51,14 @@ pub record AreLines (text output : List ℕ) : Type 0 where
   pub utf8 : IsUtf8 text
   pub items : List Datum
   pub spans : List Span
-  pub reads : IsReadAs text (Reads items spans)
-  pub lines : output ≡ lines_of (arrows_alone text (Reads items spans))
+  pub reads : IsReadAlone text (Reads input_name items spans)
+  pub lines : output ≡ lines_of (arrows_alone text (Reads input_name items spans))
 
 -- its reading stops, and this is the line of the diagnostic that says where and why
 pub record IsStopLine (text output : List ℕ) : Type 0 where
   pub utf8 : IsUtf8 text
   pub stop : faults.Stop
-  pub stops : IsReadAs text (Stops stop)
+  pub stops : IsReadAlone text (Stops input_name stop)
   pub line : output ≡ diagnostic_line input_name (told_in Utf16 text (of_stop 0 stop))
 
 -- it isn't UTF-8, and this is the line for such texts

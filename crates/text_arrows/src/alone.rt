@@ -5,10 +5,10 @@ ghost use Rattle.std.specs.String.{string_bytes};
 ghost use Rattle.ls_base.specs.Limits.{max_text};
 ghost use Rattle.ls_base.specs.declared.answers.Arrow as drawn;
 ghost use Rattle.ls_base.specs.declared.encoding.Encoding.{Encoding};
-ghost use Rattle.document_units.specs.Readings.{Read, IsReadAs};
+ghost use Rattle.document_units.specs.Readings.{Read};
 ghost use Rattle.program_expansion.specs.UsesInTurn.{uses_in};
 ghost use Rattle.text_arrows.specs.Alone.{HoldsAlone, HoldsText, IsDrawn, IsTold};
-ghost use Rattle.text_arrows.specs.Printed.{lines_of};
+ghost use Rattle.text_arrows.specs.Printed.{IsReadAlone, lines_of};
 
 use crate::printing::{lines, published_lines};
 use ls_base::{Answer, Items, Mem, Pos, Query, Steps, Text};
@@ -37,7 +37,7 @@ pub fn answer_to<L: Ledger>(alloc: Global, text: &str, steps: &mut Steps<L>) -> 
     requires { length text.now ≤ max_text }
     ensures told { IfOk result (IsTold text.now) }
     // The macro uses are counted of the program that the text is.
-    ensures steps { (r : Read) → IsReadAs text.now r → OnOk result (steps.new ≡ steps.old + uses_in (r ∷ [])) }
+    ensures steps { (r : Read) → IsReadAlone text.now r → OnOk result (steps.new ≡ steps.old + uses_in (r ∷ [])) }
 {
     let mut workspace = Workspace::new(alloc)?;
     let lists = open(alloc, &mut workspace, text, steps)?;
@@ -70,7 +70,7 @@ fn open<L: Ledger>(
     requires encoding { workspace.old.encoding ≡ Encoding.Utf16 }
     requires short { length text.now ≤ max_text }
     ensures holds { IfOk result (HoldsAlone text.now workspace.new) }
-    ensures steps { (r : Read) → IsReadAs text.now r → OnOk result (steps.new ≡ steps.old + uses_in (r ∷ [])) }
+    ensures steps { (r : Read) → IsReadAlone text.now r → OnOk result (steps.new ≡ steps.old + uses_in (r ∷ [])) }
 {
     let event = DocEvent::Added {
         uri: Text::of(alloc, INPUT)?,

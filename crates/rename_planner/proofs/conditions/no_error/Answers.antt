@@ -4,7 +4,7 @@ use Rattle.std.proofs.lemmas.List.{take_all}
 use Rattle.scheme_model.specs.Diagnostics.{Diagnostic}
 use Rattle.scheme_model.specs.Program.{result_at, units_of}
 use Rattle.scheme_tokens.specs.LibraryNames.{library_text}
-use Rattle.document_units.specs.Readings.{data_in, program_in}
+use Rattle.document_units.specs.Readings.{documents_in, program_in}
 use Rattle.document_units.specs.UnitFindings.{first_error_at}
 use Rattle.program_answers.specs.Placed.{IsErrorAt}
 use Rattle.rename_conditions.specs.Renames.{broken, first_of, unless}
@@ -24,7 +24,7 @@ returns-in-Some c = λ rs are.
     let u = get_or units i 0 in
     let lt : i < length units = omega arith in
     let at : result_at (program_in rs).units u ≡ slice_get (program_in rs).units u =
-    at_number c.args.ws.now.expansion.work library_text (map (λ d. d.0) ds) (units_of (map data_in rs)) (program_in rs) u c.program-program.result.now.units (program_in rs).units (c.program-program.ensures.of_texts rs are) in
+    at_number c.args.ws.now.expansion.work library_text (map (λ d. d.0) ds) (units_of (documents_in rs)) (program_in rs) u c.program-program.result.now.units (program_in rs).units (c.program-program.ensures.of_texts rs are) in
     let told = subst (IsErrorAt e ds (first_error_at rs (program_in rs) (slice_get (program_in rs).units u))) c.in-Some.is (c.in_ok-place.ensures.exact rs are) in
     subst (λ (xs : List Diagnostic). ComesTo {B = Unit {0}} e ds Holds (unless (first_of xs) broken) (Err (faults.BrokenUnit c.in-Some.field-0.place c.in-Some.field-0.code)))
     (sym (found_first (read_as ds rs) units i u lt (any_default units i 0 u lt) (c.loop-unit.invariant rs are)))
@@ -39,7 +39,7 @@ loop-unit-preserved c = λ rs are.
     let u = get_or units i 0 in
     let lt : i < length units = omega arith in
     let at : result_at (program_in rs).units u ≡ slice_get (program_in rs).units u =
-    at_number c.args.ws.now.expansion.work library_text (map (λ d. d.0) ds) (units_of (map data_in rs)) (program_in rs) u c.program-program.result.now.units (program_in rs).units (c.program-program.ensures.of_texts rs are) in
+    at_number c.args.ws.now.expansion.work library_text (map (λ d. d.0) ds) (units_of (documents_in rs)) (program_in rs) u c.program-program.result.now.units (program_in rs).units (c.program-program.ensures.of_texts rs are) in
     let told = subst (IsErrorAt e ds (first_error_at rs (program_in rs) (slice_get (program_in rs).units u))) c.in_default.is (c.in_ok-place.ensures.exact rs are) in
     none_more (read_as ds rs) units i u lt (any_default units i 0 u lt) (c.loop-unit.invariant rs are) (no_errors e ds rs u at told)
 

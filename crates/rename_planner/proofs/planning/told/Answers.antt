@@ -7,7 +7,7 @@ use Rattle.scheme_model.specs.Program.{units_of}
 use Rattle.scheme_model.specs.Spelling.{is_member}
 use Rattle.scheme_tokens.specs.LibraryNames.{library_text}
 use Rattle.document_store.specs.Texts.{Document}
-use Rattle.document_units.specs.Readings.{data_in, program_in}
+use Rattle.document_units.specs.Readings.{documents_in, program_in}
 use Rattle.program_answers.specs.ToldAnswers.{facts_in}
 use Rattle.text_edits.specs.Edits.{Edit}
 use Rattle.text_edits.specs.Views.{occ_cmp}
@@ -37,8 +37,8 @@ returns-clause-exact c = λ rs o stem are is named same.
           ∙ edited_same ds rs o stem are;
       members = λ x. ap (λ (os : List Occ). is_member os x) (rw c.as_slice.ensures at c.in_ok-class.ensures) ∙ parts_members links o c.args.class.now.parts is.parts x;
       exports = (rw c.as_slice-2.ensures at c.in_ok-exports.ensures)
-          ∙ changes_same (read_as ds rs) o stem name named c.args.ws.now.expansion.work library_text (map (λ d. d.0) ds) (units_of (map data_in rs)) (program_in rs) c.program.result.now.units refl
-          (c.program.ensures.of_texts rs are) (exports_are_given (map data_in rs));
+          ∙ changes_same (read_as ds rs) o stem name named c.args.ws.now.expansion.work library_text (map (λ d. d.0) ds) (units_of (documents_in rs)) (program_in rs) c.program.result.now.units refl
+          (c.program.ensures.of_texts rs are) (exports_are_given (documents_in rs));
     }
 
 pub returns-clause-tried : goal.returns-clause-tried
