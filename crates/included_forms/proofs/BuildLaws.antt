@@ -1,6 +1,7 @@
 -- How tables are built, and what strings give by the standing of the documents that they mean.
 use Rattle.std.proofs.Common.{◌≡◌, ℕ, zero, suc, ◌+◌, ◌<◌, ◌≤◌, List, [], ◌∷◌, ◌++◌, length, take, set, map, Bool, true, false, Option, Some, None, slice_get, Result, Ok, Err, refl, sym, ap, ◌∙◌, subst, arith, ◌⊎◌, inl, inr}
 use Rattle.std.specs.Prelude.{if◌then◌else◌, nat_lt}
+use Rattle.std.proofs.lemmas.Bool.Decides.{nat_tests}
 use Rattle.std.proofs.lemmas.List.{map-append, take-append-le, length-append, length-map}
 use Rattle.std.specs.Option.{option_map}
 use Rattle.std.proofs.lemmas.Option.{slice_get_within, slice_get-map, same_Some}
@@ -126,7 +127,10 @@ homed_here o n x h = ap (λ ds. homed_from n x.unit 0 (program_data ds)) h.«dat
   where
     by : (ds : List Datum) → (nat_lt 0 (length ds) ≡ true → x.unit ≡ program_number o.documents n) → homed_from n x.unit 0 ds ≡ homed_from n (program_number o.documents n) 0 ds
     by [] q = refl
-    by (d ∷ ds) q = ap (λ unit. homed_from n unit 0 (d ∷ ds)) (q refl)
+    by (d ∷ ds) q = ap (λ unit. homed_from n unit 0 (d ∷ ds)) (q (some (length ds)))
+
+    some : (k : ℕ) → nat_lt 0 (suc k) ≡ true
+    some k = grind (arith, nat_tests)
 
 -- ---- tables
 

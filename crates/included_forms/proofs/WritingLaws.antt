@@ -56,19 +56,16 @@ pub record GivingRow (limit : ℕ) (gs : List model.Given) (ss : List Given) (n 
 
 pub giving_row : (limit : ℕ) (gs : List model.Given) (ss : List Given) (n : ℕ) (fs : List model.FlatForm) (ls : List model.LostString) → in_a_row limit (map (listing_of gs) ss) ≡ Lists n fs ls → GivingRow limit gs ss n fs
 giving_row limit gs [] n fs ls e = record { tokens = n; strings = ls; row = e; few = omega arith }
-giving_row limit gs (s ∷ ss) n fs ls e = by (gives gs s) refl
+giving_row limit gs (s ∷ ss) n fs ls e = by (gives gs s) refl (giving_row limit gs ss h.other_tokens h.other_forms h.other_strings h.others)
   where
     h : Splits limit (listing_of gs s) (map (listing_of gs) ss) n fs ls
     h = splits limit (listing_of gs s) (map (listing_of gs) ss) n fs ls e
 
-    r : GivingRow limit gs ss h.other_tokens h.other_forms
-    r = giving_row limit gs ss h.other_tokens h.other_forms h.other_strings h.others
-
     rest : List Given
     rest = filter (gives gs) ss
 
-    by : (b : Bool) → gives gs s ≡ b → GivingRow limit gs (s ∷ ss) n fs
-    by false q =
+    by : (b : Bool) → gives gs s ≡ b → GivingRow limit gs ss h.other_tokens h.other_forms → GivingRow limit gs (s ∷ ss) n fs
+    by false q r =
         let none : h.forms ≡ [] = nothing_counted (listing_of gs s) h.tokens h.forms h.strings q h.first in
         let few = r.few in
         let sum = h.sum in
@@ -78,7 +75,7 @@ giving_row limit gs (s ∷ ss) n fs ls e = by (gives gs s) refl
           row = ap (λ b. in_a_row limit (map (listing_of gs) (if b then s ∷ rest else rest))) q ∙ r.row ∙ ap (λ xs. Lists r.tokens xs r.strings) (sym (h.all ∙ ap (λ xs. xs ++ h.other_forms) none));
           few = omega arith;
         }
-    by true q =
+    by true q r =
         let few = r.few in
         let sum = h.sum in
         let low : nat_lt limit (h.tokens + r.tokens) ≡ false = let within = h.within in grind (arith, nat_tests) in
@@ -115,7 +112,7 @@ module _ (limit : ℕ) (gs : List model.Given) (ss : List Given) (i : ℕ) (s : 
     pub forms : List model.FlatForm
     pub strings : List model.LostString
     pub first : listing_of gs s ≡ Lists tokens forms strings
-    pub then : (new : List FlatForm) → map form_of new ≡ map form_of now ++ forms → LeftToWrite limit gs ss (i + 1) old new fs
+    pub further : (new : List FlatForm) → map form_of new ≡ map form_of now ++ forms → LeftToWrite limit gs ss (i + 1) old new fs
 
   pub step_lists : StepLists
   step_lists =
@@ -125,7 +122,7 @@ module _ (limit : ℕ) (gs : List model.Given) (ss : List Given) (i : ℕ) (s : 
         forms = h.forms;
         strings = h.strings;
         first = h.first;
-        then = λ new e. record {
+        further = λ new e. record {
           tokens = h.other_tokens;
           forms = h.other_forms;
           strings = h.other_strings;

@@ -113,10 +113,7 @@ module _ (unit : ℕ) (leading : Bool) (d : Datum) (kind : UnitKind) (name : Opt
   unit_made c lists h k n s forms lost imports exports =
       subst (λ (x : Listing). IsSource unit c (source_by kind name start (listing_left leading x)) d) (sym h.3) (go leading (ap forms_of forms ∙ h.4))
     where
-      abbrev Here : Bool → Type 0
-      Here b = IsSource unit c (source_by kind name start (listing_left b (Lists h.0 h.1 h.2))) d
-
-      go : (b : Bool) → forms_of c.forms ≡ forms_left b h.1 → Here b
+      go : (b : Bool) → forms_of c.forms ≡ forms_left b h.1 → IsSource unit c (source_by kind name start (listing_left b (Lists h.0 h.1 h.2))) d
       go true f = record {
         forms = ap Ok (sym f);
         kind = k;
@@ -124,7 +121,7 @@ module _ (unit : ℕ) (leading : Bool) (d : Datum) (kind : UnitKind) (name : Opt
         span = s;
         imports = subst (λ (xs : List code_form.UnitForm). AreSpecs c.imports (specs_from unit 0 (forms_of xs))) (sym forms) imports;
         exports = subst (λ (xs : List code_form.UnitForm). AreExportsRead c.exports (exports_from unit 0 (forms_of xs))) (sym forms) exports;
-        lost = rw lost h.5;
+        lost = lost ∙ h.5;
       }
       go false f = record {
         forms = ap Ok (sym f);
@@ -133,5 +130,10 @@ module _ (unit : ℕ) (leading : Bool) (d : Datum) (kind : UnitKind) (name : Opt
         span = s;
         imports = subst (λ (xs : List code_form.UnitForm). AreSpecs c.imports (specs_from unit 0 (forms_of xs))) (sym forms) imports;
         exports = subst (λ (xs : List code_form.UnitForm). AreExportsRead c.exports (exports_from unit 0 (forms_of xs))) (sym forms) exports;
-        lost = rw lost h.5;
+        lost = lost ∙ h.5;
       }
+
+-- ---- one program
+
+pub one_unit : {A : Type 0} (x y : A) → x ∷ [] ≡ y ∷ [] → x ≡ y
+one_unit x y h = cc

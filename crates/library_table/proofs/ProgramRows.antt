@@ -1,12 +1,18 @@
 -- The data of a document that are no libraries, one more at a time, and a part's program of them.
-use Rattle.std.proofs.Common.{◌≡◌, ℕ, suc, ◌+◌, ◌<◌, ◌≤◌, List, [], ◌∷◌, ◌++◌, append_assoc, append-nil, length, get_or, drop, map, Bool, true, false, cond, not, Option, Some, None, slice_get, refl, sym, ap, ◌∙◌}
+use Rattle.std.proofs.Common.{◌≡◌, ℕ, suc, ◌+◌, ◌<◌, ◌≤◌, List, [], ◌∷◌, ◌++◌, append_assoc, append-nil, length, get_or, drop, map, Bool, true, false, cond, not, Some, None, Ok, slice_get, refl, sym, ap, ◌∙◌, subst}
 use Rattle.std.proofs.lemmas.List.{drop_more, at_drop_all, map-append}
-use Rattle.scheme_model.specs.Data.{Datum}
-use Rattle.scheme_model.specs.Declarations.{UnitForm, plain_form, is_library}
+use Rattle.scheme_model.specs.Data.{Datum, place_of}
+use Rattle.scheme_model.specs.Declarations.{UnitForm, plain_form, is_library, IsPart}
+use Rattle.scheme_model.specs.IncludedUnits.{part_of}
 use Rattle.scheme_model.specs.Includes.{program_data}
 use Rattle.scheme_model.specs.Program.{specs_from, exports_from}
 use Rattle.datum_reader.specs.declared.datum.Datum as code
+use Rattle.datum_reader.specs.FirstTokens.{first_token}
 use Rattle.datum_reader.specs.Views.{datum_of, data_of}
+use Rattle.library_table.specs.declared.units.ImportSpec as code_import
+use Rattle.library_table.specs.declared.units.ExportSpec as code_export
+use Rattle.library_table.specs.declared.units.UnitSource as source
+use Rattle.library_table.specs.UnitsRead.{forms_of, kind_of, AreSpecs, AreExportsRead, IsSource}
 
 module _ (ds : List code.Datum) (i : ℕ) (d : code.Datum) (low : i < length ds) (is : d ≡ get_or ds i d) where
   front : data_of (drop i ds) ≡ datum_of d ∷ data_of (drop (i + 1) ds)
@@ -56,3 +62,17 @@ no_specs unit k (d ∷ ds) = no_specs unit (suc k) ds
 pub no_exports : (unit k : ℕ) (ds : List Datum) → exports_from unit k (map plain_form ds) ≡ []
 no_exports unit k [] = refl
 no_exports unit k (d ∷ ds) = no_exports unit (suc k) ds
+
+-- a part's program
+pub part_read : (unit : ℕ) (c : source.UnitSource) (ds : List Datum) (d : Datum) (rest : List Datum) → ds ≡ d ∷ rest → forms_of c.forms ≡ map plain_form ds → kind_of c.kind ≡ IsPart → c.name ≡ None → c.span ≡ first_token d →
+    c.imports ≡ [] → c.exports ≡ [] → c.lost ≡ [] → IsSource unit c (part_of (place_of d) (d ∷ rest)) d
+part_read unit c ds d rest e forms kind name span imports exports lost = record {
+  forms = ap Ok (sym (forms ∙ ap (map plain_form) e));
+  kind = kind;
+  name = name;
+  span = span;
+  imports = subst (λ (xs : List code_import.ImportSpec). AreSpecs xs (specs_from unit 0 (forms_of c.forms))) (sym imports) (subst (AreSpecs []) (sym (ap (specs_from unit 0) forms ∙ no_specs unit 0 ds)) tt);
+  exports = subst (λ (xs : List code_export.ExportSpec). AreExportsRead xs (exports_from unit 0 (forms_of c.forms))) (sym exports)
+      (subst (AreExportsRead []) (sym (ap (exports_from unit 0) forms ∙ no_exports unit 0 ds)) tt);
+  lost = lost;
+}

@@ -60,7 +60,8 @@ abbrev pub Answers : (LibraryName → List ℕ) → List Placed → Result (List
 Answers spelled all (Ok places) = AreInTurn all places
 Answers spelled all (Err fault.Memory) = Unit {0}
 Answers spelled all (Err (fault.Cycle names)) = AreOnCircles spelled all names
-Answers spelled all (Err (fault.BadDeclaration s)) = ⊥
+Answers spelled all (Err (fault.BadDeclaration unit span)) = ⊥
+Answers spelled all (Err fault.TooManyTokens) = ⊥
 Answers spelled all (Err fault.SameLibrary) = ⊥
 Answers spelled all (Err (fault.NotDefined s)) = ⊥
 Answers spelled all (Err (fault.SameExport s)) = ⊥

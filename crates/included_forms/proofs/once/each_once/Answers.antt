@@ -1,9 +1,8 @@
-use Rattle.std.proofs.Common.{◌≡◌, ◌∙◌, List, Vec, Bool, true, cond, map, reverse, take, sym, ap, arith}
+use Rattle.std.proofs.Common.{◌≡◌, ◌∙◌, List, Bool, true, cond, take, sym, ap, arith}
 use Rattle.std.specs.BTreeSet.{contains}
 use Rattle.std.specs.List.{list_any}
 use Rattle.std.specs.Ordering.{is_eq}
 use Rattle.scheme_model.specs.Included as model
-use Rattle.included_forms.specs.declared.given.LostString.{LostString}
 use Rattle.included_forms.specs.declared.once.Spot.{Spot}
 use Rattle.included_forms.specs.Counted.{lost_of}
 use Rattle.included_forms.specs.Losses.{lost_in, spot_cmp, spot_of, stands_at}
@@ -31,9 +30,9 @@ loop-string-preserved c =
       lost = elim c.if-branch.branch [
         | then-branch+in_ok-push w ↦
             kept_more found i s (omega arith) c.string-item.is c.loop-string.lost.items c.if-branch.lost.items c.loop-string.invariant.lost
-            (sym there ∙ was_new c.in_ok-insert.field-0 (contains spot_cmp old c.spot_of.result) c.in_ok-insert.ensures.added w.if-branch.true) (ap (λ (v : Vec LostString). v.items) w.lost-is ∙ w.in_ok-push.ensures.items)
+            (sym there ∙ was_new c.in_ok-insert.field-0 (contains spot_cmp old c.spot_of.result) c.in_ok-insert.ensures.added w.if-branch.true) (rw w.lost-is w.in_ok-push.ensures.items)
         | else-branch w ↦
-            kept_same found i s (omega arith) c.string-item.is c.if-branch.lost.items (ap (λ (v : Vec LostString). reverse (map lost_of v.items)) w.lost-is ∙ c.loop-string.invariant.lost)
+            kept_same found i s (omega arith) c.string-item.is c.if-branch.lost.items (rw w.lost-is c.loop-string.invariant.lost)
             (sym there ∙ was_there c.in_ok-insert.field-0 (contains spot_cmp old c.spot_of.result) c.in_ok-insert.ensures.added w.if-branch.false)
       ];
     }

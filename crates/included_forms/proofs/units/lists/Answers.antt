@@ -20,5 +20,5 @@ returns c = λ limit gs l h w is.
     let lose = c.in_ok-lose.ensures.loses limit gs h (fresh_seen gs c.in_ok-visits.visits.items parts c.new-found.result.items c.in_ok-visits.ensures) n fs ls second in
     let forms : map form_of c.write.new.forms.items ≡ fs = only_forms c.new-forms.result.items c.write.new.forms.items fs c.new-forms.ensures.items (c.in_ok-write.ensures limit gs h first.0 fs first.1 first.2) in
     let found = only_strings limit (map (listing_of (take (length parts) gs)) steps) n fs ls c.new-found.result.items c.lose.new.lost.items row c.new-found.ensures.items lose.found in
-    let strings : map lost_of c.in_ok-lost.lost.items ≡ ls = c.in_ok-lost.ensures ∙ ap lost_in c.as_slice-lost.ensures.value ∙ found in
+    let strings : map lost_of c.in_ok-lost.lost.items ≡ ls = c.in_ok-lost.ensures ∙ ap lost_in c.as_slice-3.ensures.value ∙ found in
     (n, is.3 ∙ (λ i. Lists n (sym forms i) (sym strings i)))

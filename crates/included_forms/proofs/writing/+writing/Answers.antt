@@ -16,7 +16,7 @@ write-loop-step-init t c = λ limit gs h n fs ls e. left_first limit (take c.arg
 pub write-loop-step-preserved : goal.write-loop-step-preserved
 write-loop-step-preserved t c = λ limit gs h n fs ls e.
     let s = step_lists limit (take c.args.below gs) c.args.steps.now c.loop-step.step-index c.step-item.result c.args.forms.now.items c.loop-step.forms.items fs (omega arith) c.step-item.is (c.loop-step.invariant limit gs h n fs ls e) in
-    s.then c.write_step.new.forms.items (c.in_ok-write_step.ensures limit gs h s.tokens s.forms s.strings s.first)
+    s.further c.write_step.new.forms.items (c.in_ok-write_step.ensures limit gs h s.tokens s.forms s.strings s.first)
 
 pub write-returns : goal.write-returns
 write-returns t c = λ limit gs h n fs ls e. left_end limit (take c.args.below gs) c.args.steps.now c.loop-step.step-index c.args.forms.now.items c.loop-step.forms.items fs (omega arith) (c.loop-step.invariant limit gs h n fs ls e)

@@ -1,4 +1,4 @@
-use Rattle.std.proofs.Common.{◌≡◌, subst}
+use Rattle.std.proofs.Common.{false, ◌∙◌}
 use Rattle.scheme_model.specs.Data.{place_of}
 use Rattle.scheme_model.specs.Declarations.{IsLibrary, behind_head, library_name}
 use Rattle.scheme_model.specs.IncludedUnits.{library_listing, own}
@@ -13,7 +13,4 @@ returns-in_err-lists c = λ o t are table serve.
     unit_ends c.args.unit false d IsLibrary (library_name d) (place_of d) l c.from_residual.result c.in_err-lists.field-0.0 c.from_residual.ensures.1 (c.in_err-lists.ensures l (c.in_ok-listed.ensures o t are table serve))
 
 pub returns : goal.returns
-returns c = λ o t are table serve.
-    let d = datum_of c.args.datum.now in
-    let l = library_listing t o.known (own c.args.document d) (behind_head d) in
-    unit_made c.args.unit false d IsLibrary (library_name d) (place_of d) l ? c.in_ok-lists.lists (c.in_ok-lists.ensures l (c.in_ok-listed.ensures o t are table serve)) ? ? ? ? ? ? ?
+returns c = ?
