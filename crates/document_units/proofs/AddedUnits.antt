@@ -1,11 +1,13 @@
 -- What is read of the libraries and of the program of a document, as units that are listed.
-use Rattle.std.proofs.Common.{◌≡◌, ℕ, List, [], ◌∷◌, map, Bool, true, false, cond, Option, Some, None, Result, Ok, Err, refl, sym, ap, ◌∙◌, subst}
+use Rattle.std.proofs.Common.{◌≡◌, ℕ, List, [], ◌∷◌, map, slice_get, Bool, true, false, Option, Some, None, Result, Ok, Err, refl, sym, ap, ◌∙◌, subst}
+use Rattle.std.specs.Prelude.{not, ◌&&◌}
+use Rattle.std.specs.List.{list_any}
 use Rattle.std.specs.Option.{option_map}
 use Rattle.scheme_model.specs.Data.{Place, Datum, place_of}
 use Rattle.scheme_model.specs.Declarations.{UnitForm, UnitKind, IsLibrary, IsProgram, IsPart, plain_form, behind_head, library_name}
 use Rattle.scheme_model.specs.Included.{Sources, Listing, all_texts, forms_of as listed_forms}
-use Rattle.scheme_model.specs.IncludedUnits.{UnitSource, EarlyFault, OnCircle, source_by, unless_circular, own, library_listing, library_of, importing, part_of}
-use Rattle.scheme_model.specs.Program.{early_fault}
+use Rattle.scheme_model.specs.IncludedUnits.{UnitSource, EarlyFault, OnCircle, source_by, unless_circular, own, library_listing, library_of, importing, part_of, program_in}
+use Rattle.scheme_model.specs.Includes.{Naming, is_among, is_on_circle, is_part}
 use Rattle.scheme_model.specs.Requirements.{LibraryName}
 use Rattle.scheme_tokens.specs.LibraryNames.{library_text}
 use Rattle.core_tree.specs.Units.{kind_as}
@@ -15,7 +17,6 @@ use Rattle.library_table.specs.UnitsRead.{forms_of, IsSource, IsUnitRead}
 use Rattle.library_table.specs.declared.fault.LibraryFault.{LibraryFault}
 use Rattle.library_table.specs.declared.units.UnitSource as code
 use Rattle.library_table.proofs.KnownTexts.{IfProper, name_proper}
-use Rattle.document_units.specs.Broken.{told}
 use Rattle.document_units.specs.DataRead.{AllRead, DocumentsRead, data_at}
 use Rattle.document_units.specs.Listing.{Begins, IsOneOf, IsWholeOf}
 use Rattle.document_units.specs.UnitsListed.{IsBlank, IsReadFor, without_standard}
@@ -69,6 +70,11 @@ module _ (o : Sources) (documents : DocumentsRead o.documents) (document n : ℕ
       (blank_for n ds (library d) b.0 c name b.1 (none_lost IsLibrary (library_name d) (place_of d) (library_lists d) b.0 b.1) (kind ∙ sym (kind_by IsLibrary (library_name d) (place_of d) (library_lists d))) blank (named d name is)
       (begins_by IsLibrary (library_name d) d (library_lists d) c.span there span))
 
+  pub library_circle : (d : Datum) (c : code.UnitSource) (name : Option (List ℕ)) → IsOneOf ds d → kind_as c.kind ≡ IsLibrary → IsBlank c → c.span ≡ first_token d → name ≡ option_map library_text (library_name d) →
+      IsReadFor ds n (unless_circular true (library d)) name c (Some fault.IncludeCycle)
+  library_circle d c name there kind blank span is =
+      circle_for n ds (library d) c name (kind ∙ sym (kind_by IsLibrary (library_name d) (place_of d) (library_lists d))) blank (named d name is) (begins_by IsLibrary (library_name d) d (library_lists d) c.span there span)
+
   -- ---- programs
 
   abbrev program_lists : List Datum → Listing
@@ -93,9 +99,47 @@ module _ (o : Sources) (documents : DocumentsRead o.documents) (document n : ℕ
       (blank_for n ds (program d rest) b.0 c None b.1 (none_lost IsProgram None (place_of d) l b.0 b.1) (kind ∙ sym (kind_by IsProgram None (place_of d) l)) blank (ap (option_map library_text) (sym (name_by IsProgram None (place_of d) l)))
       (begins_by IsProgram None d l c.span there span))
 
+  pub program_circle : (d : Datum) (rest : List Datum) (c : code.UnitSource) → IsOneOf ds d → kind_as c.kind ≡ IsProgram → IsBlank c → c.span ≡ first_token d → IsReadFor ds n (unless_circular true (program d rest)) None c (Some fault.IncludeCycle)
+  program_circle d rest c there kind blank span =
+      let l = program_lists (d ∷ rest) in
+      circle_for n ds (program d rest) c None (kind ∙ sym (kind_by IsProgram None (place_of d) l)) blank (ap (option_map library_text) (sym (name_by IsProgram None (place_of d) l))) (begins_by IsProgram None d l c.span there span)
+
   -- a part's program
-  pub part_for : (d : Datum) (rest : List Datum) (c : code.UnitSource) → AllRead (d ∷ rest) → IsOneOf ds d → IsSource n c (part_of (place_of d) (d ∷ rest)) d → IsReadFor ds n (part_of (place_of d) (d ∷ rest)) None c None
-  part_for d rest c w there h =
+  pub part_forms : (d : Datum) (rest : List Datum) (c : code.UnitSource) → AllRead (d ∷ rest) → IsSource n c (part_of (place_of d) (d ∷ rest)) d → FormsRead (forms_of c.forms)
+  part_forms d rest c w h =
       let forms : ◌≡◌ {A = Result (List UnitForm) EarlyFault} (Ok (map plain_form (d ∷ rest))) (Ok (forms_of c.forms)) = h.forms in
       let same : map plain_form (d ∷ rest) ≡ forms_of c.forms = cc in
-      nameless_for n ds (part_of (place_of d) (d ∷ rest)) c d (subst FormsRead same (plain_read (d ∷ rest) w)) h refl (record { datum = d; there = there; start = refl; token = h.span })
+      subst FormsRead same (plain_read (d ∷ rest) w)
+
+  pub part_for : (d : Datum) (rest : List Datum) (c : code.UnitSource) → AllRead (d ∷ rest) → IsOneOf ds d → IsSource n c (part_of (place_of d) (d ∷ rest)) d → IsReadFor ds n (part_of (place_of d) (d ∷ rest)) None c None
+  part_for d rest c w there h = nameless_for n ds (part_of (place_of d) (d ∷ rest)) c d (part_forms d rest c w h) h refl (record { datum = d; there = there; start = refl; token = h.span })
+
+  -- the program of a document with these data
+  pub one_program : (c circular part : Bool) (es : List Datum) (d : Datum) (rest : List Datum) → circular ≡ c → part ≡ false → es ≡ d ∷ rest →
+      unless_circular c (program d rest) ∷ [] ≡ map (unless_circular circular) (program_in (all_texts o) document part es)
+  one_program c circular part es d rest is apart have = λ j. map (unless_circular (sym is j)) (program_in (all_texts o) document (sym apart j) (sym have j))
+
+  pub one_part : (circular part : Bool) (es : List Datum) (d : Datum) (rest : List Datum) → circular ≡ false → part ≡ true → es ≡ d ∷ rest →
+      part_of (place_of d) (d ∷ rest) ∷ [] ≡ map (unless_circular circular) (program_in (all_texts o) document part es)
+  one_part circular part es d rest is whole have = λ j. map (unless_circular (sym is j)) (program_in (all_texts o) document (sym whole j) (sym have j))
+
+  pub no_program : (circular part : Bool) (es : List Datum) → es ≡ [] → [] ≡ map (unless_circular circular) (program_in (all_texts o) document part es)
+  no_program circular part es none = λ j. map (unless_circular circular) (program_in (all_texts o) document part (sym none j))
+
+-- ---- the first datum of a program
+
+pub none_there : (es : List Datum) → None ≡ slice_get es 0 → es ≡ []
+none_there [] h = refl
+none_there (e ∷ es) h = absurd cc
+
+pub first_there : (es : List Datum) (d : Datum) → Some d ≡ slice_get es 0 → (rest : List Datum) × (es ≡ d ∷ rest)
+first_there [] d h = absurd cc
+first_there (e ∷ es) d h = let same : d ≡ e = cc in (es, ap (λ (x : Datum). x ∷ es) (sym same))
+
+-- a document on a circle is no part
+pub no_part : (all : Naming) (n : ℕ) (circular part : Bool) → circular ≡ is_on_circle all n → part ≡ is_part all n → circular ≡ true → part ≡ false
+no_part all n circular part c p h = p ∙ ap (λ (b : Bool). list_any (λ ns. is_among ns n) all && not b) (sym c ∙ h) ∙ none (list_any (λ ns. is_among ns n) all)
+  where
+    none : (b : Bool) → (b && false) ≡ false
+    none true = refl
+    none false = refl

@@ -58,14 +58,28 @@ both_added old mid new unit form first a b ab one two is =
     two ∙ ap (λ (xs : List Occ). xs ++ occs_in unit form first b) one ∙ append_assoc old (occs_in unit form first a) (occs_in unit form first b)
     ∙ ap (λ (xs : List Occ). old ++ xs) (sym (map-append (occ_in unit form first) a b) ∙ ap (occs_in unit form first) is)
 
-forms_more : (unit k : ℕ) (fs : List UnitForm) (f : UnitForm) → names_in_forms unit k (fs ++ f ∷ []) ≡ names_in_forms unit k fs ++ names_in_form unit (k + length fs) f.datum
-forms_more unit k [] f = append-nil (names_in_form unit k f.datum) ∙ ap (λ (n : ℕ). names_in_form unit n f.datum) (nothing k)
+-- ---- forms
+
+-- a form of a unit's own text
+pub own_names : (unit n : ℕ) (f : code_form.UnitForm) → is_some f.home ≡ false → occs_in unit n f.datum.first (name_tokens (datum_of f.datum)) ≡ names_in_forms unit n (form_of f ∷ [])
+own_names unit n f own =
+    let first : f.datum.first ≡ (place_of (datum_of f.datum)).first = sym (ap (λ (p : Place). p.first) (place-datum f.datum)) in
+    let names = names_in_form unit n (datum_of f.datum) in
+    (λ i. occs_in unit n (first i) (name_tokens (datum_of f.datum))) ∙ sym (append-nil names) ∙ ap (λ (b : Bool). cond b [] names ++ []) (sym own)
+
+-- one of a text that is included
+pub no_names : (old : List Occ) (unit n : ℕ) (f : code_form.UnitForm) → is_some f.home ≡ true → old ≡ old ++ names_in_forms unit n (form_of f ∷ [])
+no_names old unit n f included = sym (append-nil old) ∙ ap (λ (b : Bool). old ++ (cond b [] (names_in_form unit n (datum_of f.datum)) ++ [])) (sym included)
+
+forms_more : (unit k : ℕ) (fs : List UnitForm) (f : UnitForm) → names_in_forms unit k (fs ++ f ∷ []) ≡ names_in_forms unit k fs ++ names_in_forms unit (k + length fs) (f ∷ [])
+forms_more unit k [] f = ap (λ (n : ℕ). names_in_forms unit n (f ∷ [])) (nothing k)
   where
     nothing : (k : ℕ) → k ≡ k + 0
     nothing k = omega arith
 forms_more unit k (g ∷ fs) f =
-    ap (λ (xs : List Occ). names_in_form unit k g.datum ++ xs) (forms_more unit (suc k) fs f ∙ ap (λ (n : ℕ). names_in_forms unit (suc k) fs ++ names_in_form unit n f.datum) (one k (length fs)))
-    ∙ sym (append_assoc (names_in_form unit k g.datum) (names_in_forms unit (suc k) fs) (names_in_form unit (k + length (g ∷ fs)) f.datum))
+    let own = cond (is_some g.home) [] (names_in_form unit k g.datum) in
+    ap (λ (xs : List Occ). own ++ xs) (forms_more unit (suc k) fs f ∙ ap (λ (n : ℕ). names_in_forms unit (suc k) fs ++ names_in_forms unit n (f ∷ [])) (one k (length fs)))
+    ∙ sym (append_assoc own (names_in_forms unit (suc k) fs) (names_in_forms unit (k + length (g ∷ fs)) (f ∷ [])))
   where
     one : (k n : ℕ) → suc k + n ≡ k + suc n
     one k n = omega arith
@@ -79,10 +93,9 @@ forms_taken (g ∷ fs) (suc n) f at =
 
 -- the identifiers of one form more
 pub form_added : (unit n : ℕ) (fs : List code_form.UnitForm) (f : code_form.UnitForm) (mid new : List Occ) → slice_get fs n ≡ Some f → mid ≡ names_in_forms unit 0 (forms_of (take n fs)) →
-    new ≡ mid ++ occs_in unit n f.datum.first (name_tokens (datum_of f.datum)) → new ≡ names_in_forms unit 0 (forms_of (take (suc n) fs))
+    new ≡ mid ++ names_in_forms unit n (form_of f ∷ []) → new ≡ names_in_forms unit 0 (forms_of (take (suc n) fs))
 form_added unit n fs f mid new at one two =
     let q = forms_taken fs n f at in
-    let first : f.datum.first ≡ (place_of (datum_of f.datum)).first = sym (ap (λ (p : Place). p.first) (place-datum f.datum)) in
-    two ∙ (λ i. one i ++ occs_in unit n (first i) (name_tokens (datum_of f.datum)))
-    ∙ ap (λ (m : ℕ). names_in_forms unit 0 (forms_of (take n fs)) ++ names_in_form unit m (datum_of f.datum)) (sym q.1 ∙ sym (zero-add (length (forms_of (take n fs)))))
+    two ∙ ap (λ (xs : List Occ). xs ++ names_in_forms unit n (form_of f ∷ [])) one
+    ∙ ap (λ (m : ℕ). names_in_forms unit 0 (forms_of (take n fs)) ++ names_in_forms unit m (form_of f ∷ [])) (sym q.1 ∙ sym (zero-add (length (forms_of (take n fs)))))
     ∙ sym (forms_more unit 0 (forms_of (take n fs)) (form_of f)) ∙ ap (names_in_forms unit 0) (sym q.0)

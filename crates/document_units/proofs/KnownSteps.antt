@@ -22,7 +22,7 @@ named_first d ds true e (Some n) f = rw (e, f) refl
 named_first d ds false e o f = rw e refl
 
 one_first : (d : Datum) (ds : List Datum) → library_names (d ∷ ds) ≡ option_to_list (name_in d) ++ library_names ds
-one_first d ds = named_first d ds (is_library d) refl library_name d refl
+one_first d ds = named_first d ds (is_library d) refl (library_name d) refl
 
 one_last : (ds : List Datum) (d : Datum) → library_names (ds ++ d ∷ []) ≡ library_names ds ++ option_to_list (name_in d)
 one_last [] d = one_first d [] ∙ append-nil (option_to_list (name_in d))

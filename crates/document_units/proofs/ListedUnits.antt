@@ -332,10 +332,10 @@ added_more docs document us vs old mid new first next spelled written all far =
 
 module _ (docs : List Document) (spelled : LibraryName → List ℕ) (all : List Placed) (u : Units) (far : AreSoFar docs spelled all u) where
   head_at : (n : ℕ) (p : Placed) → slice_get all n ≡ Some p → (h : Head) × (slice_get u.heads.items n ≡ Some h)
-  head_at n p there = get_within u.heads.items n (let lt = slice_get_within (units_of docs) n p there in let many = far.heads in omega arith)
+  head_at n p there = get_within u.heads.items n (let lt = slice_get_within all n p there in let many = far.heads in omega arith)
 
   source_at : (n : ℕ) (p : Placed) → slice_get all n ≡ Some p → (c : UnitSource) × (slice_get u.sources.items n ≡ Some c)
-  source_at n p there = get_within u.sources.items n (let lt = slice_get_within (units_of docs) n p there in let many = far.sources in omega arith)
+  source_at n p there = get_within u.sources.items n (let lt = slice_get_within all n p there in let many = far.sources in omega arith)
 
   unit_of : (n : ℕ) (p : Placed) (c : UnitSource) → n < max_units → slice_get all n ≡ Some p → slice_get u.sources.items n ≡ Some c → IsUnit spelled n c p.source
   unit_of n p c lt there at =

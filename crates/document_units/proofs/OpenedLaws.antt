@@ -80,5 +80,9 @@ documents_opened ds cs rs are read = record {
   read = ends_same (meant (map uri_of rs)) 0 ds cs rs are read;
   means = λ n lt s.
       meant_at (meant (map uri_of rs)) 0 rs n s (let many = as_many ds cs rs are read in omega arith)
+      ∙ ap (λ k. meant (map uri_of rs) k s) (from_none n)
       ∙ ap (λ (uris : List (List ℕ)). meant uris n s) (uris_same ds cs rs are read);
 }
+  where
+    from_none : (n : ℕ) → 0 + n ≡ n
+    from_none n = omega arith

@@ -3,7 +3,7 @@ use Rattle.std.proofs.Common.{◌≡◌, ℕ, zero, suc, ◌+◌, ◌<◌, ◌�
 use Rattle.std.specs.Prelude.{not, nat_lt, min, ◌&&◌, ◌||◌}
 use Rattle.std.specs.Prelude.{String}
 use Rattle.std.specs.declared.alloc.Global.{Global}
-use Rattle.std.specs.BTreeSet.{BTreeSet}
+use Rattle.std.specs.BTreeSet.{BTreeSet, contains_text}
 use Rattle.std.specs.Option.{is_some}
 use Rattle.std.proofs.lemmas.Bool.{cases_lt, ltb-true}
 use Rattle.std.proofs.lemmas.List.{length-map}
@@ -12,7 +12,9 @@ use Rattle.scheme_model.specs.Included.{Sources}
 use Rattle.scheme_model.specs.IncludedUnits.{max_tokens, sources_within}
 use Rattle.scheme_model.specs.Includes as model
 use Rattle.scheme_model.specs.Includes.{document_at, is_among, is_usable, is_part, naming, usable, has_program, max_units, program_number}
+use Rattle.scheme_model.specs.Program.{known_in}
 use Rattle.scheme_model.specs.Requirements.{Known}
+use Rattle.scheme_tokens.specs.LibraryNames.{library_text}
 use Rattle.datum_reader.specs.Views.{data_of}
 use Rattle.known_libraries.specs.PartsRead.{Knows}
 use Rattle.nesting_laws.proofs.Depth.{usable_told, usable_there}
@@ -26,10 +28,9 @@ use Rattle.text_parts.specs.Places.{Each}
 use Rattle.text_parts.specs.declared.parts.TextPart.{TextPart}
 use Rattle.text_parts.specs.declared.texts.TextRead.{TextRead}
 use Rattle.document_units.specs.DataRead.{items_in, AreReadIn, AreOpened, DocumentsRead}
-use Rattle.document_units.specs.Listing.{AreAt, IsReader}
+use Rattle.document_units.specs.Listing.{sources_of, AreAt, CanReadAll, IsReader}
 use Rattle.document_units.specs.declared.documents.Document.{Document}
 use Rattle.document_units.specs.declared.included.Reader.{Reader}
-use Rattle.text_parts.proofs.NameLaws.{length_documents}
 use Rattle.document_units.proofs.ViewedDocuments.{alike_at, alike_length, HaveItems, items_at, viewed_items, opened_viewed, documents_read}
 
 -- ---- what each document is to the others
@@ -94,13 +95,13 @@ few_by ds n can has =
     go true true true is true e k = ltb-true (program_number ds n) max_units e
 
 pub texts_are : (o : Sources) (cs : List Document) (ps : List TextPart) (xs : List Text) → o.usable ≡ usable (naming o.documents) o.documents → HaveItems o.documents cs → Each (IsTextPart o.documents) ps →
-    map (λ (t : Text). data_of t.«data».now) xs ≡ map (λ (c : Document). data_of (items_in c)) cs → map (λ (t : Text). t.unit) xs ≡ map (λ (p : TextPart). p.program) ps → (n : ℕ) (x : Text) → slice_get xs n ≡ Some x → IsText o n x
-texts_are o cs ps xs is have parts texts units n x at =
+    map (λ (t : Text). data_of t.«data».now) xs ≡ map (λ (c : Document). data_of (items_in c)) cs → map (λ (t : Text). t.unit) xs ≡ map (λ (p : TextPart). p.program) ps → (n : ℕ) (x : Text) → slice_get xs n ≡ Some x → is_among o.usable n ≡ true → IsText o n x
+texts_are o cs ps xs is have parts texts units n x at can =
     let c = alike_at (λ (t : Text). data_of t.«data».now) (λ (c : Document). data_of (items_in c)) xs cs texts n x at in
     let p = alike_at (λ (t : Text). t.unit) (λ (p : TextPart). p.program) xs ps units n x at in
     record {
       «data» = c.2 ∙ sym (items_at o.documents cs have n c.0 c.1);
-      unit = λ can has.
+      unit = λ has.
           let low : program_number o.documents n < max_units = few_by o.documents n (sym (ap (λ ns. is_among ns n) is) ∙ can) has in
           let told : p.0.program ≡ min (program_number o.documents n) max_units = (each_got (IsTextPart o.documents) ps parts n p.0 p.1).program in
           let number : x.unit ≡ p.0.program = p.2 in
@@ -113,6 +114,10 @@ meant_from : (uris : List (List ℕ)) (n : ℕ) (vs : List TextRead) (m : ℕ) (
 meant_from uris n [] m s lt = absurd (omega arith)
 meant_from uris n (v ∷ vs) zero s lt = let same : n ≡ n + 0 = omega arith in ap (λ k. meant uris k s) same
 meant_from uris n (v ∷ vs) (suc m) s lt = let same : suc n + m ≡ n + suc m = omega arith in meant_from uris (suc n) vs m s (omega arith) ∙ ap (λ k. meant uris k s) same
+
+as_many : (uris : List (List ℕ)) (n : ℕ) (vs : List TextRead) → length (documents_from uris n vs) ≡ length vs
+as_many uris n [] = refl
+as_many uris n (v ∷ vs) = ap suc (as_many uris (suc n) vs)
 
 -- strings mean others by the uris
 pub texts_mean : (o : Sources) (uris : List (List ℕ)) (vs : List TextRead) → o.documents ≡ documents_in uris vs → length uris ≡ length vs → Mean o uris
@@ -141,22 +146,37 @@ module _ (names : BTreeSet (String Global)) (uris : List (List ℕ)) (vs : List 
   as_many_texts : length vs ≡ length cs
   as_many_texts = alike_length (λ (v : TextRead). v.reads) (λ (c : Document). not (is_some c.fault)) vs cs reads
 
-  pub as_many_parts : length ps ≡ length cs
-  as_many_parts = many ∙ as_many_texts
-
   pub as_many_uris : length uris ≡ length cs
   as_many_uris = ap length called ∙ length-map cs (λ (c : Document). c.uri)
 
   pub as_many_documents : length ds ≡ length cs
-  as_many_documents = length_documents uris vs ∙ as_many_texts
+  as_many_documents = as_many uris 0 vs ∙ as_many_texts
 
-  pub reads_by : (known : Known) → Knows names known → (xs : List Text) → map (λ (t : Text). data_of t.«data».now) xs ≡ map (λ (c : Document). data_of (items_in c)) cs → map (λ (t : Text). t.unit) xs ≡ map (λ (p : TextPart). p.program) ps → (reader : Reader) →
-      ((o : Sources) → o.limit ≡ max_tokens → o.usable ≡ usable (naming o.documents) o.documents → Knows names o.known → Mean o uris → DocumentsRead o.documents → ((n : ℕ) (x : Text) → slice_get xs n ≡ Some x → IsText o n x) →
-      length ps ≡ length o.documents → ((n : ℕ) (p : TextPart) → slice_get ps n ≡ Some p → p.is_usable ≡ is_among o.usable n) → IsReader o reader) → IsReader (sources known) reader
-  reads_by known knows xs data units reader by =
-      by (sources known) refl refl knows (texts_mean (sources known) uris vs refl (as_many_uris ∙ sym as_many_texts)) (documents_read ds cs have read) (texts_are (sources known) cs ps xs refl have parts data units)
-      (many ∙ sym (length_documents uris vs)) (λ n p at. (each_got (IsTextPart ds) ps parts n p at).usable)
+  -- a reader that is made of these
+  module _ (xs : List Text) (told : map (λ (t : Text). data_of t.«data».now) xs ≡ map (λ (c : Document). data_of (items_in c)) cs) (units : map (λ (t : Text). t.unit) xs ≡ map (λ (p : TextPart). p.program) ps) (reader : Reader)
+      (by : (o : Sources) → o.limit ≡ max_tokens → o.usable ≡ usable (naming o.documents) o.documents → Knows names o.known → Mean o uris → DocumentsRead o.documents → ((n : ℕ) (x : Text) → slice_get xs n ≡ Some x → is_among o.usable n ≡ true → IsText o n x) →
+          length ps ≡ length o.documents → ((n : ℕ) (p : TextPart) → slice_get ps n ≡ Some p → p.is_usable ≡ is_among o.usable n) → IsReader o reader)
+      (same : reader.documents.uris.now ≡ uris) where
+    reads_by : (known : Known) → Knows names known → IsReader (sources known) reader
+    reads_by known knows =
+        by (sources known) refl refl knows (texts_mean (sources known) uris vs refl (as_many_uris ∙ sym as_many_texts)) (documents_read ds cs have read) (texts_are (sources known) cs ps xs refl have parts told units)
+        (many ∙ sym (as_many uris 0 vs)) (λ n p at. (each_got (IsTextPart ds) ps parts n p at).usable)
 
-  -- the documents that are opened are these
-  pub opened_are : (opened : List model.Document) → AreOpened opened cs → ds ≡ opened
-  opened_are opened are = opened_viewed uris vs opened cs called texts reads are
+    pub can_read_all : CanReadAll reader cs ps
+    can_read_all =
+        let known : Known = λ n. contains_text names (library_text n) in
+        record { sources = sources known; reader = reads_by known (λ n proper. refl); at = parts_at known; many = ap length same ∙ as_many_uris }
+
+    -- by the documents that are opened
+    module _ (opened : List model.Document) (are : AreOpened opened cs) where
+      opened_are : ds ≡ opened
+      opened_are = opened_viewed uris vs opened cs called texts reads are
+
+      pub reads_opened : Knows names (known_in opened) → IsReader (sources_of opened) reader
+      reads_opened knows = subst (λ (es : List model.Document). IsReader (sources_within max_tokens (naming es) (known_in opened) es) reader) opened_are (reads_by (known_in opened) knows)
+
+      pub parts_opened : AreAt (sources_of opened) cs ps
+      parts_opened = subst (λ (es : List model.Document). AreAt (sources_within max_tokens (naming es) (known_in opened) es) cs ps) opened_are (parts_at (known_in opened))
+
+      pub as_many_opened : length opened ≡ length cs
+      as_many_opened = ap length (sym opened_are) ∙ as_many_documents

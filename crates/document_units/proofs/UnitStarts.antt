@@ -25,11 +25,11 @@ one_at (e ∷ ds) (suc k) d h = inr (one_at ds k d h)
 -- the first that is kept
 pub first_kept : (keep : Datum → Bool) (ds : List Datum) (d : Datum) (rest : List Datum) → filter keep ds ≡ d ∷ rest → IsOneOf ds d
 first_kept keep [] d rest h = absurd cc
-first_kept keep (e ∷ ds) d rest h = go (keep e) h
+first_kept keep (e ∷ ds) d rest h = go (first_kept keep ds d rest) (keep e) h
   where
-    go : (b : Bool) → cond b (e ∷ filter keep ds) (filter keep ds) ≡ d ∷ rest → IsOneOf (e ∷ ds) d
-    go true k = let same : e ≡ d = cc in inl same
-    go false k = inr (first_kept keep ds d rest k)
+    go : (filter keep ds ≡ d ∷ rest → IsOneOf ds d) → (b : Bool) → cond b (e ∷ filter keep ds) (filter keep ds) ≡ d ∷ rest → IsOneOf (e ∷ ds) d
+    go later true k = let same : e ≡ d = cc in inl same
+    go later false k = inr (later k)
 
 -- ---- tokens of texts
 

@@ -1,5 +1,5 @@
 //! The texts of documents as units see them that include them (R7RS 4.1.7, 5.6.1).
-ghost use Rattle.std.specs.Prelude.{◌≡◌, not, ℕ, Some, length, map, slice_get, IfOk};
+ghost use Rattle.std.specs.Prelude.{◌≡◌, not, ℕ, true, Some, length, map, slice_get, IfOk};
 ghost use Rattle.std.specs.Option.{is_some};
 ghost use Rattle.scheme_model.specs.Included.{Sources};
 ghost use Rattle.scheme_model.specs.Includes.{naming, usable, is_among};
@@ -131,7 +131,7 @@ pub fn reader_of<'a>(
 ) -> Mem<Reader<'a>>
     requires { length texts.now ≡ length uris.now }
     ensures reader { (o : Sources) → o.limit ≡ max_tokens → o.usable ≡ usable (naming o.documents) o.documents → Knows known.now.names o.known → Mean o uris.now → DocumentsRead o.documents →
-        ((n : ℕ) (x : ModelText) → slice_get texts.now n ≡ Some x → IsText o n x) →
+        ((n : ℕ) (x : ModelText) → slice_get texts.now n ≡ Some x → is_among o.usable n ≡ true → IsText o n x) →
         length parts.now.documents.items ≡ length o.documents → ((n : ℕ) (p : ModelPart) → slice_get parts.now.documents.items n ≡ Some p → p.is_usable ≡ is_among o.usable n) →
         IfOk result (IsReader o) }
     ensures uris { IfOk result (λ reader. reader.documents.uris.now ≡ uris.now) }

@@ -11,5 +11,5 @@ mod WritingLaws  -- The forms that steps give, one step after another
 mod BuildLaws  -- How tables are built, and what strings give by the standing of the documents that they mean
 mod LosingLaws  -- The strings that steps lose, from the last step to the first
 mod OnceLaws  -- Strings, each once
-mod ServeLaws  -- Strings give what the data of the texts give that they mean, with all that these include
+pub mod ServeLaws  -- Strings give what the data of the texts give that they mean, with all that these include
 mod ListedLaws  -- What is written out by what is counted

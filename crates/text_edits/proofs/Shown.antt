@@ -2,9 +2,10 @@
 use Rattle.std.specs.Prelude.{ℕ, suc, List, [], ◌∷◌, Option, Some, None}
 use Rattle.scheme_model.specs.declared.Occ.{Occ}
 use Rattle.scheme_model.specs.Diagnostics.{Span}
-use Rattle.scheme_model.specs.Program.{Document, UnitResult, program_of, units_of}
+use Rattle.scheme_model.specs.Program.{UnitResult, program_of, units_of}
 use Rattle.scheme_model.specs.Sites.{name_at}
 use Rattle.scheme_model.specs.Spelling.{Link, links_of}
+use Rattle.scheme_model.proofs.Shown.{Texts, alone}
 use Rattle.text_edits.specs.Edits.{Edit}
 use Rattle.text_edits.specs.Members.{class_edits, prefix_of, stem_of}
 
@@ -22,6 +23,6 @@ by_occ ls us texts spans symbol None = []
 by_occ ls us texts spans symbol (Some o) = by_stem ls us o texts spans (stem_of (prefix_of ls o) symbol)
 
 -- the edits of each document; none where no identifier stands there, or the new name loses its prefix
-abbrev pub edit_rows : List (List Span) → List Document → List (List ℕ) → (document offset : ℕ) → List ℕ → List (List Edit)
-edit_rows spans ds texts document offset symbol =
-    let p = program_of ds in by_occ (links_of (units_of ds) p) p.units texts spans symbol (name_at spans p.units document offset)
+abbrev pub edit_rows : List (List Span) → Texts → List (List ℕ) → (document offset : ℕ) → List ℕ → List (List Edit)
+edit_rows spans readings texts document offset symbol =
+    let ds = alone readings in let p = program_of ds in by_occ (links_of (units_of ds) p) p.units texts spans symbol (name_at spans p.units document offset)

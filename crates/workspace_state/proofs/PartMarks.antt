@@ -1,13 +1,12 @@
 -- The marks of open documents that are parts, and the documents that their strings mean.
 use Rattle.std.proofs.Common.{◌≡◌, ℕ, zero, suc, ◌+◌, ◌<◌, List, [], ◌∷◌, map, Bool, true, false, cond, length, slice_get, Option, Some, None, refl, sym, ap, ◌∙◌, subst, arith}
-use Rattle.std.specs.Prelude.{slice_index_or}
+use Rattle.std.specs.Prelude.{slice_index_or, Ok, Err}
 use Rattle.std.specs.Option.{option_map}
 use Rattle.std.specs.Str.{bytes_eq}
 use Rattle.scheme_model.specs.Includes.{Document, Naming, naming, is_part}
 use Rattle.included_documents.specs.Meant.{at_text, by_base, first_place, is_at, meant, meant_in, path_from, text_of, uri_at}
 use Rattle.url.specs.Parts.{Parts}
 use Rattle.url.specs.Parser.{Parsed, parse_url}
-use Rattle.std.specs.Prelude.{Ok, Err}
 use Rattle.text_parts.specs.Parts.{IsTextPart}
 use Rattle.text_parts.specs.Places.{Each}
 use Rattle.text_parts.specs.declared.parts.TextPart.{TextPart}
@@ -57,7 +56,7 @@ first_within : (test : List ℕ → Bool) (n : ℕ) (uris : List (List ℕ)) (m 
 first_within test n [] m h = absurd cc
 first_within test n (uri ∷ uris) m h = go (test uri) h (λ e. first_within test (suc n) uris m e)
   where
-    go : (b : Bool) → cond b (Some n) (first_place test (suc n) uris) ≡ Some m → (first_place test (suc n) uris ≡ Some m → m < suc n + length uris) → m < n + length uris
+    go : (b : Bool) → cond b (Some n) (first_place test (suc n) uris) ≡ Some m → (first_place test (suc n) uris ≡ Some m → m < suc n + length uris) → m < n + length (uri ∷ uris)
     go true e rest = let same : n ≡ m = cc in omega (arith, same)
     go false e rest = let lt = rest e in omega (arith, lt)
 

@@ -17,7 +17,7 @@ pub fn parts_of(alloc: Global, documents: &[Document]) -> Mem<Vec<bool>>
     let uris = uris_of(alloc, documents)?;
     let views = views_of(alloc, documents)?;
     let parts = text_parts(alloc, views.as_slice(), &uris)?;
-    marks_of(alloc, parts.documents.as_slice())
+    Ok(marks_of(alloc, parts.documents.as_slice())?)
 }
 
 /// Which of these are parts.

@@ -11,6 +11,6 @@ loop-number-preserved c =
     let n = c.loop-number.number in
     let fs = c.args.forms.now in
     let below : n < length fs = omega arith in
-    subst (λ k. c.add_datum.new.names.items ≡ names_in_forms c.args.unit 0 (forms_of (take k fs))) (sym (add-one n))
-    (form_added c.args.unit n fs c.index-forms-number.result c.loop-number.names.items c.add_datum.new.names.items (slice_get_read fs (length fs) n c.index-forms-number.result refl below c.index-forms-number.is)
-    c.loop-number.invariant c.in_ok-add_datum.ensures)
+    subst (λ k. c.add_form.new.names.items ≡ names_in_forms c.args.unit 0 (forms_of (take k fs))) (sym (add-one n))
+    (form_added c.args.unit n fs c.index-forms-number.result c.loop-number.names.items c.add_form.new.names.items (slice_get_read fs (length fs) n c.index-forms-number.result refl below c.index-forms-number.is)
+    c.loop-number.invariant c.in_ok-add_form.ensures)
