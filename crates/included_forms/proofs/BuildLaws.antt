@@ -121,6 +121,9 @@ placed_more us ms places n h later m = by (same_or_other m n)
 
 -- ---- texts
 
+some : (k : ℕ) → nat_lt 0 (suc k) ≡ true
+some k = grind (arith, nat_tests)
+
 -- the data of a text with their homes, which have no number where there are none
 pub homed_here : (o : Sources) (n : ℕ) (x : Text) → IsText o n x → homed_from n x.unit 0 (program_data (data_of x.«data».now)) ≡ included_data o.documents n
 homed_here o n x h = ap (λ ds. homed_from n x.unit 0 (program_data ds)) h.«data» ∙ by (program_data (data_in (document_at o.documents n))) h.unit
@@ -128,9 +131,6 @@ homed_here o n x h = ap (λ ds. homed_from n x.unit 0 (program_data ds)) h.«dat
     by : (ds : List Datum) → (nat_lt 0 (length ds) ≡ true → x.unit ≡ program_number o.documents n) → homed_from n x.unit 0 ds ≡ homed_from n (program_number o.documents n) 0 ds
     by [] q = refl
     by (d ∷ ds) q = ap (λ unit. homed_from n unit 0 (d ∷ ds)) (q (some (length ds)))
-
-    some : (k : ℕ) → nat_lt 0 (suc k) ≡ true
-    some k = grind (arith, nat_tests)
 
 -- ---- tables
 
