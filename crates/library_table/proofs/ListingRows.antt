@@ -1,7 +1,8 @@
 -- What texts list, as units have it.
-use Rattle.std.proofs.Common.{◌≡◌, ℕ, ◌+◌, ◌<◌, ◌≤◌, List, [], ◌∷◌, ◌++◌, append_assoc, append-nil, length, get_or, drop, map, Bool, true, false, Option, Result, Ok, Err, refl, sym, ap, ◌∙◌, subst}
+use Rattle.std.proofs.Common.{Vec, ◌≡◌, ℕ, ◌+◌, ◌<◌, ◌≤◌, List, [], ◌∷◌, ◌++◌, append_assoc, append-nil, length, get_or, drop, map, Bool, true, false, Option, Result, Ok, Err, refl, sym, ap, ◌∙◌, subst}
 use Rattle.std.specs.Prelude.{◌&&◌, ◌||◌, if◌then◌else◌}
 use Rattle.std.proofs.lemmas.List.{drop_more, at_drop_all}
+use Rattle.std.specs.Global.{Global}
 use Rattle.std.specs.Option.{option_map}
 use Rattle.std.specs.Result.{IsErrAnd}
 use Rattle.scheme_model.specs.Data.{Place, Datum}
@@ -65,7 +66,7 @@ copied_all leads leading fs i forms h e =
 
 -- ---- what is listed
 
-pub lists_read : (unit : ℕ) (leading : Bool) (x : Listed) (forms : Vec listed.FlatForm) (strings : Vec lost.LostString) (l : Listing) (c : code_lists.Lists) → x ≡ end.Lists forms strings → IsListed x l →
+pub lists_read : (unit : ℕ) (leading : Bool) (x : Listed) (forms : Vec listed.FlatForm Global) (strings : Vec lost.LostString Global) (l : Listing) (c : code_lists.Lists) → x ≡ end.Lists forms strings → IsListed x l →
     forms_of c.forms.items ≡ forms_left leading (map listed_form forms.items) → c.lost ≡ map lost_as (map lost_of strings.items) → IsListingRead unit leading l (Ok c)
 lists_read unit leading x forms strings l c is h f s =
     let k = subst (λ (y : Listed). IsListed y l) is h in
