@@ -22,7 +22,7 @@ empty_place : Place
 empty_place = record { first = 0; last = 0; start = 0; end = 0 }
 
 empty_unit : Placed
-empty_unit = record { document = 0; source = record { kind = IsProgram; name = None; start = empty_place; forms = Ok [] } }
+empty_unit = record { document = 0; source = record { kind = IsProgram; name = None; start = empty_place; forms = Ok []; lost = [] } }
 
 abbrev graph_units : ℕ → List (List ℕ) → List Prepared
 graph_units k [] = []

@@ -9,7 +9,7 @@ use Rattle.scheme_model.specs.Substitution.{Table}
 use Rattle.scheme_model.specs.UnitExpansion.{Formed}
 use Rattle.scheme_model.specs.Entries.{Entry}
 use Rattle.scheme_model.specs.IncludedUnits.{Placed}
-use Rattle.scheme_model.specs.Program.{Prepared, UnitResult, SetResult, Progress, WholeFault, result_at, is_in, fault_before, unit_entries, with_entries, form_trees, start_of, unit_over, unit_result, by_fault, all_done, is_ready, first_ready, worked, work}
+use Rattle.scheme_model.specs.Program.{forms_at_work, Prepared, UnitResult, SetResult, Progress, WholeFault, result_at, is_in, fault_before, unit_entries, with_entries, form_trees, start_of, unit_over, unit_result, by_fault, all_done, is_ready, first_ready, worked, work}
 use Rattle.import_sets.specs.InTurn.{all_in, is_open, and_then, in_turn}
 use Rattle.library_table.specs.Orders.{numbers, HaveNoFault}
 use Rattle.import_sets.proofs.ReachLaws.{in_append, or_none, or_turned}
@@ -58,7 +58,7 @@ fault_numbers : (all : List Placed) (ps : List Prepared) (known : Known) (p : Pr
 fault_numbers all ps known p (Some fault) g = refl
 fault_numbers all ps known p None g =
     let imports = unit_entries all g.results p in
-    let q = unit_over known (form_trees p.number 0 p.forms) (start_of p g.table g.macros (with_entries p.number imports.0 g.entry)) in
+    let q = unit_over known (form_trees p.number 0 (forms_at_work p)) (start_of p g.table g.macros (with_entries p.number imports.0 g.entry)) in
     ap (λ (u : Prepared). u.number ∷ numbers g.results) (unit_of_result p imports q.1.table q.0)
 
 stays : (ps : List Prepared) (done : List ℕ) → first_ready (is_open done) ps ≡ None → (t : ℕ) → in_turn ps t done ≡ []
