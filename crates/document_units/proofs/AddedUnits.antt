@@ -3,6 +3,7 @@ use Rattle.std.proofs.Common.{◌≡◌, ℕ, List, [], ◌∷◌, map, slice_ge
 use Rattle.std.specs.Prelude.{not, ◌&&◌}
 use Rattle.std.specs.List.{list_any}
 use Rattle.std.specs.Option.{option_map}
+use Rattle.ls_base.specs.declared.places.Span.{Span}
 use Rattle.scheme_model.specs.Data.{Place, Datum, place_of}
 use Rattle.scheme_model.specs.Declarations.{UnitForm, UnitKind, IsLibrary, IsProgram, IsPart, plain_form, behind_head, library_name}
 use Rattle.scheme_model.specs.Included.{Sources, Listing, all_texts, forms_of as listed_forms}
@@ -18,7 +19,7 @@ use Rattle.library_table.specs.declared.fault.LibraryFault.{LibraryFault}
 use Rattle.library_table.specs.declared.units.UnitSource as code
 use Rattle.library_table.proofs.KnownTexts.{IfProper, name_proper}
 use Rattle.document_units.specs.DataRead.{AllRead, DocumentsRead, data_at}
-use Rattle.document_units.specs.Listing.{Begins, IsOneOf, IsWholeOf}
+use Rattle.document_units.specs.Listing.{Begins, BeginsWith, IsOneOf, IsWholeOf}
 use Rattle.document_units.specs.UnitsListed.{IsBlank, IsReadFor, without_standard}
 use Rattle.document_units.specs.WereRead.{FormsRead}
 use Rattle.document_units.specs.declared.listing.WholeFault.{WholeFault}
@@ -135,6 +136,20 @@ none_there (e ∷ es) h = absurd cc
 pub first_there : (es : List Datum) (d : Datum) → Some d ≡ slice_get es 0 → (rest : List Datum) × (es ≡ d ∷ rest)
 first_there [] d h = absurd cc
 first_there (e ∷ es) d h = let same : d ≡ e = cc in (es, ap (λ (x : Datum). x ∷ es) (sym same))
+
+-- data whose first begins with these bytes
+pub record Begun (span : Span) (es : List Datum) : Type 0 where
+  pub first : Datum
+  pub rest : List Datum
+  pub have : es ≡ first ∷ rest
+  pub token : span ≡ first_token first
+
+pub begun : (span : Span) (es : List Datum) → BeginsWith span es → Begun span es
+begun span [] h = absurd h
+begun span (e ∷ es) h = record { first = e; rest = es; have = refl; token = h }
+
+pub begins_with : (span : Span) (es : List Datum) (d : Datum) (rest : List Datum) → es ≡ d ∷ rest → span ≡ first_token d → BeginsWith span es
+begins_with span es d rest have token = subst (BeginsWith span) (sym have) token
 
 -- a document on a circle is no part
 pub no_part : (all : Naming) (n : ℕ) (circular part : Bool) → circular ≡ is_on_circle all n → part ≡ is_part all n → circular ≡ true → part ≡ false

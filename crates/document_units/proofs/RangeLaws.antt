@@ -1,7 +1,8 @@
 -- The tokens of forms, one form more at a time.
 use Rattle.std.proofs.Common.{◌≡◌, ℕ, suc, ◌+◌, ◌<◌, List, [], ◌∷◌, ◌++◌, map, take, length, get_or, refl, sym, ap, ◌∙◌, arith}
 use Rattle.std.proofs.lemmas.List.{map_more, length-map, length-take-le}
-use Rattle.scheme_model.specs.Data.{Place, place_of}
+use Rattle.scheme_model.specs.declared.Home.{Home}
+use Rattle.scheme_model.specs.Data.{place_of}
 use Rattle.scheme_model.specs.Declarations.{UnitForm, home_of}
 use Rattle.core_tree.specs.declared.units.TokenRange.{TokenRange}
 use Rattle.datum_reader.proofs.DatumLaws.{place-datum}
@@ -19,11 +20,12 @@ ranges_last unit n (g ∷ fs) f =
     ap (λ (rs : List TokenRange). range_at unit n g ∷ rs) (ranges_last unit (suc n) fs f ∙ ap (λ (k : ℕ). ranges_from unit (suc n) fs ++ range_at unit k f ∷ []) same)
 
 -- one form more
-pub range_added : (unit k : ℕ) (fs : List code_form.UnitForm) (f : code_form.UnitForm) (old new : List TokenRange) → k < length fs → f ≡ get_or fs k f → old ≡ ranges_from unit 0 (forms_of (take k fs)) →
-    new ≡ old ++ record { home = home_of unit k (form_of f); first = f.datum.first; last = f.datum.last } ∷ [] → new ≡ ranges_from unit 0 (forms_of (take (k + 1) fs))
-range_added unit k fs f old new low is so_far e =
+pub range_added : (unit k : ℕ) (fs : List code_form.UnitForm) (f : code_form.UnitForm) (old new : List TokenRange) (number : ℕ) (home : Home) → k < length fs → f ≡ get_or fs k f → old ≡ ranges_from unit 0 (forms_of (take k fs)) → number ≡ k → home ≡ home_of unit number (form_of f) →
+    new ≡ old ++ record { home = home; first = f.datum.first; last = f.datum.last } ∷ [] → new ≡ ranges_from unit 0 (forms_of (take (k + 1) fs))
+range_added unit k fs f old new number home low is so_far called at_home e =
     let many : 0 + length (forms_of (take k fs)) ≡ k = omega (arith, length-map (take k fs) form_of, length-take-le k fs (omega arith)) in
-    e ∙ ap (λ (rs : List TokenRange). rs ++ record { home = home_of unit k (form_of f); first = f.datum.first; last = f.datum.last } ∷ []) so_far
-    ∙ (λ j. ranges_from unit 0 (forms_of (take k fs)) ++ record { home = home_of unit (sym many j) (form_of f); first = (sym (ap (λ (p : Place). p.first) (place-datum f.datum)) j); last = (sym (ap (λ (p : Place). p.last) (place-datum f.datum)) j) } ∷ [])
+    let same : home ≡ home_of unit (0 + length (forms_of (take k fs))) (form_of f) = at_home ∙ ap (λ (n : ℕ). home_of unit n (form_of f)) (called ∙ sym many) in
+    let place = place-datum f.datum in
+    e ∙ (λ j. so_far j ++ record { home = same j; first = (sym place j).first; last = (sym place j).last } ∷ [])
     ∙ sym (ranges_last unit 0 (forms_of (take k fs)) (form_of f))
     ∙ ap (ranges_from unit 0) (ap (λ (g : code_form.UnitForm). forms_of (take k fs) ++ form_of g ∷ []) is ∙ sym (map_more form_of fs k f low))

@@ -1,6 +1,8 @@
 -- Units begin at the tokens with the numbers of their first ones.
 use Rattle.std.proofs.Common.{◌≡◌, ℕ, zero, suc, ◌+◌, Bool, true, false, cond, List, [], ◌∷◌, map, filter, chars, slice_get, Some, refl, sym, ap, ◌∙◌, subst, inl, inr, arith}
+use Rattle.std.specs.Prelude.{not}
 use Rattle.scheme_model.specs.Data.{Place, Datum, place_of}
+use Rattle.scheme_model.specs.Declarations.{is_library}
 use Rattle.scheme_model.specs.Includes as model
 use Rattle.scheme_model.specs.IncludedUnits.{UnitSource}
 use Rattle.scheme_model.specs.Diagnostics.{Span, span_at, spans_at}
@@ -23,13 +25,17 @@ one_at (e ∷ ds) zero d h = let same : e ≡ d = cc in inl (ap datum_of same)
 one_at (e ∷ ds) (suc k) d h = inr (one_at ds k d h)
 
 -- the first that is kept
-pub first_kept : (keep : Datum → Bool) (ds : List Datum) (d : Datum) (rest : List Datum) → filter keep ds ≡ d ∷ rest → IsOneOf ds d
+first_kept : (keep : Datum → Bool) (ds : List Datum) (d : Datum) (rest : List Datum) → filter keep ds ≡ d ∷ rest → IsOneOf ds d
 first_kept keep [] d rest h = absurd cc
 first_kept keep (e ∷ ds) d rest h = go (first_kept keep ds d rest) (keep e) h
   where
     go : (filter keep ds ≡ d ∷ rest → IsOneOf ds d) → (b : Bool) → cond b (e ∷ filter keep ds) (filter keep ds) ≡ d ∷ rest → IsOneOf (e ∷ ds) d
     go later true k = let same : e ≡ d = cc in inl same
     go later false k = inr (later k)
+
+-- the first datum of a program
+pub program_there : (ds : List Datum) (d : Datum) (rest : List Datum) → model.program_data ds ≡ d ∷ rest → IsOneOf ds d
+program_there ds d rest h = first_kept (λ (e : Datum). not (is_library e)) ds d rest h
 
 -- ---- tokens of texts
 

@@ -1,21 +1,19 @@
 -- How tables are built, and what strings give by the standing of the documents that they mean.
-use Rattle.std.proofs.Common.{◌≡◌, ℕ, zero, suc, ◌+◌, ◌<◌, ◌≤◌, List, [], ◌∷◌, ◌++◌, length, take, set, map, Bool, true, false, Option, Some, None, slice_get, Result, Ok, Err, refl, sym, ap, ◌∙◌, subst, arith, ◌⊎◌, inl, inr}
+use Rattle.std.proofs.Common.{◌≡◌, ℕ, zero, suc, ◌+◌, ◌<◌, List, [], ◌∷◌, ◌++◌, length, take, set, map, Bool, true, false, Option, Some, None, slice_get, Ok, refl, sym, ap, ◌∙◌, subst, arith, ◌⊎◌, inl, inr}
 use Rattle.std.specs.Prelude.{if◌then◌else◌, nat_lt}
 use Rattle.std.proofs.lemmas.Bool.Decides.{nat_tests}
 use Rattle.std.proofs.lemmas.List.{map-append, take-append-le, length-append, length-map}
 use Rattle.std.specs.Option.{option_map}
 use Rattle.std.proofs.lemmas.Option.{slice_get_within, slice_get-map, same_Some}
 use Rattle.std.proofs.Math.Seq.{take-append_seam}
-use Rattle.ls_base.specs.declared.memory.Memory.{Memory}
 use Rattle.scheme_model.specs.Data.{Datum}
-use Rattle.scheme_model.specs.Includes.{StringAt, document_at, is_among, program_data, program_number, data_of as data_in}
+use Rattle.scheme_model.specs.Includes.{document_at, is_among, program_data, program_number, data_of as data_in}
 use Rattle.scheme_model.specs.Included as model
 use Rattle.scheme_model.specs.Included.{Listing, Lists, Texts, Sources, given_at, lost, given_or_lost, homed_from, included_data}
 use Rattle.included_forms.specs.declared.steps.TextString.{TextString}
 use Rattle.included_forms.specs.declared.steps.Way.{Way}
 use Rattle.included_forms.specs.declared.steps.Way.TheVariants as way
 use Rattle.included_forms.specs.declared.given.Given.{Given}
-use Rattle.included_forms.specs.declared.given.Given.TheVariants as given
 use Rattle.included_forms.specs.declared.given.Part.{Part}
 use Rattle.included_forms.specs.declared.resolving.Standing.{Standing}
 use Rattle.included_forms.specs.declared.resolving.Standing.TheVariants as standing
@@ -121,16 +119,15 @@ placed_more us ms places n h later m = by (same_or_other m n)
 
 -- ---- texts
 
-some : (k : ℕ) → nat_lt 0 (suc k) ≡ true
-some k = grind (arith, nat_tests)
-
 -- the data of a text with their homes, which have no number where there are none
 pub homed_here : (o : Sources) (n : ℕ) (x : Text) → IsText o n x → homed_from n x.unit 0 (program_data (data_of x.«data».now)) ≡ included_data o.documents n
 homed_here o n x h = ap (λ ds. homed_from n x.unit 0 (program_data ds)) h.«data» ∙ by (program_data (data_in (document_at o.documents n))) h.unit
   where
     by : (ds : List Datum) → (nat_lt 0 (length ds) ≡ true → x.unit ≡ program_number o.documents n) → homed_from n x.unit 0 ds ≡ homed_from n (program_number o.documents n) 0 ds
     by [] q = refl
-    by (d ∷ ds) q = ap (λ unit. homed_from n unit 0 (d ∷ ds)) (q (some (length ds)))
+    by (d ∷ ds) q =
+        let some : nat_lt 0 (suc (length ds)) ≡ true = grind (arith, nat_tests) in
+        ap (λ unit. homed_from n unit 0 (d ∷ ds)) (q some)
 
 -- ---- tables
 

@@ -5,11 +5,11 @@ use Rattle.std.specs.Option.{is_some}
 use Rattle.std.specs.Result.{IsErrAnd}
 use Rattle.std.proofs.lemmas.List.{drop_more, at_drop_all}
 use Rattle.std.proofs.lemmas.Bool.{eqb-true, eqb-false}
-use Rattle.scheme_model.specs.Data.{Datum, Data, none, row}
+use Rattle.scheme_model.specs.Data.{Datum, Data, row}
 use Rattle.scheme_model.specs.Trees.{Trees}
 use Rattle.scheme_model.specs.Requirements.{Known, clause_holds}
 use Rattle.scheme_model.specs.Declarations.{symbol_tree}
-use Rattle.scheme_model.specs.Included.{Homed, Listing, nothing, Texts, choice, clauses, clause_of, bad}
+use Rattle.scheme_model.specs.Included.{Homed, Listing, nothing, Texts, choice, clauses, clause_of}
 use Rattle.datum_reader.specs.declared.datum.Datum as code
 use Rattle.datum_reader.specs.Views.{datum_of, data_of}
 use Rattle.datum_reader.specs.declared.shape_fault.ShapeFault.{ShapeFault}
@@ -21,7 +21,7 @@ use Rattle.known_libraries.specs.Weights.{row_weight}
 use Rattle.known_libraries.proofs.WeightLaws.{item_lighter, first_lighter}
 use Rattle.included_forms.specs.declared.choices.Clause as code_clause
 use Rattle.included_forms.specs.Choices.{all_declared, clause_with, IsClause, OrFirst, Chooses}
-use Rattle.included_forms.proofs.ClauseLaws.{listing_or_bad, picks, given_first, chosen_of, ChosenUpTo, IsLighter, is_nil, no_clause, bad_requirement, good_requirement, some_choice, choice_dotted}
+use Rattle.included_forms.proofs.ClauseLaws.{listing_or_bad, picks, given_first, chosen_of, ChosenUpTo, IsLighter, is_nil, no_clause, bad_requirement, good_requirement, some_choice}
 
 -- ---- the last clause
 

@@ -1,8 +1,8 @@
 -- The clauses of `cond-expand` as they are read: the first that holds is chosen.
-use Rattle.std.proofs.Common.{◌≡◌, ℕ, suc, ◌+◌, ◌<◌, List, [], ◌∷◌, drop, map, Bool, true, false, Option, Some, None, Result, Ok, Err, refl, sym, ap, ◌∙◌, arith}
+use Rattle.std.proofs.Common.{◌≡◌, ℕ, suc, ◌+◌, ◌<◌, List, [], ◌∷◌, drop, Bool, true, false, Option, Some, None, Result, Ok, Err, refl, sym, ap, ◌∙◌, arith}
 use Rattle.std.specs.Borrow.{Bor}
 use Rattle.std.specs.Option.{is_some}
-use Rattle.scheme_model.specs.Data.{Place, Datum, list, Data, none, row}
+use Rattle.scheme_model.specs.Data.{Place, Datum, list, none, row}
 use Rattle.scheme_model.specs.Trees.{Trees}
 use Rattle.scheme_model.specs.ExpansionFaults.{Fault, BadForm}
 use Rattle.scheme_model.specs.Requirements.{Known, clause_holds}

@@ -1,8 +1,8 @@
 -- Declarations by their kinds (R7RS 5.6.1).
-use Rattle.std.proofs.Common.{◌≡◌, ℕ, List, [], ◌∷◌, ◌++◌, append-nil, map, Bool, true, false, cond, Option, Some, None, refl, sym, ap, ◌∙◌, subst}
+use Rattle.std.proofs.Common.{◌≡◌, List, [], ◌∷◌, ◌++◌, append-nil, map, Bool, true, false, Option, Some, None, refl, sym, ap, ◌∙◌, subst}
 use Rattle.std.specs.Prelude.{◌&&◌, not, if◌then◌else◌}
 use Rattle.std.specs.Option.{is_some}
-use Rattle.scheme_model.specs.Data.{Place, place_of, Datum, atom, list, vector, bytes, Data, none, part, tail, row}
+use Rattle.scheme_model.specs.Data.{Place, place_of, Datum, atom, list, vector, bytes, Data, none, part, row}
 use Rattle.scheme_model.specs.Requirements.{Known}
 use Rattle.scheme_model.specs.Declarations.{Declared, declared_by, symbol_in, proper_parts, all_export_parts}
 use Rattle.scheme_model.specs.Included.{Homed, Listing, in_a_row, followed, Texts, form_alone, bad, declaration, declarations, declared_as, clauses, if_proper}

@@ -1,7 +1,7 @@
 -- Listings in a row: what stands first counts, and a row may stand in the place of what it gives.
-use Rattle.std.proofs.Common.{◌≡◌, ℕ, List, [], ◌∷◌, ◌++◌, append_assoc, append-nil, map, true, false, refl, sym, ap, ◌∙◌, arith}
+use Rattle.std.proofs.Common.{◌≡◌, ℕ, List, [], ◌∷◌, ◌++◌, false, refl, sym, ap, arith}
 use Rattle.std.specs.Prelude.{nat_lt, if◌then◌else◌}
-use Rattle.scheme_model.specs.Included.{Homed, Listing, Lists, BadAfter, TooLong, nothing, joined, capped, followed, in_a_row, bad}
+use Rattle.scheme_model.specs.Included.{Homed, Listing, BadAfter, TooLong, capped, followed, in_a_row, bad}
 use Rattle.scheme_model.proofs.IncludeLaws.{rows_joined}
 
 -- what is behind counts by what it gives

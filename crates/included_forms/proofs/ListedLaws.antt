@@ -1,5 +1,5 @@
 -- What is written out by what is counted.
-use Rattle.std.proofs.Common.{◌≡◌, ℕ, zero, suc, List, [], ◌∷◌, ◌++◌, length, take, map, Bool, true, false, Option, Some, refl, sym, ap, ◌∙◌, subst, arith}
+use Rattle.std.proofs.Common.{◌≡◌, ℕ, zero, suc, List, [], ◌∷◌, ◌++◌, length, take, map, Bool, refl, sym, ap, ◌∙◌, arith}
 use Rattle.scheme_model.specs.Included as model
 use Rattle.scheme_model.specs.Included.{Listing, Lists, BadAfter, TooLong, with_lost, in_a_row}
 use Rattle.included_forms.specs.declared.steps.FlatForm.{FlatForm}
@@ -9,7 +9,7 @@ use Rattle.included_forms.specs.declared.given.Part.{Part}
 use Rattle.included_forms.specs.declared.given.Written.{Written}
 use Rattle.included_forms.specs.declared.losing.Visit.{Visit}
 use Rattle.included_forms.specs.Steps.{form_of}
-use Rattle.included_forms.specs.Counted.{Tally, Counted, BadBehind, TooMany, tally_of, listing_of, IsWritten}
+use Rattle.included_forms.specs.Counted.{Counted, BadBehind, TooMany, tally_of, listing_of, IsWritten}
 use Rattle.included_forms.specs.Losses.{lost_in, AreFresh, AreSeen}
 use Rattle.included_forms.specs.Listed.{IsLists}
 use Rattle.included_forms.proofs.WritingLaws.{without_bad, giving_row}

@@ -7,7 +7,7 @@ use Rattle.ls_base.specs.declared.memory.Memory.{Memory}
 use Rattle.scheme_model.specs.Data.{Place, Datum, atom, list, vector, bytes, Data, none, part, tail, row, place_of}
 use Rattle.scheme_model.specs.ExpansionFaults.{Fault}
 use Rattle.scheme_model.specs.Requirements.{Known, LibraryName, library_name_of}
-use Rattle.scheme_model.specs.Declarations.{is_library, behind_head, library_name_in, symbol_tree, name_or}
+use Rattle.scheme_model.specs.Declarations.{is_library, behind_head, symbol_tree, name_or, library_name_in}
 use Rattle.scheme_model.specs.Includes.{program_data}
 use Rattle.scheme_model.specs.Included.{Homed, inside, Listing, followed, in_a_row, Texts, form_or_texts, bad, declaration, declarations, homed_from}
 use Rattle.scheme_model.specs.IncludedUnits.{own, library_listing, if_named}

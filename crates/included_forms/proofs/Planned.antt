@@ -2,7 +2,7 @@
 use Rattle.std.proofs.Common.{◌≡◌, ℕ, ◌+◌, ◌<◌, ◌≤◌, List, [], ◌∷◌, ◌++◌, append_assoc, length, get_or, drop, map, Result, Ok, Err, refl, sym, ap, ◌∙◌, subst}
 use Rattle.std.specs.Result.{IsErrAnd}
 use Rattle.std.proofs.lemmas.List.{drop_more, at_drop_all, map-append}
-use Rattle.scheme_model.specs.Included.{Homed, Listing, in_a_row, Texts, bad}
+use Rattle.scheme_model.specs.Included.{Listing, in_a_row, Texts, bad}
 use Rattle.datum_reader.specs.declared.datum.Datum as code
 use Rattle.included_forms.specs.declared.steps.Source.{Source}
 use Rattle.included_forms.specs.declared.steps.Step.{Step}

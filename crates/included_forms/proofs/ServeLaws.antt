@@ -2,7 +2,7 @@
 use Rattle.std.proofs.Common.{◌≡◌, ℕ, List, Bool, true, false, Option, Some, None, length, refl, sym, ap, ◌∙◌}
 use Rattle.std.specs.Prelude.{if◌then◌else◌}
 use Rattle.scheme_model.specs.Includes.{StringAt, naming, usable, document_at, is_among}
-use Rattle.scheme_model.specs.Included.{Listing, Texts, Sources, lost, given, given_at, given_or_lost, included_data, forms_of, declarations_of, all_texts}
+use Rattle.scheme_model.specs.Included.{Listing, Sources, lost, given, given_at, given_or_lost, included_data, forms_of, declarations_of, all_texts}
 use Rattle.nesting_laws.proofs.Depth.{gives_forms, gives_declarations}
 use Rattle.included_forms.specs.Tables.{Serve}
 

@@ -1,22 +1,16 @@
 -- What the texts of a table give and count.
-use Rattle.std.proofs.Common.{◌≡◌, ℕ, zero, suc, ◌+◌, ◌<◌, ◌≤◌, List, [], ◌∷◌, ◌++◌, length, get_or, take, drop, map, Bool, true, false, Option, Some, None, slice_get, Result, Ok, Err, refl, sym, ap, ◌∙◌, subst, arith}
+use Rattle.std.proofs.Common.{◌≡◌, ℕ, zero, suc, ◌+◌, ◌<◌, ◌≤◌, List, [], ◌∷◌, ◌++◌, length, get_or, take, drop, Bool, true, false, Option, Some, slice_get, refl, sym, ap, ◌∙◌, arith}
 use Rattle.std.specs.Prelude.{nat_lt, if◌then◌else◌}
 use Rattle.std.proofs.lemmas.List.{drop_more}
-use Rattle.std.proofs.lemmas.Option.{slice_get_read, slice_get_within, slice_get-map}
-use Rattle.ls_base.specs.declared.memory.Memory.{Memory}
-use Rattle.scheme_model.specs.Includes.{StringAt, document_at, is_among}
 use Rattle.scheme_model.specs.Included as model
 use Rattle.scheme_model.specs.Included.{Listing, Lists, BadAfter, TooLong, nothing, with_lost, followed, in_a_row, Texts, Sources, given_at, lost, given_or_lost, included_data, forms_of, declarations_of}
 use Rattle.included_forms.specs.declared.steps.Source.{Source}
-use Rattle.included_forms.specs.declared.steps.TextString.{TextString}
 use Rattle.included_forms.specs.declared.steps.Way.{Way}
 use Rattle.included_forms.specs.declared.steps.Way.TheVariants as way
 use Rattle.included_forms.specs.declared.given.Given.{Given}
-use Rattle.included_forms.specs.declared.given.Given.TheVariants as given
 use Rattle.included_forms.specs.declared.given.Count.{Count}
 use Rattle.included_forms.specs.declared.given.Part.{Part}
-use Rattle.included_forms.specs.Planned.{bad_one}
-use Rattle.included_forms.specs.Counted.{Tally, Counted, tally_as, tally_of, tally_followed, in_way, listing_of, all_given, IsWritten, IsPart, Stand, written_in}
+use Rattle.included_forms.specs.Counted.{Tally, tally_as, tally_of, tally_followed, in_way, listing_of, all_given, IsWritten, Stand, written_in}
 use Rattle.included_forms.proofs.TallyLaws.{followed_tally}
 
 -- ---- texts by their places

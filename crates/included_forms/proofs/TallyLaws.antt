@@ -1,13 +1,11 @@
 -- What is left of listings without their forms and strings, one behind the other.
 use Rattle.std.proofs.Common.{◌≡◌, ℕ, ◌+◌, List, [], ◌∷◌, ◌++◌, Bool, true, false, Option, Some, None, refl, sym, ap, ◌∙◌, arith}
-use Rattle.std.specs.Prelude.{nat_lt, ◌&&◌, if◌then◌else◌, map}
+use Rattle.std.specs.Prelude.{nat_lt, ◌&&◌, if◌then◌else◌}
 use Rattle.scheme_model.specs.Included as model
 use Rattle.scheme_model.specs.Included.{Homed, FlatForm, LostString, Listing, Lists, BadAfter, TooLong, nothing, joined, capped, followed, bad}
 use Rattle.included_forms.specs.declared.steps.Source.{Source}
-use Rattle.included_forms.specs.declared.given.Given.{Given}
 use Rattle.included_forms.specs.Steps.{homed_of}
-use Rattle.included_forms.specs.Planned.{bad_one}
-use Rattle.included_forms.specs.Counted.{Tally, Counted, BadBehind, TooMany, is_none, tally_of, tally_capped, tally_joined, tally_followed, listing_of, all_given}
+use Rattle.included_forms.specs.Counted.{Tally, Counted, BadBehind, TooMany, is_none, tally_of, tally_capped, tally_joined, tally_followed, all_given}
 use Rattle.included_forms.proofs.InRows.{bad_alone}
 
 none_both : (fs gs : List FlatForm) → is_none (fs ++ gs) ≡ (is_none fs && is_none gs)

@@ -1,5 +1,5 @@
 -- The forms that steps give, one step after another.
-use Rattle.std.proofs.Common.{◌≡◌, ℕ, ◌+◌, ◌<◌, ◌≤◌, List, [], ◌∷◌, ◌++◌, append_assoc, append-nil, length, get_or, take, drop, map, Bool, true, false, Option, Some, None, slice_get, refl, sym, ap, ◌∙◌, subst, arith}
+use Rattle.std.proofs.Common.{◌≡◌, ℕ, ◌+◌, ◌<◌, ◌≤◌, List, [], ◌∷◌, ◌++◌, append_assoc, append-nil, length, get_or, drop, map, Bool, true, false, Option, Some, None, refl, sym, ap, ◌∙◌, arith}
 use Rattle.std.specs.Prelude.{nat_lt, not, if◌then◌else◌}
 use Rattle.std.specs.List.{filter}
 use Rattle.std.proofs.lemmas.Bool.Decides.{nat_tests}
@@ -8,11 +8,7 @@ use Rattle.scheme_model.specs.Included as model
 use Rattle.scheme_model.specs.Included.{Listing, Lists, BadAfter, TooLong, nothing, bad, with_lost, followed, in_a_row, given_at}
 use Rattle.included_forms.specs.declared.steps.Source.{Source}
 use Rattle.included_forms.specs.declared.steps.FlatForm.{FlatForm}
-use Rattle.included_forms.specs.declared.steps.Way.{Way}
 use Rattle.included_forms.specs.declared.given.Given.{Given}
-use Rattle.included_forms.specs.declared.given.Count.{Count}
-use Rattle.included_forms.specs.declared.given.Written.{Written}
-use Rattle.included_forms.specs.declared.given.Part.{Part}
 use Rattle.included_forms.specs.Steps.{homed_of, form_of}
 use Rattle.included_forms.specs.Planned.{bad_one}
 use Rattle.included_forms.specs.Counted.{is_none, tally_of, counts_none, gives, listing_of}

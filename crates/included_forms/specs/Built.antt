@@ -1,5 +1,5 @@
 -- Tables of the texts that documents include.
-use Rattle.std.specs.Prelude.{◌≡◌, ℕ, List, [], Bool, true, false, Option, Some, None, slice_get}
+use Rattle.std.specs.Prelude.{◌≡◌, ℕ, List, Bool, true, false, Option, Some, None, slice_get}
 use Rattle.scheme_model.specs.Includes.{document_at, is_among, has_program, program_number, data_of as data_in}
 use Rattle.scheme_model.specs.Included.{Sources, Texts}
 use Rattle.datum_reader.specs.Views.{data_of}

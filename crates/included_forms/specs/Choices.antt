@@ -1,5 +1,5 @@
 -- The clauses of `cond-expand` as they are read (R7RS 4.2.1, 5.6.1).
-use Rattle.std.specs.Prelude.{◌≡◌, ℕ, suc, ◌+◌, List, [], ◌∷◌, map, Bool, true, false, Option, Some, None, Result, Ok, Err}
+use Rattle.std.specs.Prelude.{◌≡◌, ℕ, suc, ◌+◌, List, map, Bool, true, false, Option, Some, None, Result, Ok, Err}
 use Rattle.std.specs.Borrow.{Bor}
 use Rattle.scheme_model.specs.Data.{Datum, Data}
 use Rattle.scheme_model.specs.Declarations.{symbol_tree}

@@ -1,11 +1,9 @@
 -- What steps of a text give, one after another.
-use Rattle.std.specs.Prelude.{◌≡◌, ℕ, List, [], ◌∷◌, ◌++◌, map, Option, Some, None, Result, Ok, Err}
-use Rattle.std.specs.Borrow.{Bor}
+use Rattle.std.specs.Prelude.{◌≡◌, ℕ, List, [], ◌∷◌, ◌++◌, map, Result, Ok, Err}
 use Rattle.scheme_model.specs.Data.{Datum, place_of}
-use Rattle.scheme_model.specs.Includes.{StringAt, string_in}
+use Rattle.scheme_model.specs.Includes.{StringAt}
 use Rattle.scheme_model.specs.Included.{Homed, FlatForm, Listing, in_a_row, Texts, form_alone, bad}
-use Rattle.datum_reader.specs.declared.datum.Datum as code
-use Rattle.datum_reader.specs.Views.{datum_of, data_of}
+use Rattle.datum_reader.specs.Views.{datum_of}
 use Rattle.included_forms.specs.declared.steps.Origin.{Origin}
 use Rattle.included_forms.specs.declared.steps.Source.{Source}
 use Rattle.included_forms.specs.declared.steps.FlatForm as code_form

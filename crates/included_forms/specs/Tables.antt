@@ -1,5 +1,5 @@
 -- The texts that documents include, by their places in a table.
-use Rattle.std.specs.Prelude.{◌≡◌, ◌<◌, ℕ, List, [], ◌∷◌, map, length, Bool, true, false, Option, Some, None, Result, Ok, Err, slice_get}
+use Rattle.std.specs.Prelude.{◌≡◌, ◌<◌, ℕ, List, map, length, true, false, Option, Some, None, Result, Ok, Err, slice_get}
 use Rattle.ls_base.specs.declared.memory.Memory.{Memory}
 use Rattle.scheme_model.specs.Includes.{StringAt, document_at, is_among}
 use Rattle.scheme_model.specs.Included as model

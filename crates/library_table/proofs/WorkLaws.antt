@@ -9,7 +9,7 @@ use Rattle.scheme_model.specs.Substitution.{Table}
 use Rattle.scheme_model.specs.UnitExpansion.{Formed}
 use Rattle.scheme_model.specs.Entries.{Entry}
 use Rattle.scheme_model.specs.IncludedUnits.{Placed}
-use Rattle.scheme_model.specs.Program.{Prepared, UnitResult, SetResult, Progress, WholeFault, result_at, is_in, fault_before, unit_entries, with_entries, form_trees, forms_at_work, start_of, unit_over, unit_result, by_fault, all_done, is_ready, first_ready, worked, work}
+use Rattle.scheme_model.specs.Program.{forms_at_work, Prepared, UnitResult, SetResult, Progress, WholeFault, result_at, is_in, fault_before, unit_entries, with_entries, form_trees, start_of, unit_over, unit_result, by_fault, all_done, is_ready, first_ready, worked, work}
 use Rattle.import_sets.specs.InTurn.{all_in, is_open, and_then, in_turn}
 use Rattle.library_table.specs.Orders.{numbers, HaveNoFault}
 use Rattle.import_sets.proofs.ReachLaws.{in_append, or_none, or_turned}

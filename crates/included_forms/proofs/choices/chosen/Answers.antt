@@ -1,4 +1,4 @@
-use Rattle.std.proofs.Common.{◌+◌, ◌<◌, ℕ, List, [], length, Option, Some, Ok, refl, ap, ◌∙◌, arith}
+use Rattle.std.proofs.Common.{◌+◌, ◌<◌, ℕ, List, length, Option, Some, refl, ap, ◌∙◌, arith}
 use Rattle.std.specs.Borrow.{Bor}
 use Rattle.std.proofs.lemmas.Bool.Decides.{nat_tests}
 use Rattle.scheme_model.specs.declared.Occ.{Occ}
@@ -8,7 +8,7 @@ use Rattle.datum_reader.specs.declared.datum.Datum as code
 use Rattle.datum_reader.specs.Views.{data_of}
 use Rattle.datum_reader.specs.Looks.{end_with}
 use Rattle.included_forms.proofs.ClauseLaws.{listing_or_bad, picks, choice_dotted}
-use Rattle.included_forms.proofs.ChoiceLaws.{last_is, clause_stops, requirement_stops, chosen_more, all_same, chosen_end, choice_err, lighter_more, some_weight}
+use Rattle.included_forms.proofs.ChoiceLaws.{last_is, requirement_stops, chosen_more, all_same, chosen_end, choice_err, lighter_more, some_weight}
 use Rattle.included_forms.proofs.choices.chosen.Goals as goal
 
 -- tokens by their numbers alone

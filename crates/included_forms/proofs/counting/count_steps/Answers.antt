@@ -1,7 +1,7 @@
-use Rattle.std.proofs.Common.{◌≡◌, ◌+◌, ◌-◌, ◌≤◌, ◌<◌, List, length, drop, refl, sym, ap, ◌∙◌, subst, arith}
+use Rattle.std.proofs.Common.{◌≡◌, ◌+◌, ◌-◌, List, length, drop, sym, ap, ◌∙◌, arith}
 use Rattle.std.proofs.lemmas.List.{at_drop_all}
 use Rattle.included_forms.specs.declared.given.Given.{Given}
-use Rattle.included_forms.specs.Counted.{tally_as, tally_of, all_given}
+use Rattle.included_forms.specs.Counted.{tally_of, all_given}
 use Rattle.included_forms.proofs.TableLaws.{tally_more}
 use Rattle.included_forms.proofs.counting.count_steps.Goals as goal
 

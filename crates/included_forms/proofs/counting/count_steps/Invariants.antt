@@ -1,4 +1,4 @@
-use Rattle.std.proofs.Common.{◌≡◌, ◌≤◌, ℕ, List, length, drop}
+use Rattle.std.proofs.Common.{◌≡◌, ◌≤◌, List, length, drop}
 use Rattle.scheme_model.specs.Included.{Given}
 use Rattle.included_forms.specs.Counted.{Stand, tally_as, tally_of, all_given}
 use Rattle.included_forms.proofs.counting.count_steps.Given as goal

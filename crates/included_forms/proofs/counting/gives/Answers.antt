@@ -1,6 +1,5 @@
 use Rattle.std.proofs.Common.{ap, sym, ◌∙◌}
 use Rattle.std.specs.Prelude.{not}
-use Rattle.included_forms.specs.declared.given.Given.{Given}
 use Rattle.included_forms.specs.Counted.{counts_none, gives}
 use Rattle.included_forms.proofs.counting.gives.Goals as goal
 

@@ -1,9 +1,8 @@
 use Rattle.std.proofs.Common.{◌≡◌, ◌≤◌, ◌<◌, Some, slice_get, length, refl, sym, ap, ◌∙◌, arith}
 use Rattle.std.proofs.lemmas.Bool.Decides.{nat_tests}
 use Rattle.std.proofs.lemmas.Option.{slice_get_read}
-use Rattle.scheme_model.specs.Included.{given_at}
 use Rattle.included_forms.specs.declared.given.Written.{Written}
-use Rattle.included_forms.specs.Counted.{tally_as, tally_of, in_way}
+use Rattle.included_forms.specs.Counted.{tally_as, tally_of}
 use Rattle.included_forms.proofs.TableLaws.{text_far, written_there}
 use Rattle.included_forms.proofs.counting.text_count.Goals as goal
 

@@ -1,5 +1,4 @@
 use Rattle.std.proofs.Common.{◌≡◌, false, refl}
-use Rattle.included_forms.specs.declared.losing.Visit.{Visit}
 use Rattle.included_forms.specs.declared.steps.Way.{Way}
 use Rattle.included_forms.specs.declared.steps.Way.TheVariants as way
 use Rattle.included_forms.specs.Losses.{visited_in}

@@ -1,20 +1,18 @@
 use Rattle.std.proofs.Common.{◌∷◌, [], List, Ok, Err, None, refl, sym, ap, ◌∙◌, subst, arith, map, ◌++◌}
 use Rattle.std.specs.Prelude.{not}
-use Rattle.scheme_model.specs.Data.{Datum, place_of, row, none}
+use Rattle.scheme_model.specs.Data.{place_of, row, none}
 use Rattle.scheme_model.specs.Declarations.{proper_parts}
-use Rattle.scheme_model.specs.Included.{Listing, in_a_row, bad as bad_listing, declaration, declarations, clauses, choice as choice_of, if_proper, including, forms_of, form_alone}
+use Rattle.scheme_model.specs.Included.{Listing, in_a_row, bad as bad_listing, declaration, declarations, clauses, choice as choice_of, if_proper, including, forms_of}
 use Rattle.datum_reader.specs.Views.{datum_of, data_of}
 use Rattle.datum_reader.specs.Looks.{end_with}
 use Rattle.datum_reader.specs.declared.shape_fault.ShapeFault.{ShapeFault}
 use Rattle.known_libraries.proofs.WeightLaws.{parts_lighter, first_lighter, item_lighter}
 use Rattle.included_forms.specs.declared.declared.Declared.{Declared}
-use Rattle.included_forms.specs.declared.steps.Step.{Step}
-use Rattle.included_forms.specs.declared.steps.Stop.{Stop}
 use Rattle.included_forms.specs.Shapes.{is_declared, kept}
 use Rattle.included_forms.specs.Steps.{from}
-use Rattle.included_forms.specs.Choices.{Chooses, all_declared}
+use Rattle.included_forms.specs.Choices.{Chooses}
 use Rattle.included_forms.proofs.Planned.{plans_bad, plans_err, plans_same, plans_row, from_first, from_more, from_fails, from_end, from_bad}
-use Rattle.included_forms.proofs.DeclaredLaws.{proper_given, kept_plain, export_of, kept_exports, never_proper, declared_row, bad_tail, proper_tail, dotted_tail, declared_all, declared_with, declared_list, atom_bad, empty_bad, other_bad}
+use Rattle.included_forms.proofs.DeclaredLaws.{kept_plain, kept_exports, never_proper, declared_row, bad_tail, proper_tail, dotted_tail, declared_all, declared_with, declared_list, atom_bad, empty_bad, other_bad}
 use Rattle.included_forms.proofs.ClauseLaws.{choice_given}
 use Rattle.included_forms.proofs.planning.+planning.Goals as goal
 

@@ -1,4 +1,4 @@
-use Rattle.std.proofs.Common.{◌≡◌, ◌+◌, ◌*◌, map}
+use Rattle.std.proofs.Common.{◌+◌, ◌*◌, map}
 use Rattle.scheme_model.specs.Data.{Datum}
 use Rattle.scheme_model.specs.Included.{Texts, declaration}
 use Rattle.scheme_model.specs.Requirements.{Known}

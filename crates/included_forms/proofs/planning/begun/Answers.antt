@@ -1,7 +1,7 @@
-use Rattle.std.proofs.Common.{◌≡◌, ◌∷◌, [], List, map, refl, sym, ap, ◌∙◌}
+use Rattle.std.proofs.Common.{◌≡◌, ◌∷◌, [], List, map, refl, ap, ◌∙◌}
 use Rattle.scheme_model.specs.Data.{Datum, row}
 use Rattle.scheme_model.specs.Declarations.{proper_parts}
-use Rattle.scheme_model.specs.Included.{Homed, Listing, in_a_row, if_proper, form_or_texts, forms_of}
+use Rattle.scheme_model.specs.Included.{Listing, in_a_row, if_proper, form_or_texts, forms_of}
 use Rattle.datum_reader.specs.Views.{datum_of, data_of}
 use Rattle.datum_reader.specs.Looks.{end_with}
 use Rattle.included_forms.specs.Steps.{from}

@@ -1,6 +1,6 @@
-use Rattle.std.proofs.Common.{◌∷◌, ◌+◌, [], ◌++◌, List, Ok, Err, length, drop, refl, sym, map, append-nil, arith}
+use Rattle.std.proofs.Common.{◌∷◌, [], ◌++◌, Err, refl, sym, map, append-nil, arith}
 use Rattle.scheme_model.specs.Data.{Datum}
-use Rattle.scheme_model.specs.Included.{Listing, form_or_texts}
+use Rattle.scheme_model.specs.Included.{form_or_texts}
 use Rattle.datum_reader.specs.Views.{datum_of, data_of}
 use Rattle.included_forms.specs.Steps.{from}
 use Rattle.included_forms.proofs.Planned.{plans_err, plans_same, from_first, from_more, from_fails, from_end}

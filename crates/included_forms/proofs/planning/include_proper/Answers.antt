@@ -1,5 +1,5 @@
-use Rattle.std.proofs.Common.{◌≡◌, ◌∷◌, [], List, refl, sym, ap, ◌∙◌}
-use Rattle.scheme_model.specs.Data.{Datum, row}
+use Rattle.std.proofs.Common.{◌∷◌, [], ap, ◌∙◌}
+use Rattle.scheme_model.specs.Data.{row}
 use Rattle.scheme_model.specs.Declarations.{proper_parts}
 use Rattle.scheme_model.specs.Included.{Listing, if_proper, including}
 use Rattle.datum_reader.specs.Views.{datum_of}

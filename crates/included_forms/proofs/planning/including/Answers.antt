@@ -1,6 +1,6 @@
-use Rattle.std.proofs.Common.{◌∷◌, [], List, Option, map, ap, ◌∙◌}
+use Rattle.std.proofs.Common.{◌∷◌, [], List, Option, map, ap}
 use Rattle.scheme_model.specs.Includes.{StringAt}
-use Rattle.scheme_model.specs.Included.{Listing, in_a_row, texts_or, including}
+use Rattle.scheme_model.specs.Included.{in_a_row, texts_or, including}
 use Rattle.datum_reader.specs.Views.{datum_of, data_of}
 use Rattle.included_forms.specs.declared.steps.Way.TheVariants as way
 use Rattle.included_strings.specs.Strings.{strings_among}

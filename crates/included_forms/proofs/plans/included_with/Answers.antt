@@ -1,5 +1,4 @@
 use Rattle.std.proofs.Common.{◌≡◌, ◌+◌, suc, sym, ◌∙◌, arith}
-use Rattle.datum_reader.specs.Views.{datum_of}
 use Rattle.included_forms.proofs.PlanLaws.{passed_library, passed_other, stopped}
 use Rattle.included_forms.proofs.plans.included_with.Goals as goal
 

@@ -1,4 +1,4 @@
-use Rattle.std.proofs.Common.{ℕ, List, ◌∷◌, [], ap, subst}
+use Rattle.std.proofs.Common.{ℕ, ◌∷◌, [], ap, subst}
 use Rattle.scheme_model.specs.declared.Occ.{Occ}
 use Rattle.scheme_model.specs.Data.{part, row}
 use Rattle.scheme_model.specs.ExpansionFaults.{BadForm}

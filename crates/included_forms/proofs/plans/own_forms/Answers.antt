@@ -1,4 +1,4 @@
-use Rattle.std.proofs.Common.{◌∷◌, ◌+◌, [], ◌++◌, Ok, Err, drop, refl, sym, append-nil, arith}
+use Rattle.std.proofs.Common.{◌∷◌, ◌+◌, [], ◌++◌, Err, drop, refl, sym, append-nil, arith}
 use Rattle.included_forms.proofs.Planned.{plans_err, plans_same, from_first, from_more, from_fails, from_end}
 use Rattle.included_forms.proofs.PlanLaws.{own_given, own_more}
 use Rattle.included_forms.proofs.plans.own_forms.Goals as goal

@@ -1,4 +1,4 @@
-use Rattle.std.proofs.Common.{◌≡◌, ◌+◌, ◌++◌, ◌∷◌, [], List, length, take, map, sym, ap, ◌∙◌, arith}
+use Rattle.std.proofs.Common.{◌++◌, ◌∷◌, [], List, take, map, sym, ap, ◌∙◌, arith}
 use Rattle.std.proofs.lemmas.List.{map-append, take_more, take_all}
 use Rattle.included_forms.specs.declared.given.Given.{Given}
 use Rattle.included_forms.specs.declared.steps.Step.{Step}

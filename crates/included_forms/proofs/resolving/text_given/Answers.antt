@@ -1,5 +1,4 @@
-use Rattle.std.proofs.Common.{◌≡◌, ℕ, List, Option, Some, sym, ◌∙◌, subst}
-use Rattle.included_forms.specs.declared.resolving.Standing.{Standing}
+use Rattle.std.proofs.Common.{sym, ◌∙◌, subst}
 use Rattle.included_forms.specs.Tables.{IsPlaced}
 use Rattle.included_forms.proofs.BuildLaws.{means_one}
 use Rattle.included_forms.proofs.resolving.text_given.Goals as goal

@@ -1,5 +1,4 @@
-use Rattle.std.proofs.Common.{◌∷◌, ◌+◌, [], List, Ok, Err, length, drop, refl, sym, ap, ◌∙◌, map, ◌++◌, append-nil, arith}
-use Rattle.scheme_model.specs.Included.{Listing}
+use Rattle.std.proofs.Common.{◌∷◌, ◌+◌, [], Err, drop, refl, sym, map, ◌++◌, append-nil, arith}
 use Rattle.datum_reader.specs.Views.{datum_of, data_of}
 use Rattle.included_strings.specs.Strings.{strings_among}
 use Rattle.included_forms.specs.Steps.{text_by}

@@ -1,11 +1,9 @@
-use Rattle.std.proofs.Common.{◌≡◌, ◌<◌, Some, Bool, length, slice_get, refl, sym, ap, ◌∙◌, subst, arith}
+use Rattle.std.proofs.Common.{◌≡◌, ◌<◌, Some, Bool, length, slice_get, refl, ◌∙◌, subst, arith}
 use Rattle.std.specs.Bool.{OnTrue}
 use Rattle.std.specs.Vec.{with_item}
 use Rattle.std.proofs.lemmas.Bool.Decides.{nat_tests}
 use Rattle.std.proofs.lemmas.Option.{slice_get_read}
 use Rattle.included_forms.specs.declared.resolving.Standing.TheVariants as standing
-use Rattle.included_forms.specs.declared.resolving.Standing.{Standing}
-use Rattle.included_forms.specs.declared.tables.Text.{Text}
 use Rattle.included_forms.specs.Built.{IsText}
 use Rattle.included_forms.specs.Tables.{IsPlaced}
 use Rattle.included_forms.proofs.BuildLaws.{table_more}

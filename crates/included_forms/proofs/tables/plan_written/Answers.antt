@@ -1,10 +1,6 @@
-use Rattle.std.proofs.Common.{◌≡◌, ◌++◌, List, map, sym, ap, ◌∙◌, subst}
+use Rattle.std.proofs.Common.{◌≡◌, ◌++◌, map, sym, ap, ◌∙◌, subst}
 use Rattle.std.specs.List.{filter}
 use Rattle.scheme_model.specs.Included.{in_a_row}
-use Rattle.included_forms.specs.declared.given.Given.{Given}
-use Rattle.included_forms.specs.declared.given.Part.{Part}
-use Rattle.included_forms.specs.declared.resolving.Standing.{Standing}
-use Rattle.included_forms.specs.declared.steps.Step.{Step}
 use Rattle.included_forms.specs.Steps.{given_by}
 use Rattle.included_forms.specs.Planned.{bad_one, plan_listing}
 use Rattle.included_forms.specs.Counted.{Stand, gives, tally_of, listing_of, all_given}

@@ -1,7 +1,5 @@
-use Rattle.std.proofs.Common.{◌≡◌, List, IfOk, sym, ap, ◌∙◌, subst}
-use Rattle.scheme_model.specs.Data.{Datum}
+use Rattle.std.proofs.Common.{◌≡◌, IfOk, ap, ◌∙◌, subst}
 use Rattle.scheme_model.specs.Included.{Listing}
-use Rattle.datum_reader.specs.Views.{data_of}
 use Rattle.included_forms.specs.Planned.{plan_listing, all_included}
 use Rattle.included_forms.specs.Counted.{IsWritten, in_way}
 use Rattle.included_forms.specs.Tables.{given_of, givens}

@@ -1,5 +1,4 @@
 use Rattle.std.proofs.Common.{sym, ap, ◌∙◌}
-use Rattle.included_forms.specs.declared.given.Count.{Count}
 use Rattle.included_forms.specs.Counted.{tally_as}
 use Rattle.included_forms.specs.Steps.{homed_of}
 use Rattle.included_forms.proofs.ListedLaws.{counted_lists, bad_there, long_there}

@@ -1,13 +1,12 @@
-use Rattle.std.proofs.Common.{◌≡◌, ◌∷◌, [], ◌<◌, ◌≤◌, List, length, take, map, Some, slice_get, refl, sym, ap, ◌∙◌, arith}
+use Rattle.std.proofs.Common.{◌≡◌, ◌<◌, ◌≤◌, List, length, take, map, Some, slice_get, refl, sym, ap, ◌∙◌, arith}
 use Rattle.std.proofs.lemmas.Bool.Decides.{nat_tests}
 use Rattle.std.proofs.lemmas.Option.{slice_get_read}
 use Rattle.scheme_model.specs.Included.{Given as ModelGiven, given_at, in_a_row}
 use Rattle.included_forms.specs.declared.given.Given.{Given}
 use Rattle.included_forms.specs.declared.given.Written.{Written}
 use Rattle.included_forms.specs.Counted.{in_way, listing_of, written_in}
-use Rattle.included_forms.specs.Planned.{bad_one}
 use Rattle.included_forms.proofs.TableLaws.{text_far, text_before, text_behind, written_there}
-use Rattle.included_forms.proofs.WritingLaws.{none_given, unchanged, without_bad, giving_row, left_first, step_lists, left_end, one_form}
+use Rattle.included_forms.proofs.WritingLaws.{none_given, unchanged, without_bad, giving_row, left_first, step_lists, left_end}
 use Rattle.included_forms.proofs.writing.+writing.Goals as goal
 
 pub write-loop-step-init : goal.write-loop-step-init

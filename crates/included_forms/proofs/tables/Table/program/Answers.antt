@@ -1,4 +1,4 @@
-use Rattle.std.proofs.Common.{◌≡◌, sym, ap, ◌∙◌, subst}
+use Rattle.std.proofs.Common.{sym, subst}
 use Rattle.included_forms.specs.Counted.{Stand}
 use Rattle.included_forms.specs.Planned.{plan_listing}
 use Rattle.included_forms.specs.Tables.{givens}
