@@ -66,7 +66,13 @@ fn copied(alloc: Global, listed: &[FlatForm<'_>], leading: bool) -> Mem<Vec<Unit
     for form in listed {
         let Source { origin, datum } = form.source;
         leads = leads && is_import(datum);
-        push_form(alloc, &mut forms, datum, leads || form.declared, origin.home)?;
+        push_form(
+            alloc,
+            &mut forms,
+            datum,
+            leads || form.declared,
+            origin.home,
+        )?;
     }
     Ok(forms)
 }

@@ -13,7 +13,6 @@ ghost use Rattle.datum_reader.specs.Forms.{place};
 ghost use Rattle.library_table.specs.SetsRead.{modifier_as, modifier_seen, modifier_for, IsModified, IsModifiedBy, IsSetText, IsSetMade, inner_datum, IsImportSpec};
 ghost use Rattle.datum_reader.specs.Looks.{is_list};
 
-use known_libraries::library_names::library_name;
 use crate::names::{names_in, only_name, pairs_in};
 use crate::units::ImportSpec;
 use datum_reader::Datum;
@@ -21,6 +20,7 @@ use datum_reader::heads::{is_list, second_or_itself};
 use datum_reader::look::{Look, Row, look_at, row_of, symbol_in};
 use datum_reader::shape_fault::ShapeFault;
 use import_sets::ImportSet;
+use known_libraries::library_names::library_name;
 use ls_base::{Mem, Memory, Span};
 use scheme_model::Home;
 use std::alloc::Global;
