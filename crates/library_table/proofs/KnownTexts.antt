@@ -5,7 +5,6 @@ use Rattle.std.specs.Str.{bytes_eq}
 use Rattle.scheme_model.specs.Data.{Datum, Data, none, part, tail}
 use Rattle.scheme_model.specs.Declarations.{symbol_tree, name_or, behind_head, is_library, library_name, library_name_in, library_names}
 use Rattle.scheme_model.specs.Includes.{Document, data_of}
-use Rattle.scheme_model.specs.IncludedUnits.{library_of}
 use Rattle.scheme_model.specs.ExpansionFaults.{Fault}
 use Rattle.scheme_model.specs.Order.{is_some}
 use Rattle.scheme_model.specs.Program.{all_names, is_listed, known_in, has_name}

@@ -1,10 +1,10 @@
 -- The names of libraries, by the parts of data.
-use Rattle.std.proofs.Common.{◌≡◌, ℕ, List, [], ◌∷◌, Bool, true, Option, Some, None, Result, Ok, Err, refl, sym, ap, ◌∙◌}
+use Rattle.std.proofs.Common.{◌≡◌, ℕ, List, [], ◌∷◌, true, Option, Some, None, Result, Ok, Err, refl, sym, ap, ◌∙◌}
 use Rattle.std.specs.Option.{option_map}
 use Rattle.scheme_model.specs.declared.Occ.{Occ}
-use Rattle.scheme_model.specs.Data.{Datum, atom, list, vector, bytes, Data, Place, spelled, implied, row}
+use Rattle.scheme_model.specs.Data.{Datum, atom, list, vector, bytes, Place, row}
 use Rattle.scheme_model.specs.Declarations.{library_name, name_or, symbol_tree}
-use Rattle.scheme_model.specs.ExpansionFaults.{Fault, BadForm}
+use Rattle.scheme_model.specs.ExpansionFaults.{Fault}
 use Rattle.scheme_model.specs.Requirements.{LibraryName, library_name_of}
 use Rattle.scheme_tokens.specs.LibraryNames.{library_text}
 use Rattle.datum_reader.specs.declared.datum.Datum as code

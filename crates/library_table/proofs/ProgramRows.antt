@@ -1,6 +1,6 @@
 -- The data of a document that are no libraries, one more at a time, and a part's program of them.
 use Rattle.std.proofs.Common.{◌≡◌, ℕ, suc, ◌+◌, ◌<◌, ◌≤◌, List, [], ◌∷◌, ◌++◌, append_assoc, append-nil, length, get_or, drop, map, Bool, true, false, cond, not, Some, None, Ok, slice_get, refl, sym, ap, ◌∙◌, subst}
-use Rattle.std.proofs.lemmas.List.{drop_more, at_drop_all, map-append}
+use Rattle.std.proofs.lemmas.List.{drop_more, at_drop_all}
 use Rattle.scheme_model.specs.Data.{Datum, place_of}
 use Rattle.scheme_model.specs.Declarations.{UnitForm, plain_form, is_library, IsPart}
 use Rattle.scheme_model.specs.IncludedUnits.{part_of}

@@ -1,22 +1,22 @@
 -- Import sets as they are read: their modifiers, and what these make of a set.
-use Rattle.std.proofs.Common.{◌≡◌, ℕ, ◌<◌, ◌≤◌, List, [], ◌∷◌, Bool, true, false, Option, Some, None, Result, Ok, Err, refl, sym, ap, ◌∙◌, subst, arith}
+use Rattle.std.proofs.Common.{◌≡◌, ℕ, List, [], ◌∷◌, Bool, true, false, Option, Some, None, Result, Ok, Err, refl, sym, ap, ◌∙◌, subst}
 use Rattle.std.specs.Borrow.{Bor}
 use Rattle.std.specs.Result.{IsErrAnd}
 use Rattle.scheme_model.specs.declared.Occ.{Occ}
 use Rattle.scheme_model.specs.Kinds.{Name, Numeral, Quoted, Character, Truth}
-use Rattle.scheme_model.specs.Data.{Datum, none, row, atom as atom_datum, list as list_datum, vector as vector_datum, bytes as bytes_datum, spelled, implied}
+use Rattle.scheme_model.specs.Data.{Datum, atom as atom_datum, list as list_datum, vector as vector_datum, bytes as bytes_datum, spelled, implied}
 use Rattle.scheme_model.specs.Trees.{Tree, name, atom, list, vector, Trees, tree, Tail}
 use Rattle.scheme_model.specs.ExpansionFaults.{Fault, BadForm}
 use Rattle.scheme_model.specs.Entries as model
 use Rattle.scheme_model.specs.Entries.{Modifier, Bad, set_of, library_set, modified_set, by_modifier, modifier_named, or_bad}
 use Rattle.import_sets.specs.declared.set.ImportSet.{ImportSet}
 use Rattle.datum_reader.specs.declared.datum.Datum as code
-use Rattle.datum_reader.specs.Views.{datum_of, data_of}
+use Rattle.datum_reader.specs.Views.{datum_of}
 use Rattle.datum_reader.specs.declared.shape_fault.ShapeFault.{ShapeFault}
 use Rattle.datum_reader.specs.declared.shape_fault.ShapeFault.TheVariants as fault
 use Rattle.library_table.specs.declared.sets.Modifier as code_modifier
 use Rattle.library_table.specs.declared.sets.Modified.{Modified}
-use Rattle.datum_reader.specs.Looks.{plain, tree_at, trees_at, word_of, symbol_now, IsWord, IsListOf, end_with}
+use Rattle.datum_reader.specs.Looks.{plain, tree_at, trees_at, word_of, symbol_now, IsWord}
 use Rattle.known_libraries.specs.PartsRead.{Fails}
 use Rattle.library_table.specs.SetsRead.{modifier_as, modifier_seen, modifier_for, IsModified, IsModifiedBy, IsSetText, IsSetMade}
 use Rattle.datum_reader.specs.Looks.{is_list}

@@ -5,7 +5,7 @@ use Rattle.std.specs.Option.{option_map}
 use Rattle.scheme_model.specs.Data.{Datum, Place, place_of}
 use Rattle.scheme_model.specs.DataTrees.{tree_of}
 use Rattle.scheme_model.specs.Declarations.{UnitForm, UnitKind, IsLibrary, home_of, is_headed, list_parts, behind_head, library_name}
-use Rattle.scheme_model.specs.Entries.{ImportSet, Library, Only, Except, Prefix, Rename, Bad, Modifier, IsOnly, IsExcept, IsPrefix, IsRename, modifier_named, pairs_of, or_bad, modified_set, library_set, by_modifier, set_of, library_in}
+use Rattle.scheme_model.specs.Entries.{ImportSet, Library, Only, Except, Prefix, Rename, Modifier, IsOnly, IsExcept, IsPrefix, IsRename, modifier_named, pairs_of, or_bad, modified_set, library_set, by_modifier, set_of, library_in}
 use Rattle.scheme_model.specs.ExpansionFaults.{Fault, ◌>>◌}
 use Rattle.scheme_model.specs.Included.{Texts, Listing, Lists, BadAfter, TooLong}
 use Rattle.scheme_model.specs.IncludedUnits.{UnitSource, source_by, library_of, library_listing, own}

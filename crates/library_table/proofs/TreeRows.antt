@@ -1,5 +1,5 @@
 -- The trees of data in a row.
-use Rattle.std.proofs.Common.{◌≡◌, ℕ, ◌+◌, ◌<◌, ◌≤◌, List, [], ◌∷◌, ◌++◌, append_assoc, append-nil, length, map, get_or, drop, Result, Ok, refl, sym, ap, ◌∙◌}
+use Rattle.std.proofs.Common.{◌≡◌, ℕ, ◌+◌, ◌<◌, ◌≤◌, List, [], ◌∷◌, ◌++◌, length, map, get_or, drop, Result, Ok, refl, sym, ap, ◌∙◌}
 use Rattle.std.proofs.lemmas.List.{drop_more, at_drop_all, map-append}
 use Rattle.scheme_model.specs.declared.Occ.{Occ}
 use Rattle.scheme_model.specs.Trees.{Tree, Trees, no_trees, tree}
@@ -10,7 +10,7 @@ use Rattle.datum_reader.specs.declared.datum.Datum as code
 use Rattle.datum_reader.specs.declared.shape_fault.ShapeFault.{ShapeFault}
 use Rattle.datum_reader.specs.Looks.{tree_at, trees_at}
 use Rattle.known_libraries.specs.PartsRead.{Fails}
-use Rattle.library_table.proofs.Chaining.{fails_same, each_of, in_front, front_none, each_more, each_fails}
+use Rattle.library_table.proofs.Chaining.{each_of, in_front, each_more, each_fails}
 
 pub trees_more : (place : ℕ → Occ) (ds : List code.Datum) (i : ℕ) (d : code.Datum) → i < length ds → d ≡ get_or ds i d → trees_at place (drop i ds) ≡ tree (tree_at place d) (trees_at place (drop (i + 1) ds))
 trees_more place ds i d lt is =
