@@ -61,6 +61,15 @@ add_libraries-requires-clause-can c =
     let low : k < length ps = (let many = c.requires.parts in omega arith) in
     can_read c.args.reader.now cs ps k c.in_ok-number.number d _ _ c.in_ok-number.ensures c.requires.can (place_got cs k d (omega arith) c.index-documents-place.is) (slice_get-get_or ps k _ low) c.items_in-items.ensures
 
+pub add_program-requires-clause-can : goal.add_program-requires-clause-can
+add_program-requires-clause-can c =
+    let cs = c.args.documents.now in
+    let ps = c.args.parts.now in
+    let k = c.loop-place.place in
+    let d = c.index-documents-place.result in
+    let low : k < length ps = (let many = c.requires.parts in omega arith) in
+    can_read c.args.reader.now cs ps k c.in_ok-number.number d _ _ c.in_ok-number.ensures c.requires.can (place_got cs k d (omega arith) c.index-documents-place.is) (slice_get-get_or ps k _ low) c.items_in-items.ensures
+
 pub loop-place-preserved : goal.loop-place-preserved
 loop-place-preserved c =
     let l = c.loop-place in
