@@ -8,7 +8,8 @@ use Rattle.scheme_model.specs.declared.Occ.{Occ}
 use Rattle.scheme_model.specs.Requirements.{LibraryName}
 use Rattle.scheme_model.specs.StandardLibraries.{standard}
 use Rattle.scheme_model.specs.Entries as model
-use Rattle.scheme_model.specs.Program.{Placed, Prepared, ImportSpec, is_import, is_program, imports_nothing, base_entries, unit_entries, UnitResult, SetResult, Unknown, Faulty, Gives, standard_entry, unit_exports, unit_named, result_at, exports_if, library_exports, with_exports, of_library, after_set, import_all}
+use Rattle.scheme_model.specs.IncludedUnits.{Placed}
+use Rattle.scheme_model.specs.Program.{Prepared, ImportSpec, is_import, is_program, imports_nothing, base_entries, unit_entries, UnitResult, SetResult, Unknown, Faulty, Gives, standard_entry, unit_exports, unit_named, result_at, exports_if, library_exports, with_exports, of_library, after_set, import_all}
 use Rattle.scheme_model.specs.Diagnostics.{Diagnostic, Bytes, document_of, at_bytes, bytes_of, bytes_or, datum_bytes, set_found, set_diagnostics, clash_diagnostics, import_fault}
 use Rattle.syntax_tree.specs.Names.{Names, KeepsNames}
 use Rattle.syntax_tree.specs.Meant.{AreEntries}

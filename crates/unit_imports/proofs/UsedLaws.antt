@@ -13,7 +13,8 @@ use Rattle.scheme_model.specs.Entries as model
 use Rattle.scheme_model.specs.Live.{NameUse, entry_use, second_use, listed_uses, pair_uses, set_uses, if_given, export_uses, all_export_uses, meaning_or, origins_or}
 use Rattle.scheme_model.specs.Requirements.{LibraryName}
 use Rattle.scheme_model.specs.StandardLibraries.{standard}
-use Rattle.scheme_model.specs.Program.{Placed, UnitResult, ImportSpec, ExportSpec, has_name, library_exports}
+use Rattle.scheme_model.specs.IncludedUnits.{Placed}
+use Rattle.scheme_model.specs.Program.{UnitResult, ImportSpec, ExportSpec, has_name, library_exports}
 use Rattle.scheme_model.specs.ProgramArrows.{import_uses, uses_in_set, uses_given}
 use Rattle.syntax_tree.specs.Names.{Names, KeepsNames}
 use Rattle.syntax_tree.specs.Macros.{IsIdent}

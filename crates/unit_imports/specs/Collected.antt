@@ -1,7 +1,8 @@
 -- The units of a program as they are put together, each by its head and what it came to.
 use Rattle.std.specs.Prelude.{◌≡◌, ℕ, List, [], All, length, slice_get, Option, Some, None}
 use Rattle.scheme_model.specs.Requirements.{LibraryName}
-use Rattle.scheme_model.specs.Program.{Placed, Prepared, prepared}
+use Rattle.scheme_model.specs.IncludedUnits.{Placed}
+use Rattle.scheme_model.specs.Program.{Prepared, prepared}
 use Rattle.core_tree.specs.Units.{IsBlank, imports_of, kind_as, ranges_from, text_of}
 use Rattle.core_tree.specs.declared.units.Unit as code
 use Rattle.library_table.specs.declared.units.UnitSource.{UnitSource}

@@ -5,7 +5,8 @@ use Rattle.std.specs.BTreeMap.{get_by_text}
 use Rattle.scheme_model.specs.Requirements.{LibraryName}
 use Rattle.scheme_model.specs.StandardLibraries.{standard}
 use Rattle.scheme_model.specs.Entries as model
-use Rattle.scheme_model.specs.Program.{Placed, Prepared, UnitResult, SetResult, Unknown, Faulty, result_at, exports_if, unit_named, library_exports, of_library, after_set}
+use Rattle.scheme_model.specs.IncludedUnits.{Placed}
+use Rattle.scheme_model.specs.Program.{Prepared, UnitResult, SetResult, Unknown, Faulty, result_at, exports_if, unit_named, library_exports, of_library, after_set}
 use Rattle.syntax_tree.specs.Names.{Names}
 use Rattle.syntax_tree.specs.Meant.{AreEntries}
 use Rattle.syntax_tree.specs.declared.units.Entry.{Entry}

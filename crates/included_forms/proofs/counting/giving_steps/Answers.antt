@@ -19,12 +19,12 @@ loop-step-preserved c = λ limit gs h.
     filter_more (gives gs) ss i s (omega arith) ∙ ap (λ (x : Given). filter (gives gs) (take i ss) ++ cond (gives gs x) (x ∷ []) []) (sym c.step-item.is)
     ∙ ap (λ b. filter (gives gs) (take i ss) ++ cond b (s ∷ []) []) (sym here) in
     elim c.if-gives.branch [
-      then-gives+in_ok-push w ↦
-        ap (λ v. v.items) w.giving-is ∙ w.in_ok-push.ensures.items ∙ ap (λ xs. xs ++ s ∷ []) was
-        ∙ ap (λ b. filter (gives gs) (take i ss) ++ cond b (s ∷ []) []) (sym w.if-gives.true) ∙ sym more
+      | then-gives+in_ok-push w ↦
+          ap (λ v. v.items) w.giving-is ∙ w.in_ok-push.ensures.items ∙ ap (λ xs. xs ++ s ∷ []) was
+          ∙ ap (λ b. filter (gives gs) (take i ss) ++ cond b (s ∷ []) []) (sym w.if-gives.true) ∙ sym more
       | else-gives w ↦
-        ap (λ v. v.items) w.giving-is ∙ was ∙ sym (append-nil (filter (gives gs) (take i ss)))
-        ∙ ap (λ b. filter (gives gs) (take i ss) ++ cond b (s ∷ []) []) (sym w.if-gives.false) ∙ sym more
+          ap (λ v. v.items) w.giving-is ∙ was ∙ sym (append-nil (filter (gives gs) (take i ss)))
+          ∙ ap (λ b. filter (gives gs) (take i ss) ++ cond b (s ∷ []) []) (sym w.if-gives.false) ∙ sym more
     ]
 
 pub returns : goal.returns

@@ -9,9 +9,9 @@ use Rattle.library_table.proofs.reading.forms_listed.Goals as goal
 
 pub returns-in_ok-lost-in-Lists : goal.returns-in_ok-lost-in-Lists
 returns-in_ok-lost-in-Lists c = λ l h.
-    lists_read c.args.unit c.args.leading c.args.listed c.in-Lists.forms c.in-Lists.lost l _ c.in-Lists.is h
-    (c.in_ok-forms.ensures ∙ ap (λ (fs : List FlatForm). forms_left c.args.leading (map listed_form fs)) c.as_slice.ensures.value)
-    (c.in_ok-lost.ensures ∙ ap (λ (ls : List LostString). map lost_as (map lost_of ls)) c.as_slice-2.ensures.value)
+    lists_read c.args.unit c.args.leading c.args.listed c.in-Lists.forms c.in-Lists.lost l (record { forms = c.in_ok-forms-in-Lists.forms; lost = c.in_ok-lost-in-Lists.lost }) c.in-Lists.is h
+    (c.in_ok-forms-in-Lists.ensures ∙ ap (λ (fs : List FlatForm). forms_left c.args.leading (map listed_form fs)) c.as_slice.ensures.value)
+    (c.in_ok-lost-in-Lists.ensures ∙ ap (λ (ls : List LostString). map lost_as (map lost_of ls)) c.as_slice-in-Lists.ensures.value)
 
 pub returns-in-Bad : goal.returns-in-Bad
 returns-in-Bad c = λ l h. bad_read c.args.unit c.args.leading c.args.listed c.in-Bad.source l c.bad.result c.in-Bad.is h c.bad.ensures

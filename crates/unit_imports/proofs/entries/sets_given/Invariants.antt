@@ -1,6 +1,7 @@
 use Rattle.std.proofs.Common.{◌≡◌, ℕ, List, [], length, drop}
 use Rattle.scheme_model.specs.Requirements.{LibraryName}
-use Rattle.scheme_model.specs.Program.{Placed, UnitResult, ImportSpec}
+use Rattle.scheme_model.specs.IncludedUnits.{Placed}
+use Rattle.scheme_model.specs.Program.{UnitResult, ImportSpec}
 use Rattle.syntax_tree.specs.Names.{KeepsNames}
 use Rattle.core_tree.specs.Names.{AllMatch}
 use Rattle.document_units.specs.Findings.{all_told, errors_in}

@@ -1,6 +1,7 @@
 use Rattle.std.proofs.Common.{ℕ, List, take}
 use Rattle.scheme_model.specs.Requirements.{LibraryName}
-use Rattle.scheme_model.specs.Program.{Placed, UnitResult, ImportSpec}
+use Rattle.scheme_model.specs.IncludedUnits.{Placed}
+use Rattle.scheme_model.specs.Program.{UnitResult, ImportSpec}
 use Rattle.scheme_model.specs.ProgramArrows.{import_uses}
 use Rattle.syntax_tree.specs.Names.{KeepsNames}
 use Rattle.core_tree.specs.Names.{AllMatch}
