@@ -16,7 +16,7 @@ use Rattle.document_units.specs.declared.listing.Units.{Units}
 -- ---- the libraries among data
 
 module _ (t : Texts) (known : Known) (document : ℕ) (circular : Bool) where
-  abbrev given : List Datum → List UnitSource
+  abbrev pub given : List Datum → List UnitSource
   given ds = map (unless_circular circular) (libraries_in t known document ds)
 
   libraries_first : (d : Datum) (ds : List Datum) (b : Bool) → is_library d ≡ b → libraries_in t known document (d ∷ ds) ≡ libraries_in t known document (d ∷ []) ++ libraries_in t known document ds

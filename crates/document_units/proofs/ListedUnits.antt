@@ -176,7 +176,7 @@ module _ (spelled : LibraryName → List ℕ) (written : WritesProper spelled) (
           exports = subst (λ (cs : List code_export.ExportSpec). AreExports cs (exports_from n 0 (forms_or_none u.forms))) (sym blank.exports)
               (subst (λ (fs : List UnitForm). AreExports [] (exports_from n 0 fs)) (sym nothing) tt);
           single = all_from n 0 (forms_or_none u.forms);
-          lost = subst (λ (cs : List code_lost.LostString). AreLost cs u.lost) (sym blank.lost) (subst (λ (ls : List LostString). AreLost [] ls) (sym none) (record { all = tt; only = tt }));
+          lost = subst (λ (cs : List code_lost.LostString). AreLost cs u.lost) (sym blank.lost) (subst (λ (ls : List LostString). AreLost [] ls) (sym none) refl);
         };
         read = subst (λ (fs : List code_form.UnitForm). FormsRead (forms_of fs)) (sym blank.forms) tt;
       }

@@ -1,20 +1,18 @@
 -- The forms of units were read, where the data of all documents were, also those that are declarations, and those of included texts.
-use Rattle.std.proofs.Common.{◌≡◌, ℕ, zero, suc, ◌≤◌, List, [], ◌∷◌, ◌++◌, map, length, Bool, true, false, Option, Some, None, Result, Ok, Err, refl, sym, ap, ◌∙◌, subst, inl, inr, cond, filter, codes, arith}
-use Rattle.std.specs.Prelude.{◌&&◌, nat_lt}
-use Rattle.scheme_model.specs.Data.{Place, Datum, atom, list, vector, bytes, Data, none, part, tail, place_of}
-use Rattle.scheme_model.specs.Declarations.{UnitForm, plain_form, proper_parts, with_part, all_export_parts, Declared, Exports, Imports, Begins, Chooses, Includes, Undeclared, declared_by, symbol_in, behind_head, is_headed, is_proper, UnitKind, library_name_in}
-use Rattle.scheme_model.specs.ExpansionFaults.{Fault}
-use Rattle.scheme_model.specs.Included.{Homed, FlatForm, LostString, Listing, Lists, BadAfter, TooLong, Texts, Sources, Clause, Given, inside, joined, capped, followed, in_a_row, texts_or, form_or_texts, form_alone, forms_of, bad, including, choice, chosen, later_clauses, declared_as, if_proper, with_clause, clause_with, declaration, declarations, clauses, clause_of, declarations_of, given_at, given_or_lost, lost, texts, homed_from, included_data, given_from, given, all_texts}
-use Rattle.scheme_model.specs.IncludedUnits.{UnitSource, EarlyFault, source_by, unit_form, own, if_named, library_listing, with_imports, importing}
-use Rattle.scheme_model.specs.Includes as model
-use Rattle.scheme_model.specs.Includes.{StringAt, includes, includes_declarations, document_at, is_among, program_data, program_number}
-use Rattle.scheme_model.specs.Requirements.{LibraryName, Known, clause_holds}
-use Rattle.datum_reader.specs.WellFormed.{IsIn, IsAmong, WasRead}
+use Rattle.std.proofs.Common.{◌≡◌, ℕ, zero, suc, ◌≤◌, List, [], ◌∷◌, map, Bool, true, false, Option, Some, None, Result, Ok, Err, refl, subst, cond, filter, arith}
+use Rattle.scheme_model.specs.Data.{Place, Datum, place_of}
+use Rattle.scheme_model.specs.Declarations.{UnitForm, plain_form, behind_head, UnitKind}
+use Rattle.scheme_model.specs.Included.{Homed, FlatForm, Listing, Lists, BadAfter, TooLong, Texts, Sources, inside, forms_of, homed_from, included_data, all_texts}
+use Rattle.scheme_model.specs.IncludedUnits.{source_by, unit_form, own, library_listing, importing}
+use Rattle.scheme_model.specs.Includes.{program_data, program_number}
+use Rattle.scheme_model.specs.Requirements.{LibraryName, Known}
+use Rattle.datum_reader.specs.WellFormed.{IsIn, WasRead}
 use Rattle.datum_reader.proofs.ReadParts.{part_was_read}
 use Rattle.datum_reader.specs.declared.datum.Datum as code
 use Rattle.datum_reader.specs.Views.{data_of}
 use Rattle.document_units.specs.DataRead.{AllRead, DocumentsRead, DataWereRead, data_at}
 use Rattle.document_units.specs.WereRead.{WereRead, IsInHome, FormsRead}
+use Rattle.document_units.proofs.ListedForms.{AllSuch, FormsSuch, Gives, TextsGive, library_such, program_such, all_texts_such}
 use Rattle.document_units.proofs.RisingParts.{part_behind}
 
 pub were_read : (fs : List UnitForm) → FormsRead fs → WereRead fs

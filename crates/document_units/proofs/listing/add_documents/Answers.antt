@@ -1,17 +1,18 @@
 -- The units of one document more are sound in one more, and are listed behind those of the documents before.
-use Rattle.std.proofs.Common.{◌≡◌, ◌<◌, ◌+◌, ℕ, List, Some, refl, sym, ap, ◌∙◌, subst, length, slice_get, get_or, take, arith}
+use Rattle.std.proofs.Common.{◌≡◌, ◌<◌, ◌+◌, ℕ, List, map, Some, refl, sym, ap, ◌∙◌, subst, length, slice_get, get_or, take, arith}
 use Rattle.std.proofs.lemmas.List.{take_all}
 use Rattle.std.proofs.lemmas.Option.{slice_get_read, slice_get-get_or, slice_get_within}
 use Rattle.scheme_model.specs.Included.{all_texts}
 use Rattle.scheme_model.specs.Includes as model
-use Rattle.scheme_model.specs.Includes.{document_at, naming}
-use Rattle.scheme_model.specs.IncludedUnits.{units_from}
+use Rattle.scheme_model.specs.Includes.{document_at, naming, program_data}
+use Rattle.scheme_model.specs.IncludedUnits.{unless_circular, libraries_in, program_in, units_from}
 use Rattle.datum_reader.specs.declared.datum.Datum as code
+use Rattle.datum_reader.specs.Views.{data_of}
 use Rattle.text_parts.specs.declared.parts.TextPart.{TextPart}
 use Rattle.document_units.specs.DataRead.{DataWereRead, AreReadIn, items_in}
 use Rattle.document_units.specs.Listing.{CanRead, CanReadAll, IsAt}
 use Rattle.document_units.specs.Sound.{IsSound}
-use Rattle.document_units.specs.UnitsListed.{AreSoFar}
+use Rattle.document_units.specs.UnitsListed.{AreSoFar, AddsRead}
 use Rattle.document_units.specs.declared.documents.Document.{Document}
 use Rattle.document_units.specs.declared.included.Reader.{Reader}
 use Rattle.document_units.proofs.SoundLaws.{sound_none, sound_in}
@@ -60,6 +61,15 @@ add_libraries-requires-clause-can c =
     let low : k < length ps = (let many = c.requires.parts in omega arith) in
     can_read c.args.reader.now cs ps k c.in_ok-number.number d _ _ c.in_ok-number.ensures c.requires.can (place_got cs k d (omega arith) c.index-documents-place.is) (slice_get-get_or ps k _ low) c.items_in-items.ensures
 
+pub add_program-requires-clause-can : goal.add_program-requires-clause-can
+add_program-requires-clause-can c =
+    let cs = c.args.documents.now in
+    let ps = c.args.parts.now in
+    let k = c.loop-place.place in
+    let d = c.index-documents-place.result in
+    let low : k < length ps = (let many = c.requires.parts in omega arith) in
+    can_read c.args.reader.now cs ps k c.in_ok-number.number d _ _ c.in_ok-number.ensures c.requires.can (place_got cs k d (omega arith) c.index-documents-place.is) (slice_get-get_or ps k _ low) c.items_in-items.ensures
+
 pub loop-place-preserved : goal.loop-place-preserved
 loop-place-preserved c =
     let l = c.loop-place in
@@ -78,8 +88,14 @@ loop-place-preserved c =
           let b = document_at ds k in
           let below : k < length ds = omega arith in
           let p = get_or ps k _ in
-          let here : IsAt o k (items_in d) p = at k d p there (slice_get-get_or ps k _ low) in
-          ?;
+          let xs = c.items_in-items.result.now in
+          let is : xs ≡ items_in d = c.items_in-items.ensures in
+          let here : IsAt o k xs p = subst (λ (ys : List code.Datum). IsAt o k ys p) (sym is) (at k d p there (slice_get-get_or ps k _ low)) in
+          let numbered : IsAt o n xs p = subst (λ m. IsAt o m xs p) (sym same) here in
+          let libraries = subst (λ m. AddsRead ds m (map (unless_circular p.on_circle) (libraries_in (all_texts o) o.known m (data_of xs))) l.units c.add_libraries.new.units) same (c.in_ok-add_libraries.ensures.added o reader numbered) in
+          let program = subst (λ m. AddsRead ds m (map (unless_circular p.on_circle) (program_in (all_texts o) m p.is_part (program_data (data_of xs)))) c.add_libraries.new.units c.add_program.new.units) same (c.in_ok-add_program.ensures.added o reader numbered) in
+          document_added (all_texts o) o.known (naming ds) ds spelled ds k b p.on_circle p.is_part (data_of xs) l.units c.add_libraries.new.units c.add_program.new.units written below (document_or ds k b below) here.part.circle here.part.part here.here libraries program
+          (l.invariant.far o reader at many spelled written);
     }
 
 pub returns-clause-sound : goal.returns-clause-sound

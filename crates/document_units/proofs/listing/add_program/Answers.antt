@@ -19,7 +19,7 @@ use Rattle.document_units.proofs.listing.add_program.Goals as goal
 pub returns-in_default-clause-added : goal.returns-in_default-clause-added
 returns-in_default-clause-added c = λ o r at.
     let es = program_data (data_of c.args.items.now) in
-    let none : es ≡ [] = none_there es (c.in_default.ensures tt) in
+    let none : es ≡ [] = none_there es c.in_default.ensures in
     subst (λ (us : List UnitSource). AddsRead o.documents c.args.document us c.args.units.now c.args.units.now) (no_program o r.read c.args.document 0 c.args.part.on_circle c.args.part.is_part es none)
     (nothing_added o.documents c.args.document c.args.units.now)
 
