@@ -51,7 +51,7 @@ lost_more ls i l old now new at so more =
 -- all strings
 pub lost_all : (cs : List code.LostString) (ls : List LostString) (i : ℕ) (old new : List Finding) → cs ≡ map lost_as ls → length cs ≤ i → new ≡ old ++ map lost_found (take i ls) → Adds old new (lost_diagnostics ls) []
 lost_all cs ls i old new e over h =
-    let many : length cs ≡ length ls = ap (λ (xs : List code.LostString). length xs) e ∙ length-map lost_as ls in
+    let many : length cs ≡ length ls = ap (λ (xs : List code.LostString). length xs) e ∙ length-map ls lost_as in
     lost_adds old new ls (h ∙ ap (λ (ks : List LostString). old ++ map lost_found ks) (take_all i ls (omega arith)))
 
 -- the finding of a string is that of the definition's

@@ -45,15 +45,15 @@ module _ (cs : List code.Document) where
 -- ---- a document's fault is the one of its text
 
 abbrev IsFaultOf : Option Unread → Read → Type 0
-IsFaultOf u (Reads ds spans) = u ≡ None
-IsFaultOf u (Stops f) = IsUnread u f
+IsFaultOf u (Reads uri ds spans) = u ≡ None
+IsFaultOf u (Stops uri f) = IsUnread u f
 
 module _ (text : List ℕ) (c : code.Document) where
   told_as : (r q : Read) → IsReadSo c r → IsReadAs text r → IsReadAs text q → IsFaultOf c.fault q
-  told_as (Reads ds spans) (Reads es ss) so h k = so.2
-  told_as (Reads ds spans) (Stops g) so h k = absurd (never_reads_and_stops (chars text) ds g h.3 k)
-  told_as (Stops f) (Reads es ss) so h k = absurd (never_reads_and_stops (chars text) es f k.3 h)
-  told_as (Stops f) (Stops g) so h k = subst (λ (x : Stop). IsUnread c.fault x) (one_stop (chars text) f g h k) so.2
+  told_as (Reads uri ds spans) (Reads other es ss) so h k = so.2
+  told_as (Reads uri ds spans) (Stops other g) so h k = absurd (never_reads_and_stops (chars text) ds g h.3 k)
+  told_as (Stops uri f) (Reads other es ss) so h k = absurd (never_reads_and_stops (chars text) es f k.3 h)
+  told_as (Stops uri f) (Stops other g) so h k = subst (λ (x : Stop). IsUnread c.fault x) (one_stop (chars text) f g h k) so.2
 
 document_told : (d : List ℕ × Document) (c : code.Document) (r : Read) → IsDocument d c → IsReadAs d.1.1 r → IsFaultOf c.fault r
 document_told d c r is rd = told_as d.1.1 c is.read r is.so is.is_read rd
@@ -78,6 +78,6 @@ kept_of_all ds cs rs are rd old ms keeps told = λ n m r at there.
     tells n r d.0.fault d.2 ch.0 m (subst (λ (o : Option code.Document). TellsStopOf o ch.0 m) d.1 ch.1.1) (keeps n ch.0 ch.1.0)
   where
     tells : (n : ℕ) (r : Read) (u : Option Unread) → IsFaultOf u r → (o m : Map) → TellsStop u o m → o.entries ≡ map kept (in_document n (sorted (all_diagnostics (map spans_in rs) (program_in rs) (program_in rs).units))) → m.entries ≡ map kept (found_of rs n r)
-    tells n (Reads es spans) u is o m h k = let same : m ≡ o = subst (λ (v : Option Unread). TellsStop v o m) is h in ap (λ (x : Map). x.entries) same ∙ k
-    tells n (Stops f) None is o m h k = absurd is
-    tells n (Stops f) (Some u) is o m h k = h ∙ (λ i. ((is.1 i, is.0 i, worded (is.0 i) []), is.2 i) ∷ [])
+    tells n (Reads uri es spans) u is o m h k = let same : m ≡ o = subst (λ (v : Option Unread). TellsStop v o m) is h in ap (λ (x : Map). x.entries) same ∙ k
+    tells n (Stops uri f) None is o m h k = absurd is
+    tells n (Stops uri f) (Some u) is o m h k = h ∙ (λ i. ((is.1 i, is.0 i, worded (is.0 i) []), is.2 i) ∷ [])

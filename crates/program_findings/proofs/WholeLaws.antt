@@ -93,11 +93,12 @@ start_tells spans us r unit start code.TooLarge at e = e ∙ ap (start_of spans)
 
 -- a fault is told as it is
 pub whole_of : (f : model.WholeFault) → IsWhole (told_of f) f
-whole_of model.TooMany = tt
-whole_of (model.BadDeclaration n d) = (refl, refl, refl)
-whole_of model.DefinedTwice = tt
-whole_of model.ImportCycle = tt
-whole_of model.TooLarge = tt
+whole_of model.TooMany = record { code = refl; place = refl }
+whole_of model.IncludeCycle = record { code = refl; place = refl }
+whole_of (model.BadDeclaration n d) = record { code = refl; place = refl }
+whole_of model.DefinedTwice = record { code = refl; place = refl }
+whole_of model.ImportCycle = record { code = refl; place = refl }
+whole_of model.TooLarge = record { code = refl; place = refl }
 
 pub whole_found : (rs : List Read) (p : model.Program) (r : model.UnitResult) (f : model.WholeFault) (fs : List Finding) → r.fault ≡ Some f → Adds [] fs (whole_fault (spans_of rs) (document_of p.units) r.unit f ∷ []) ((whole_code f, 0) ∷ []) → IsFoundOf rs p r fs
 whole_found rs p r f fs e h = record {

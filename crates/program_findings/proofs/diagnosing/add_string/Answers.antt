@@ -23,4 +23,4 @@ returns-clause-inside c = λ found.
 pub returns-clause-exact : goal.returns-clause-exact
 returns-clause-exact c = λ l is inside.
     c.in_ok-push.ensures.items
-    ∙ ap (λ (f : Finding). c.args.findings.now.items ++ f ∷ []) (string_found c.args.string.now l c.new-at.result c.in_ok-finding.finding is c.new-at.ensures (c.in_ok-finding.ensures ∙ (λ i. record { at = Some c.new-at.result; form = 0; code = 105; message = worded 105 (c.as_str-name.ensures.value i) })))
+    ∙ ap (λ (f : Finding). c.args.findings.now.items ++ f ∷ []) (string_found c.args.string.now l c.new-at.result c.in_ok-finding.finding is c.new-at.ensures (c.in_ok-finding.ensures ∙ (λ i. record { at = Some c.new-at.result; form = 0; code = 105; message = worded 105 (c.as_str-name.ensures i) })))
