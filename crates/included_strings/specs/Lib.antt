@@ -1,0 +1,1 @@
+pub mod Strings  -- Strings as they are read

@@ -1,0 +1,1 @@
+pub mod Onward  -- What documents name, directly or not
