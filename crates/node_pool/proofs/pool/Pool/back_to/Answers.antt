@@ -1,0 +1,10 @@
+use Rattle.std.proofs.Common.{◌≤◌, ap, subst, sym}
+use Rattle.std.specs.Prelude.{unwrap_or}
+use Rattle.std.specs.FinMap as map
+use Rattle.node_pool.proofs.MapLaws.{holds}
+use Rattle.node_pool.proofs.pool.Pool.back_to.Goals as goal
+
+pub shorten-requires : goal.shorten-requires
+shorten-requires g c =
+    let p = holds (map.get c.args.self.now.regions c.args.region.now.number) c.requires.region.1 in
+    (p.0, p.1, subst (λ k. c.args.mark.count ≤ k) (ap (λ o. unwrap_or o 0) p.1) c.requires.mark)

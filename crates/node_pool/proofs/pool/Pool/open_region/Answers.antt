@@ -1,0 +1,45 @@
+use Rattle.std.proofs.Common.{◌≡◌, ◌+◌, Some, sum_by, is_some, count_by, refl, sym, ap, subst, ◌∙◌, arith, rules}
+use Rattle.std.specs.Prelude.{IsSome}
+use Rattle.std.specs.Option.{option_map}
+use Rattle.std.specs.FinMap as map
+use Rattle.node_pool.specs.Chains.{chain_count}
+use Rattle.node_pool.specs.declared.pool.Chain.{Chain}
+use Rattle.node_pool.proofs.MapLaws.{fills, get_map, inserted}
+use Rattle.node_pool.proofs.ChainLaws.{sum_filled, opened_chained}
+use Rattle.node_pool.proofs.PoolLaws.{region_count}
+use Rattle.node_pool.proofs.pool.Pool.open_region.Goals as goal
+
+abbrev new_one : Chain
+new_one = record { count = 0; last = 0 }
+
+pub invariant_of-self-2 : goal.invariant_of-self-2
+invariant_of-self-2 g c =
+    let ns = c.self.inside.nodes.slots in
+    let rs = c.self.inside.regions.slots in
+    let qs = c.insert.new.self.slots in
+    let n = c.in_ok-number.number in
+    let f = fills rs qs n new_one c.in_ok-number.ensures.filled in
+    let total : sum_by chain_count qs ≡ count_by is_some ns = let e = sum_filled rs qs n new_one c.in_ok-number.ensures.filled in omega (arith, e, c.self.invariant.total) in
+    opened_chained ns rs qs n c.self.invariant new_one f.free f.changes refl total
+
+pub returns-clause-opened : goal.returns-clause-opened
+returns-clause-opened g c =
+    let rs = c.self.inside.regions.slots in
+    let qs = c.insert.new.self.slots in
+    let n = c.in_ok-number.number in
+    let f = fills rs qs n new_one c.in_ok-number.ensures.filled in
+    (search rules, subst (λ o. IsSome o) (sym (region_count qs n new_one f.changes.here)) refl)
+
+pub returns-clause-fresh : goal.returns-clause-fresh
+returns-clause-fresh g c =
+    let rs = c.self.inside.regions.slots in
+    let n = c.in_ok-number.number in
+    let f = fills rs c.insert.new.self.slots n new_one c.in_ok-number.ensures.filled in
+    ap (λ p. map.get p.regions n) (sym c.self.view_is) ∙ get_map (λ (x : Chain). x.count) rs n ∙ ap (option_map (λ (x : Chain). x.count)) f.free
+
+pub returns-clause-regions : goal.returns-clause-regions
+returns-clause-regions g c =
+    let rs = c.self.inside.regions.slots in
+    let n = c.in_ok-number.number in
+    let f = fills rs c.insert.new.self.slots n new_one c.in_ok-number.ensures.filled in
+    inserted (λ (x : Chain). x.count) rs c.insert.new.self.slots n new_one f.changes ∙ ap (λ p. map.insert p.regions n 0) c.self.view_is
