@@ -4,3 +4,4 @@ pub mod ChainLaws
 pub mod BackLaws
 pub mod PoolLaws
 pub mod ShorterLaws
+pub mod KeepLaws

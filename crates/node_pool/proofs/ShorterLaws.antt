@@ -16,7 +16,7 @@ module _ {X : Type 0} (m : map.FinMap nat_cmp X) (k : ℕ) where
   pub got_here : (v : X) → map.get (map.insert m k v) k ≡ Some v
   got_here v = get-insert nat_cmp_total m k v k ∙ ap (λ (b : Bool). cond b (Some v) (map.get m k)) (tied k)
 
-  got_there : (v : X) (q : ℕ) → q ≢ k → map.get (map.insert m k v) q ≡ map.get m q
+  pub got_there : (v : X) (q : ℕ) → q ≢ k → map.get (map.insert m k v) q ≡ map.get m q
   got_there v q ne = get-insert nat_cmp_total m k v q ∙ ap (λ (b : Bool). cond b (Some v) (map.get m q)) (apart q k ne)
 
 module _ {X : Type 0} where

@@ -1,8 +1,9 @@
 //! The pool: nodes by ids, in regions that go back to a mark and end.
-ghost use Rattle.std.specs.Prelude.{◌≡◌, ℕ, ◌+◌, ◌-◌, ◌^◌, ◌<◌, ◌≤◌, ◌↔◌, Err, Some, None, IsSome, IsOk, IfOk, OnOk, OnErr};
+ghost use Rattle.std.specs.Prelude.{◌≡◌, ◌≢◌, ℕ, ◌+◌, ◌-◌, ◌^◌, ◌<◌, ◌≤◌, ◌↔◌, Err, Some, None, IsSome, IsOk, IfOk, OnOk, OnErr};
 ghost use Rattle.std.specs.FinMap as map;
 ghost use Rattle.node_pool.specs.NodePool.{Nodes, IsPut, back_to};
-ghost use Rattle.node_pool.specs.Pools.{live_count, node_at, IsLive, IsOpened, count_in, lived_in, Reaches, HasPlaces, OnlyAdds};
+ghost use Rattle.node_pool.specs.Pools.{live_count, node_at, IsLive, IsOpened, count_in, lived_in, Keeps, Reaches, HasPlaces, OnlyAdds};
+ghost use Rattle.node_pool.specs.declared.pool.Region.{Region as AnyRegion};
 
 use crate::faults::{Mem, PoolFault};
 use crate::slots::Slots;
@@ -104,6 +105,7 @@ impl<N: Drop> Pool<N> {
         ensures fresh { IfOk result (λ region. map.get self.old.regions region.number ≡ None) }
         ensures regions { IfOk result (λ region. self.new.regions ≡ map.insert self.old.regions region.number 0) }
         ensures same { (name : ℕ) → self.old.identity ≡ Some name → self.new.identity ≡ Some name }
+        ensures keeps { Keeps self.old self.new }
         ensures nodes { self.new.nodes ≡ self.old.nodes }
         ensures spare { self.new.spare ≡ self.old.spare }
         ensures err { OnErr result (self.new ≡ self.old) }
@@ -119,6 +121,8 @@ impl<N: Drop> Pool<N> {
     pub fn put(&mut self, region: &Region, node: N) -> Result<NodeId, PoolFault>
         requires { IsOpened self.old region.now }
         ensures put { IfOk result (λ id. IsPut self.old.nodes self.new.nodes id.number (lived_in self.old region.now node)) }
+        ensures lives { IfOk result (λ id. node_at self.new id ≡ Some node) }
+        ensures keeps { Keeps self.old self.new }
         ensures region { OnOk result (self.new.regions ≡ map.insert self.old.regions region.now.number (count_in self.old region.now + 1)) }
         ensures identity { self.new.identity ≡ self.old.identity }
         ensures one_more { OnOk result (live_count self.new ≡ live_count self.old + 1) }
@@ -235,6 +239,7 @@ impl<N: Drop> Pool<N> {
         ensures nodes { self.new.nodes ≡ back_to self.old.nodes region.now.number mark.count }
         ensures regions { self.new.regions ≡ map.insert self.old.regions region.now.number mark.count }
         ensures identity { self.new.identity ≡ self.old.identity }
+        ensures open { (other : AnyRegion) → IsOpened self.old other → IsOpened self.new other }
         ensures undone { (before : Nodes N) → HasPlaces before region.now.number mark.count →
             OnlyAdds before self.old.nodes region.now.number → self.new.nodes ≡ before }
         ensures room { live_count self.new + self.new.spare ≡ live_count self.old + self.old.spare }
@@ -248,6 +253,7 @@ impl<N: Drop> Pool<N> {
         ensures nodes { self.new.nodes ≡ back_to self.old.nodes region.number 0 }
         ensures regions { self.new.regions ≡ map.remove self.old.regions region.number }
         ensures identity { self.new.identity ≡ self.old.identity }
+        ensures others { (other : AnyRegion) → other.number ≢ region.number → IsOpened self.old other → IsOpened self.new other }
         ensures room { live_count self.new + self.new.spare ≡ live_count self.old + self.old.spare }
     {
         self.shorten(region.number, 0);

@@ -2,8 +2,6 @@ use Rattle.std.proofs.Common.{sym, ap, ◌∙◌}
 use Rattle.std.specs.FinMap as map
 use Rattle.node_pool.specs.Chains.{lived_as}
 use Rattle.node_pool.proofs.MapLaws.{len_map}
-use Rattle.node_pool.proofs.PoolLaws.{are_put, gone_last}
-use Rattle.node_pool.proofs.ShorterLaws.{all_gone}
 use Rattle.node_pool.proofs.pool.Pool.live.Goals as goal
 
 pub returns-clause-live : goal.returns-clause-live

@@ -1,8 +1,10 @@
-use Rattle.std.proofs.Common.{◌≡◌, ◌+◌, Some, sum_by, is_some, count_by, refl, sym, ap, subst, ◌∙◌, arith, rules}
+use Rattle.std.proofs.Common.{◌≡◌, ◌+◌, ℕ, Option, Some, sum_by, is_some, count_by, refl, sym, ap, subst, ◌∙◌, arith, rules}
 use Rattle.std.specs.Prelude.{IsSome}
 use Rattle.std.specs.Option.{option_map}
 use Rattle.std.specs.FinMap as map
-use Rattle.node_pool.specs.Chains.{chain_count}
+use Rattle.node_pool.specs.NodePool.{NodePool}
+use Rattle.node_pool.specs.Chains.{chain_count, nodes_of, regions_of}
+use Rattle.node_pool.proofs.KeepLaws.{opened_on}
 use Rattle.node_pool.specs.declared.pool.Chain.{Chain}
 use Rattle.node_pool.proofs.MapLaws.{fills, get_map, inserted}
 use Rattle.node_pool.proofs.ChainLaws.{sum_filled, opened_chained}
@@ -43,3 +45,14 @@ returns-clause-regions g c =
     let n = c.in_ok-number.number in
     let f = fills rs c.insert.new.self.slots n new_one c.in_ok-number.ensures.filled in
     inserted (λ (x : Chain). x.count) rs c.insert.new.self.slots n new_one f.changes ∙ ap (λ p. map.insert p.regions n 0) c.self.view_is
+
+pub returns-clause-keeps : goal.returns-clause-keeps
+returns-clause-keeps g c =
+    let old = c.args.self.now in
+    let name = c.in_ok-identity.identity.value.name in
+    let new : NodePool _ = record { nodes = nodes_of c.self.inside.nodes.slots; regions = regions_of c.insert.new.self.slots; identity = Some name; spare = c.self.inside.nodes.spare } in
+    let same : (n : ℕ) → old.identity ≡ Some n → ◌≡◌ {A = Option ℕ} (Some name) (Some n) = λ n e. search rules in
+    record {
+      nodes = λ id l at. ap (λ p. map.get p.nodes id) c.self.view_is ∙ at;
+      regions = λ region h. opened_on old new c.in_ok-number.number 0 same (returns-clause-regions g c) region h;
+    }

@@ -1,11 +1,14 @@
 use Rattle.std.proofs.Common.{◌≡◌, ◌+◌, ◌^◌, ◌<◌, ℕ, Some, is_some, count_by, refl, sym, ap, subst, ◌∙◌, arith, rules}
 use Rattle.std.specs.Prelude.{IsSome, unwrap_or}
+use Rattle.std.specs.Option.{option_map}
 use Rattle.std.specs.FinMap as map
-use Rattle.node_pool.specs.NodePool.{IsPut}
+use Rattle.node_pool.specs.NodePool.{NodePool, IsPut}
 use Rattle.node_pool.specs.Chains.{lived_as, nodes_of, regions_of}
 use Rattle.node_pool.specs.declared.pool.Chain.{Chain}
 use Rattle.node_pool.specs.declared.pool.Held.{Held}
 use Rattle.node_pool.proofs.MapLaws.{len_map, count_within}
+use Rattle.node_pool.proofs.ShorterLaws.{got_here}
+use Rattle.node_pool.proofs.KeepLaws.{put_on, opened_on}
 use Rattle.node_pool.proofs.PoolLaws.{is_open, region_count, ArePut, are_put}
 use Rattle.node_pool.proofs.pool.Pool.put.Goals as goal
 
@@ -73,6 +76,20 @@ returns-clause-region g c =
     let p : ArePut ns ms rs qs n r h d.count = are_put ns ms rs qs n r chain d h c.self.invariant c.in_ok-number.ensures.filled c.get-chain.ensures c.set.ensures.slots room refl refl refl refl refl in
     let count : chain.count ≡ unwrap_or (map.get c.args.self.now.regions r) 0 = sym (ap (λ o. unwrap_or o 0) (ap (λ x. map.get x.regions r) (sym c.self.view_is) ∙ region_count rs r chain c.get-chain.ensures)) in
     p.region ∙ ap (λ x. map.insert x.regions r (chain.count + 1)) c.self.view_is ∙ ap (λ (k : ℕ). map.insert c.args.self.now.regions r (k + 1)) count
+
+pub returns-clause-lives : goal.returns-clause-lives
+returns-clause-lives g c =
+    let put = returns-clause-put g c in
+    ap (λ x. option_map (λ l. l.node) (map.get x c.in_ok-number.number)) put.put ∙ ap (option_map (λ l. l.node)) (got_here c.args.self.now.nodes c.in_ok-number.number _)
+
+pub returns-clause-keeps : goal.returns-clause-keeps
+returns-clause-keeps g c =
+    let old = c.args.self.now in
+    let new : NodePool _ = record { nodes = nodes_of c.insert.new.self.slots; regions = regions_of c.set.new.self.slots; identity = option_map (λ rc. rc.value.name) c.self.inside.identity; spare = c.insert.new.self.spare } in
+    record {
+      nodes = λ id l at. put_on old.nodes new.nodes c.in_ok-number.number _ (returns-clause-put g c) id l at;
+      regions = λ region h. opened_on old new c.args.region.now.number _ (λ name e. ap (λ p. p.identity) c.self.view_is ∙ e) (returns-clause-region g c) region h;
+    }
 
 pub returns-clause-one_more : goal.returns-clause-one_more
 returns-clause-one_more g c =

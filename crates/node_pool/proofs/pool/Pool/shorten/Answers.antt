@@ -9,8 +9,8 @@ use Rattle.node_pool.proofs.pool.Pool.shorten.Goals as goal
 pub loop-left-init : goal.loop-left-init
 loop-left-init g c =
     let h = c.requires in
-    let found = same_Some h.0 c.count.result (sym h.1 ∙ c.count.ensures.count) in
-    (none_gone c.args.self.now c.args.region c.count.result c.count.ensures.count c.count.ensures.places, omega (arith, found, h.2))
+    let found = same_Some h.0 c.count-left.result (sym h.1 ∙ c.count-left.ensures.count) in
+    (none_gone c.args.self.now c.args.region c.count-left.result c.count-left.ensures.count c.count-left.ensures.places, omega (arith, found, h.2))
 
 pub drop_last-requires : goal.drop_last-requires
 drop_last-requires g c =
@@ -40,4 +40,4 @@ returns-clause-regions g c =
     c.loop-left.invariant.0.regions ∙ ap (map.insert c.args.self.now.regions c.args.region) same
 
 pub returns-clause-undone : goal.returns-clause-undone
-returns-clause-undone g c before had adds = returns-clause-nodes g c ∙ undone before c.args.self.now.nodes c.args.region c.args.count c.count.result had c.count.ensures.places adds
+returns-clause-undone g c before had adds = returns-clause-nodes g c ∙ undone before c.args.self.now.nodes c.args.region c.args.count c.count-left.result had c.count-left.ensures.places adds
