@@ -1,14 +1,12 @@
 -- What lives after a region went back.
-use Rattle.std.proofs.Common.{◌≡◌, ◌≢◌, ◌⊎◌, ℕ, zero, suc, ◌+◌, ◌<◌, ◌≤◌, Bool, true, false, cond, not, ◌||◌, eqb, ltb, Option, Some, None, is_some, IsSome, refl, sym, ap, subst, ◌∙◌, inl, inr, arith}
-use Rattle.std.specs.Prelude.{◌==◌, nat_lt}
-use Rattle.std.specs.Ordering.{nat_cmp}
+use Rattle.std.proofs.Common.{◌≡◌, ◌≢◌, ◌⊎◌, ℕ, ◌<◌, ◌≤◌, Bool, true, false, cond, not, ◌||◌, eqb, ltb, Option, Some, None, refl, sym, ap, ◌∙◌, inl, inr, arith}
 use Rattle.std.specs.Cmp.{nat_cmp_total}
 use Rattle.std.specs.FinMap as map
 use Rattle.std.specs.FinMap.{get-retain_keys, get_tied, same_map, nat_cmp-IsAntisymmetric}
-use Rattle.std.proofs.lemmas.Bool.{cases_eq, cases_lt, cases_Bool, eq-eqb, ne_eqb, lt-ltb, le-ltb}
+use Rattle.std.proofs.lemmas.Bool.{cases_eq, cases_lt, eq-eqb, ne_eqb, lt-ltb, le-ltb}
 use Rattle.std.proofs.lemmas.Option.{same_Some, none-some}
 use Rattle.node_pool.specs.NodePool.{Lived, Nodes, stays, back_to}
-use Rattle.node_pool.specs.Pools.{HasPlaces, OnlyAdds}
+use Rattle.node_pool.specs.Pools.{HasRanks, OnlyAdds}
 
 true_or_false : (b : Bool) → b ≡ true → b ≡ false → ⊥
 true_or_false b t f = absurd cc
@@ -20,17 +18,17 @@ module _ {N : Type 0} where
   -- ---- which nodes stay
 
   pub elsewhere_stays : (r m : ℕ) (l : Lived N) → l.region ≢ r → stays r m (Some l) ≡ true
-  elsewhere_stays r m l ne = ap (λ (b : Bool). not b || ltb l.place m) (ne_eqb l.region r ne)
+  elsewhere_stays r m l ne = ap (λ (b : Bool). not b || ltb l.rank m) (ne_eqb l.region r ne)
 
-  pub lower_stays : (r m : ℕ) (l : Lived N) → l.place < m → stays r m (Some l) ≡ true
-  lower_stays r m l lt = ap (λ (b : Bool). not (eqb l.region r) || b) (lt-ltb l.place m lt) ∙ any (not (eqb l.region r))
+  pub lower_stays : (r m : ℕ) (l : Lived N) → l.rank < m → stays r m (Some l) ≡ true
+  lower_stays r m l lt = ap (λ (b : Bool). not (eqb l.region r) || b) (lt-ltb l.rank m lt) ∙ any (not (eqb l.region r))
     where
       any : (b : Bool) → b || true ≡ true
       any true = refl
       any false = refl
 
-  pub later_goes : (r m : ℕ) (l : Lived N) → l.region ≡ r → m ≤ l.place → stays r m (Some l) ≡ false
-  later_goes r m l e le = (λ j. not (eq-eqb l.region r e j) || le-ltb l.place m le j)
+  pub later_goes : (r m : ℕ) (l : Lived N) → l.region ≡ r → m ≤ l.rank → stays r m (Some l) ≡ false
+  later_goes r m l e le = (λ j. not (eq-eqb l.region r e j) || le-ltb l.rank m le j)
 
   -- ---- what is found then
 
@@ -50,12 +48,12 @@ module _ {N : Type 0} where
     pub went : (l : Lived N) → map.get nodes q ≡ Some l → stays r m (Some l) ≡ false → map.get (back_to nodes r m) q ≡ None
     went l e h = found (Some l) e ∙ ap (λ (b : Bool). cond b (Some l) None) h
 
-  -- either it stays, or it lies in the region at a place that isn't lower
-  pub stays_cases : (r m : ℕ) (l : Lived N) → (stays r m (Some l) ≡ true) ⊎ ((l.region ≡ r) × (m ≤ l.place) × (stays r m (Some l) ≡ false))
+  -- either it stays, or it lies in the region at a rank that isn't lower
+  pub stays_cases : (r m : ℕ) (l : Lived N) → (stays r m (Some l) ≡ true) ⊎ ((l.region ≡ r) × (m ≤ l.rank) × (stays r m (Some l) ≡ false))
   stays_cases r m l =
       elim (cases_eq l.region r) [
         | inl e ↦
-            elim (cases_lt l.place m) [
+            elim (cases_lt l.rank m) [
               | inl lt ↦ inl (lower_stays r m l lt)
               | inr le ↦ inr (e, le, later_goes r m l e le)
             ]
@@ -77,19 +75,19 @@ module _ {N : Type 0} where
           ]
 
   -- a region that has no more nodes than that stays as it is
-  pub back_all : (nodes : Nodes N) (r m : ℕ) → HasPlaces nodes r m → back_to nodes r m ≡ nodes
-  back_all nodes r m places = same_nodes (back_to nodes r m) nodes (λ q. by_node q (map.get nodes q) refl)
+  pub back_all : (nodes : Nodes N) (r m : ℕ) → HasRanks nodes r m → back_to nodes r m ≡ nodes
+  back_all nodes r m ranks = same_nodes (back_to nodes r m) nodes (λ q. by_node q (map.get nodes q) refl)
     where
       by_node : (q : ℕ) (o : Option (Lived N)) → map.get nodes q ≡ o → map.get (back_to nodes r m) q ≡ map.get nodes q
       by_node q None e = none_back nodes r m q e ∙ sym e
       by_node q (Some l) e =
           elim (stays_cases r m l) [
             | inl stay ↦ stayed nodes r m q l e stay ∙ sym e
-            | inr gone ↦ absurd (omega (arith, gone.1, places.below q l e gone.0))
+            | inr gone ↦ absurd (omega (arith, gone.1, ranks.below q l e gone.0))
           ]
 
   -- where the nodes that a region had still live, it goes back to them alone
-  pub undone : (before now : Nodes N) (r m k : ℕ) → HasPlaces before r m → HasPlaces now r k → OnlyAdds before now r → back_to now r m ≡ before
+  pub undone : (before now : Nodes N) (r m k : ℕ) → HasRanks before r m → HasRanks now r k → OnlyAdds before now r → back_to now r m ≡ before
   undone before now r m k had has adds = same_nodes (back_to now r m) before (λ q. by_node q (map.get now q) refl)
     where
       absent : (q : ℕ) → ((l : Lived N) → map.get before q ≡ Some l → ⊥) → map.get before q ≡ None
@@ -99,10 +97,10 @@ module _ {N : Type 0} where
           by_before None e = e
           by_before (Some l) e = absurd (h l e)
 
-      -- a node at a place that was taken then is the one of then
-      same_one : (q : ℕ) (l : Lived N) → map.get now q ≡ Some l → l.region ≡ r → l.place < m → map.get before q ≡ Some l
+      -- a node at a rank that was taken then is the one of then
+      same_one : (q : ℕ) (l : Lived N) → map.get now q ≡ Some l → l.region ≡ r → l.rank < m → map.get before q ≡ Some l
       same_one q l e in_r lt =
-          let p = had.taken l.place lt in
+          let p = had.taken l.rank lt in
           let still = adds.kept p.0 p.1 p.2 in
           let same : p.0 ≡ q = has.once p.0 q p.1 l still e p.3 in_r p.4 in
           let one : Some p.1 ≡ Some l = sym still ∙ ap (map.get now) same ∙ e in
@@ -116,13 +114,13 @@ module _ {N : Type 0} where
                 elim (adds.added q l e) [
                   | inl was ↦ stayed now r m q l e stay ∙ sym was
                   | inr in_r ↦
-                      elim (cases_lt l.place m) [
+                      elim (cases_lt l.rank m) [
                         | inl lt ↦ stayed now r m q l e stay ∙ sym (same_one q l e in_r lt)
                         | inr le ↦ absurd (true_or_false (stays r m (Some l)) stay (later_goes r m l in_r le))
                       ]
                 ]
             | inr gone ↦
                 went now r m q l e gone.2 ∙ sym (absent q (λ x at.
-                  let same : x ≡ l = same_Some x l (sym (adds.kept q x at) ∙ e) in
-                  omega (arith, gone.1, had.below q x at (ap (λ (y : Lived N). y.region) same ∙ gone.0), ap (λ (y : Lived N). y.place) same)))
+                let same : x ≡ l = same_Some x l (sym (adds.kept q x at) ∙ e) in
+                omega (arith, gone.1, had.below q x at (ap (λ (y : Lived N). y.region) same ∙ gone.0), ap (λ (y : Lived N). y.rank) same)))
           ]

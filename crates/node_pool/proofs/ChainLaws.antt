@@ -1,5 +1,5 @@
 -- Each change of the slots keeps the chains of all regions.
-use Rattle.std.proofs.Common.{◌≡◌, ◌≢◌, ◌⊎◌, ℕ, zero, suc, ◌+◌, ◌^◌, ◌<◌, ◌≤◌, List, [], ◌∷◌, length, set, Option, Some, None, is_some, count_by, sum_by, refl, sym, ap, subst, ◌∙◌, inl, inr, arith, length-set}
+use Rattle.std.proofs.Common.{◌≡◌, ◌≢◌, ℕ, suc, ◌+◌, ◌^◌, ◌<◌, ◌≤◌, List, [], length, set, Option, Some, None, is_some, count_by, sum_by, refl, sym, ap, subst, ◌∙◌, inl, inr, arith}
 use Rattle.std.proofs.lemmas.Bool.{cases_eq}
 use Rattle.std.proofs.lemmas.Option.{same_Some, none-some}
 use Rattle.std.proofs.lemmas.List.Sums.{sum_by-set, sum_by_push, get_or-le-sum_by}
@@ -7,7 +7,7 @@ use Rattle.node_pool.specs.SlotLists.{at, IsFilled}
 use Rattle.node_pool.specs.Chains.{chain_count, IsAt, AreChained}
 use Rattle.node_pool.specs.declared.pool.Chain.{Chain}
 use Rattle.node_pool.specs.declared.pool.Held.{Held}
-use Rattle.node_pool.proofs.MapLaws.{Changes, set_changes, Fills, fills, count_less, is_within}
+use Rattle.node_pool.proofs.MapLaws.{Changes, is_within}
 
 clash : {A B : Type 0} (o : Option A) (x : A) → o ≡ None → o ≡ Some x → B
 clash o x none some = absurd (none-some x (sym none ∙ some))
@@ -45,7 +45,7 @@ module _ {N : Type 0} where
     few = omega arith;
     total = refl;
     homes = λ n h is. absurd (none-some h is);
-    apart = λ m n g h is_g is_h same place. absurd (none-some g is_g);
+    apart = λ m n g h is_g is_h same rank. absurd (none-some g is_g);
     lasts = λ r k c is e. absurd (none-some c is);
     befores = λ n k h is e. absurd (none-some h is);
   }
@@ -55,7 +55,7 @@ module _ {N : Type 0} where
   module _ (ns ms : List (Option (Held N))) (rs qs : List (Option Chain)) (n r : ℕ) (c d : Chain) (h : Held N)
       (old : AreChained ns rs) (free : at ns n ≡ None) (filled : Changes ns ms n (Some h))
       (is : at rs r ≡ Some c) (grown : Changes rs qs r (Some d))
-      (region : h.region ≡ r) (place : h.place ≡ c.count) (before : h.before ≡ c.last)
+      (region : h.region ≡ r) (rank : h.rank ≡ c.count) (before : h.before ≡ c.last)
       (count : d.count ≡ c.count + 1) (last : d.last ≡ n)
       (few : length ms ≤ 2 ^ 31) (total : sum_by chain_count qs ≡ count_by is_some ms) where
     new_one : (m : ℕ) (g : Held N) → m ≡ n → at ms m ≡ Some g → g ≡ h
@@ -64,16 +64,16 @@ module _ {N : Type 0} where
     old_one : (m : ℕ) (g : Held N) → m ≢ n → at ms m ≡ Some g → at ns m ≡ Some g
     old_one m g ne got = sym (filled.others m ne) ∙ got
 
-    old_below : (m : ℕ) (g : Held N) → at ns m ≡ Some g → g.region ≡ r → g.place < c.count
+    old_below : (m : ℕ) (g : Held N) → at ns m ≡ Some g → g.region ≡ r → g.rank < c.count
     old_below m g got e =
         let home = old.homes m g got in
         let same : home.0 ≡ c = same_Some home.0 c (sym home.1 ∙ ap (at rs) e ∙ is) in
-        subst (λ (x : Chain). g.place < x.count) same home.2
+        subst (λ (x : Chain). g.rank < x.count) same home.2
 
-    put_homes : (m : ℕ) (g : Held N) → at ms m ≡ Some g → (x : Chain) × (at qs g.region ≡ Some x) × (g.place < x.count)
+    put_homes : (m : ℕ) (g : Held N) → at ms m ≡ Some g → (x : Chain) × (at qs g.region ≡ Some x) × (g.rank < x.count)
     put_homes m g got =
         elim (cases_eq m n) [
-          | inl e ↦ let same = new_one m g e got in (d, ap (λ (y : Held N). at qs y.region) same ∙ ap (at qs) region ∙ grown.here, omega (arith, ap (λ (y : Held N). y.place) same, place, count))
+          | inl e ↦ let same = new_one m g e got in (d, ap (λ (y : Held N). at qs y.region) same ∙ ap (at qs) region ∙ grown.here, omega (arith, ap (λ (y : Held N). y.rank) same, rank, count))
           | inr ne ↦
               let was = old_one m g ne got in
               elim (cases_eq g.region r) [
@@ -82,21 +82,21 @@ module _ {N : Type 0} where
               ]
         ]
 
-    mixed : {B : Type 0} (m : ℕ) (g : Held N) → at ns m ≡ Some g → g.region ≡ h.region → g.place ≡ h.place → B
-    mixed m g got same at_place = absurd (omega (arith, old_below m g got (same ∙ region), at_place, place))
+    mixed : {B : Type 0} (m : ℕ) (g : Held N) → at ns m ≡ Some g → g.region ≡ h.region → g.rank ≡ h.rank → B
+    mixed m g got same at_rank = absurd (omega (arith, old_below m g got (same ∙ region), at_rank, rank))
 
-    put_apart : (a b : ℕ) (f g : Held N) → at ms a ≡ Some f → at ms b ≡ Some g → f.region ≡ g.region → f.place ≡ g.place → a ≡ b
-    put_apart a b f g is_f is_g same at_place =
+    put_apart : (a b : ℕ) (f g : Held N) → at ms a ≡ Some f → at ms b ≡ Some g → f.region ≡ g.region → f.rank ≡ g.rank → a ≡ b
+    put_apart a b f g is_f is_g same at_rank =
         elim (cases_eq a n) [
           | inl ea ↦
               elim (cases_eq b n) [
                 | inl eb ↦ ea ∙ sym eb
-                | inr nb ↦ let e = new_one a f ea is_f in mixed b g (old_one b g nb is_g) (sym same ∙ ap (λ (y : Held N). y.region) e) (sym at_place ∙ ap (λ (y : Held N). y.place) e)
+                | inr nb ↦ let e = new_one a f ea is_f in mixed b g (old_one b g nb is_g) (sym same ∙ ap (λ (y : Held N). y.region) e) (sym at_rank ∙ ap (λ (y : Held N). y.rank) e)
               ]
           | inr na ↦
               elim (cases_eq b n) [
-                | inl eb ↦ let e = new_one b g eb is_g in mixed a f (old_one a f na is_f) (same ∙ ap (λ (y : Held N). y.region) e) (at_place ∙ ap (λ (y : Held N). y.place) e)
-                | inr nb ↦ old.apart a b f g (old_one a f na is_f) (old_one b g nb is_g) same at_place
+                | inl eb ↦ let e = new_one b g eb is_g in mixed a f (old_one a f na is_f) (same ∙ ap (λ (y : Held N). y.region) e) (at_rank ∙ ap (λ (y : Held N). y.rank) e)
+                | inr nb ↦ old.apart a b f g (old_one a f na is_f) (old_one b g nb is_g) same at_rank
               ]
         ]
 
@@ -109,16 +109,16 @@ module _ {N : Type 0} where
           | inl e ↦
               let same : y ≡ d = same_Some y d (sym got ∙ ap (at qs) e ∙ grown.here) in
               let there : at ms y.last ≡ Some h = ap (λ (z : Chain). at ms z.last) same ∙ ap (at ms) last ∙ filled.here in
-              (h, there, region ∙ sym e, omega (arith, place, count, size, ap (λ (z : Chain). z.count) same))
+              (h, there, region ∙ sym e, omega (arith, rank, count, size, ap (λ (z : Chain). z.count) same))
           | inr ne ↦ still y.last x k (old.lasts x k y (sym (grown.others x ne) ∙ got) size)
         ]
 
-    put_befores : (m k : ℕ) (g : Held N) → at ms m ≡ Some g → g.place ≡ suc k → IsAt ms g.before g.region k
+    put_befores : (m k : ℕ) (g : Held N) → at ms m ≡ Some g → g.rank ≡ suc k → IsAt ms g.before g.region k
     put_befores m k g got size =
         elim (cases_eq m n) [
           | inl e ↦
               let same = new_one m g e got in
-              let was : IsAt ns c.last r k = old.lasts r k c is (sym place ∙ ap (λ (y : Held N). y.place) (sym same) ∙ size) in
+              let was : IsAt ns c.last r k = old.lasts r k c is (sym rank ∙ ap (λ (y : Held N). y.rank) (sym same) ∙ size) in
               let to : c.last ≡ g.before = sym before ∙ ap (λ (y : Held N). y.before) (sym same) in
               let home : r ≡ g.region = sym region ∙ ap (λ (y : Held N). y.region) (sym same) in
               subst (λ (z : ℕ). IsAt ms z g.region k) to (subst (λ (z : ℕ). IsAt ms c.last z k) home (still c.last r k was))
@@ -133,7 +133,7 @@ module _ {N : Type 0} where
   module _ (ns ms : List (Option (Held N))) (rs qs : List (Option Chain)) (n r k : ℕ) (c d : Chain) (h : Held N)
       (old : AreChained ns rs) (there : at ns n ≡ Some h) (vacated : Changes ns ms n None)
       (is : at rs r ≡ Some c) (shorter : Changes rs qs r (Some d))
-      (size : c.count ≡ suc k) (region : h.region ≡ r) (place : h.place ≡ k)
+      (size : c.count ≡ suc k) (region : h.region ≡ r) (rank : h.rank ≡ k)
       (count : d.count ≡ k) (last : d.last ≡ h.before)
       (few : length ms ≤ 2 ^ 31) (total : sum_by chain_count qs ≡ count_by is_some ms) where
     other_one : (m : ℕ) (g : Held N) → at ms m ≡ Some g → m ≢ n
@@ -142,49 +142,49 @@ module _ {N : Type 0} where
     was_one : (m : ℕ) (g : Held N) → at ms m ≡ Some g → at ns m ≡ Some g
     was_one m g got = sym (vacated.others m (other_one m g got)) ∙ got
 
-    below : (m : ℕ) (g : Held N) → at ns m ≡ Some g → g.region ≡ r → g.place < suc k
+    below : (m : ℕ) (g : Held N) → at ns m ≡ Some g → g.region ≡ r → g.rank < suc k
     below m g got e =
         let home = old.homes m g got in
         let same : home.0 ≡ c = same_Some home.0 c (sym home.1 ∙ ap (at rs) e ∙ is) in
         omega (arith, home.2, ap (λ (x : Chain). x.count) same, size)
 
-    -- the place of the node that goes is taken by no other
-    free_place : (m : ℕ) (g : Held N) → m ≢ n → at ns m ≡ Some g → g.region ≡ r → g.place ≢ k
-    free_place m g ne got e at_k = ne (old.apart m n g h got there (e ∙ sym region) (at_k ∙ sym place))
+    -- the rank of the node that goes is taken by no other
+    free_rank : (m : ℕ) (g : Held N) → m ≢ n → at ns m ≡ Some g → g.region ≡ r → g.rank ≢ k
+    free_rank m g ne got e at_k = ne (old.apart m n g h got there (e ∙ sym region) (at_k ∙ sym rank))
 
-    gone_homes : (m : ℕ) (g : Held N) → at ms m ≡ Some g → (x : Chain) × (at qs g.region ≡ Some x) × (g.place < x.count)
+    gone_homes : (m : ℕ) (g : Held N) → at ms m ≡ Some g → (x : Chain) × (at qs g.region ≡ Some x) × (g.rank < x.count)
     gone_homes m g got =
         let was = was_one m g got in
         elim (cases_eq g.region r) [
-          | inl e ↦ let ne : g.place ≢ k = free_place m g (other_one m g got) was e in (d, ap (at qs) e ∙ shorter.here, omega (arith, below m g was e, ne, count))
+          | inl e ↦ let ne : g.rank ≢ k = free_rank m g (other_one m g got) was e in (d, ap (at qs) e ∙ shorter.here, omega (arith, below m g was e, ne, count))
           | inr other ↦ let home = old.homes m g was in (home.0, shorter.others g.region other ∙ home.1, home.2)
         ]
 
     still_there : (m x p : ℕ) → m ≢ n → IsAt ns m x p → IsAt ms m x p
     still_there m x p ne was = stays_at ns ms n None vacated m x p ne was
 
-    -- what lies in another region or at another place isn't the node that goes
+    -- what lies in another region or at another rank isn't the node that goes
     elsewhere : (m x p : ℕ) → IsAt ns m x p → (x ≡ r → p ≢ k) → m ≢ n
     elsewhere m x p was off e =
         let same : was.0 ≡ h = same_Some was.0 h (sym was.1 ∙ ap (at ns) e ∙ there) in
-        off (sym was.2 ∙ ap (λ (y : Held N). y.region) same ∙ region) (sym was.3 ∙ ap (λ (y : Held N). y.place) same ∙ place)
+        off (sym was.2 ∙ ap (λ (y : Held N). y.region) same ∙ region) (sym was.3 ∙ ap (λ (y : Held N). y.rank) same ∙ rank)
 
     gone_lasts : (x j : ℕ) (y : Chain) → at qs x ≡ Some y → y.count ≡ suc j → IsAt ms y.last x j
     gone_lasts x j y got more =
         elim (cases_eq x r) [
           | inl e ↦
               let same : y ≡ d = same_Some y d (sym got ∙ ap (at qs) e ∙ shorter.here) in
-              let step : h.place ≡ suc j = place ∙ sym count ∙ ap (λ (z : Chain). z.count) (sym same) ∙ more in
+              let step : h.rank ≡ suc j = rank ∙ sym count ∙ ap (λ (z : Chain). z.count) (sym same) ∙ more in
               let was : IsAt ns h.before h.region j = old.befores n j h there step in
               let to : h.before ≡ y.last = sym last ∙ ap (λ (z : Chain). z.last) (sym same) in
               let moved : IsAt ns y.last x j = subst (λ (z : ℕ). IsAt ns z x j) to (subst (λ (z : ℕ). IsAt ns h.before z j) (region ∙ sym e) was) in
-              still_there y.last x j (elsewhere y.last x j moved (λ a b. absurd (omega (arith, step, place, b)))) moved
+              still_there y.last x j (elsewhere y.last x j moved (λ a b. absurd (omega (arith, step, rank, b)))) moved
           | inr ne ↦
               let was = old.lasts x j y (sym (shorter.others x ne) ∙ got) more in
               still_there y.last x j (elsewhere y.last x j was (λ a b. ne a)) was
         ]
 
-    gone_befores : (m j : ℕ) (g : Held N) → at ms m ≡ Some g → g.place ≡ suc j → IsAt ms g.before g.region j
+    gone_befores : (m j : ℕ) (g : Held N) → at ms m ≡ Some g → g.rank ≡ suc j → IsAt ms g.before g.region j
     gone_befores m j g got more =
         let got_was = was_one m g got in
         let was = old.befores m j g got_was more in
@@ -195,7 +195,7 @@ module _ {N : Type 0} where
       few = few;
       total = total;
       homes = gone_homes;
-      apart = λ a b f g is_f is_g same at_place. old.apart a b f g (was_one a f is_f) (was_one b g is_g) same at_place;
+      apart = λ a b f g is_f is_g same at_rank. old.apart a b f g (was_one a f is_f) (was_one b g is_g) same at_rank;
       lasts = gone_lasts;
       befores = gone_befores;
     }
@@ -230,7 +230,7 @@ module _ {N : Type 0} where
       befores = old.befores;
     }
       where
-        end_homes : (n : ℕ) (h : Held N) → at ns n ≡ Some h → (x : Chain) × (at qs h.region ≡ Some x) × (h.place < x.count)
+        end_homes : (n : ℕ) (h : Held N) → at ns n ≡ Some h → (x : Chain) × (at qs h.region ≡ Some x) × (h.rank < x.count)
         end_homes n h got =
             let home = old.homes n h got in
             elim (cases_eq h.region r) [

@@ -1,6 +1,5 @@
 -- What a change of a pool leaves as it was.
-use Rattle.std.proofs.Common.{◌≡◌, ◌≢◌, ◌⊎◌, ℕ, Bool, cond, Option, Some, None, IsSome, refl, sym, ap, subst, ◌∙◌, inl, inr}
-use Rattle.std.specs.Ordering.{nat_cmp, eq_by_cmp}
+use Rattle.std.proofs.Common.{◌≡◌, ◌≢◌, ℕ, Bool, cond, Option, Some, None, IsSome, refl, sym, ap, subst, ◌∙◌, inl, inr}
 use Rattle.std.specs.Cmp.{nat_cmp_total}
 use Rattle.std.specs.FinMap as map
 use Rattle.std.specs.FinMap.{get-remove}
@@ -23,11 +22,13 @@ module _ {N : Type 0} where
 
   -- where one region changes, each that was open is open
   pub opened_on : (old new : NodePool N) (r k : ℕ) → ((name : ℕ) → old.identity ≡ Some name → new.identity ≡ Some name) → new.regions ≡ map.insert old.regions r k → (region : Region) → IsOpened old region → IsOpened new region
-  opened_on old new r k same regions region h =
-      (same region.pool.value.name h.0, elim (cases_eq region.number r) [
-        | inl e ↦ is_some_of (map.get new.regions region.number) k (ap (λ rs. map.get rs region.number) regions ∙ ap (map.get (map.insert old.regions r k)) e ∙ got_here old.regions r k)
-        | inr ne ↦ subst (λ (o : Option ℕ). IsSome o) (sym (ap (λ rs. map.get rs region.number) regions ∙ got_there old.regions r k region.number ne)) h.1
-      ])
+  opened_on old new r k same regions region h = (
+    same region.pool.value.name h.0,
+    elim (cases_eq region.number r) [
+      | inl e ↦ is_some_of (map.get new.regions region.number) k (ap (λ rs. map.get rs region.number) regions ∙ ap (map.get (map.insert old.regions r k)) e ∙ got_here old.regions r k)
+      | inr ne ↦ subst (λ (o : Option ℕ). IsSome o) (sym (ap (λ rs. map.get rs region.number) regions ∙ got_there old.regions r k region.number ne)) h.1
+    ],
+  )
 
   -- where a region ends, each other one that was open is open
   pub others_on : (old new : NodePool N) (r : ℕ) → new.identity ≡ old.identity → new.regions ≡ map.remove old.regions r → (region : Region) → region.number ≢ r → IsOpened old region → IsOpened new region

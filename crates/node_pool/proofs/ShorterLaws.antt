@@ -1,12 +1,13 @@
 -- A region that loses its last nodes one by one comes to where it goes back at once.
-use Rattle.std.proofs.Common.{◌≡◌, ◌≢◌, ◌⊎◌, ℕ, suc, ◌+◌, ◌<◌, ◌≤◌, Bool, true, cond, Option, Some, None, refl, sym, ap, subst, ◌∙◌, inl, inr, arith}
+use Rattle.std.proofs.Common.{◌≡◌, ◌≢◌, ◌⊎◌, ℕ, ◌+◌, ◌≤◌, Bool, true, cond, Some, None, refl, sym, ap, ◌∙◌, inl, inr, arith}
 use Rattle.std.specs.Ordering.{nat_cmp, eq_by_cmp}
 use Rattle.std.specs.Cmp.{nat_cmp_total}
 use Rattle.std.specs.FinMap as map
 use Rattle.std.specs.FinMap.{get-insert, get-remove, same_map, nat_cmp-IsAntisymmetric}
 use Rattle.std.proofs.lemmas.Bool.{cases_eq}
-use Rattle.node_pool.specs.NodePool.{Lived, Nodes, NodePool, back_to}
-use Rattle.node_pool.specs.Pools.{HasPlaces}
+use Rattle.std.proofs.lemmas.Option.{same_Some}
+use Rattle.node_pool.specs.NodePool.{Nodes, NodePool, back_to}
+use Rattle.node_pool.specs.Pools.{HasRanks}
 use Rattle.node_pool.proofs.MapLaws.{tied, apart}
 use Rattle.node_pool.proofs.BackLaws.{back_again, back_all}
 
@@ -58,20 +59,22 @@ module _ {N : Type 0} where
     pub nodes : now.nodes ≡ back_to old.nodes r left
     pub regions : now.regions ≡ map.insert old.regions r left
     pub identity : now.identity ≡ old.identity
+    pub live : (k : ℕ) → map.get old.regions r ≡ Some k → map.len now.nodes + k ≡ map.len old.nodes + left
     pub room : map.len now.nodes + now.spare ≡ map.len old.nodes + old.spare
 
-  pub none_gone : (old : NodePool N) (r left : ℕ) → map.get old.regions r ≡ Some left → HasPlaces old.nodes r left → IsShorter old old r left
-  none_gone old r left is places = record { nodes = sym (back_all old.nodes r left places); regions = sym (insert_same old.regions r left is); identity = refl; room = refl }
+  pub none_gone : (old : NodePool N) (r left : ℕ) → map.get old.regions r ≡ Some left → HasRanks old.nodes r left → IsShorter old old r left
+  none_gone old r left is ranks = record { nodes = sym (back_all old.nodes r left ranks); regions = sym (insert_same old.regions r left is); identity = refl; live = λ k h. ap (λ (x : ℕ). map.len old.nodes + x) (same_Some k left (sym h ∙ is)); room = refl }
 
   -- how many a region has that is shorter
   pub count_left : (old now : NodePool N) (r left : ℕ) → IsShorter old now r left → map.get now.regions r ≡ Some left
   count_left old now r left h = ap (λ rs. map.get rs r) h.regions ∙ got_here old.regions r left
 
-  pub one_gone : (old now new : NodePool N) (r left k : ℕ) → IsShorter old now r left → k ≤ left → new.nodes ≡ back_to now.nodes r k → new.regions ≡ map.insert now.regions r k → new.identity ≡ now.identity →
-      map.len new.nodes + new.spare ≡ map.len now.nodes + now.spare → IsShorter old new r k
-  one_gone old now new r left k so_far le nodes regions identity room = record {
-    nodes = nodes ∙ ap (λ (ns : Nodes N). back_to ns r k) so_far.nodes ∙ back_again old.nodes r left k le;
+  pub one_gone : (old now new : NodePool N) (r left k : ℕ) → IsShorter old now r left → left ≡ k + 1 → new.nodes ≡ back_to now.nodes r k → new.regions ≡ map.insert now.regions r k → new.identity ≡ now.identity →
+      map.len new.nodes + 1 ≡ map.len now.nodes → map.len new.nodes + new.spare ≡ map.len now.nodes + now.spare → IsShorter old new r k
+  one_gone old now new r left k so_far more nodes regions identity less room = record {
+    nodes = nodes ∙ ap (λ (ns : Nodes N). back_to ns r k) so_far.nodes ∙ back_again old.nodes r left k (omega (arith, more));
     regions = regions ∙ ap (λ rs. map.insert rs r k) so_far.regions ∙ insert_twice old.regions r left k;
     identity = identity ∙ so_far.identity;
+    live = λ j h. let was = so_far.live j h in omega (arith, was, less, more);
     room = room ∙ so_far.room;
   }

@@ -24,24 +24,24 @@ chain_count o = option_map_or (λ (c : Chain). c.count) o 0
 
 module _ {N : Type 0} where
   abbrev pub lived_as : Held N → Lived N
-  lived_as h = record { node = h.node; region = h.region; place = h.place }
+  lived_as h = record { node = h.node; region = h.region; rank = h.rank }
 
   abbrev pub nodes_of : List (Option (Held N)) → Nodes N
   nodes_of ns = map_of lived_as ns
 
-  -- the slot has the node of this place in this region
+  -- the slot has the node with this rank in this region
   abbrev pub IsAt : List (Option (Held N)) → ℕ → ℕ → ℕ → Type 0
-  IsAt ns n region place = (h : Held N) × (at ns n ≡ Some h) × (h.region ≡ region) × (h.place ≡ place)
+  IsAt ns n region rank = (h : Held N) × (at ns n ≡ Some h) × (h.region ≡ region) × (h.rank ≡ rank)
 
-  -- each node has a place in an open region, below the region's count, and no other node has it; a region names its last node, and
+  -- each node has a rank in an open region, below the region's count, and no other node has it; a region names its last node, and
   -- each node the one before it
   pub record AreChained (ns : List (Option (Held N))) (rs : List (Option Chain)) : Type 0 where
     pub few : length ns ≤ 2 ^ 31
     pub total : sum_by chain_count rs ≡ count_by is_some ns
-    pub homes : (n : ℕ) (h : Held N) → at ns n ≡ Some h → (c : Chain) × (at rs h.region ≡ Some c) × (h.place < c.count)
-    pub apart : (m n : ℕ) (g h : Held N) → at ns m ≡ Some g → at ns n ≡ Some h → g.region ≡ h.region → g.place ≡ h.place → m ≡ n
+    pub homes : (n : ℕ) (h : Held N) → at ns n ≡ Some h → (c : Chain) × (at rs h.region ≡ Some c) × (h.rank < c.count)
+    pub apart : (m n : ℕ) (g h : Held N) → at ns m ≡ Some g → at ns n ≡ Some h → g.region ≡ h.region → g.rank ≡ h.rank → m ≡ n
     pub lasts : (r k : ℕ) (c : Chain) → at rs r ≡ Some c → c.count ≡ suc k → IsAt ns c.last r k
-    pub befores : (n k : ℕ) (h : Held N) → at ns n ≡ Some h → h.place ≡ suc k → IsAt ns h.before h.region k
+    pub befores : (n k : ℕ) (h : Held N) → at ns n ≡ Some h → h.rank ≡ suc k → IsAt ns h.before h.region k
 
 abbrev pub regions_of : List (Option Chain) → map.FinMap nat_cmp ℕ
 regions_of rs = map_of (λ (c : Chain). c.count) rs

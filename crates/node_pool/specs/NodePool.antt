@@ -4,11 +4,11 @@ use Rattle.std.specs.Coded.{Coded, code_by, coded×, coded_ℕ, coded_option}
 use Rattle.std.specs.Ordering.{nat_cmp}
 use Rattle.std.specs.FinMap as map
 
--- a node that lives, its region, and its place there: how many nodes the region had when it was put
+-- a node that lives, its region, and its rank there: how many nodes the region had when it was put
 pub record Lived (N : Type 0) : Type 0 where
   pub node : N
   pub region : ℕ
-  pub place : ℕ
+  pub rank : ℕ
 
 -- a map from the ids of the nodes that live
 abbrev pub Nodes : Type 0 → Type 0
@@ -28,10 +28,10 @@ module _ {N : Type 0} where
     pub free : map.get old id ≡ None
     pub put : new ≡ map.insert old id l
 
-  -- where a region goes back to this many nodes, those of other regions stay, and those that have a lower place
+  -- where a region goes back to this many nodes, those of other regions stay, and those of lower ranks
   abbrev pub stays : ℕ → ℕ → Option (Lived N) → Bool
   stays region count None = false
-  stays region count (Some l) = not (l.region == region) || nat_lt l.place count
+  stays region count (Some l) = not (l.region == region) || nat_lt l.rank count
 
   -- the nodes that live when a region went back to this many
   abbrev pub back_to : Nodes N → ℕ → ℕ → Nodes N
@@ -39,7 +39,7 @@ module _ {N : Type 0} where
 
 abbrev lived_code : {N : Type 0} → Coded N → Coded (Lived N)
 lived_code {N} code =
-    code_by (N × (ℕ × ℕ)) (coded× code (coded× coded_ℕ coded_ℕ)) (λ l. (l.node, (l.region, l.place))) (λ p. record { node = p.0; region = p.1.0; place = p.1.1 }) (λ _. refl)
+    code_by (N × (ℕ × ℕ)) (coded× code (coded× coded_ℕ coded_ℕ)) (λ l. (l.node, (l.region, l.rank))) (λ p. record { node = p.0; region = p.1.0; rank = p.1.1 }) (λ _. refl)
 
 abbrev pub pool_code : {N : Type 0} → Coded N → Coded (NodePool N)
 pool_code {N} code =

@@ -1,5 +1,5 @@
 -- What contracts say of a pool.
-use Rattle.std.specs.Prelude.{◌≡◌, ◌⊎◌, ℕ, ◌<◌, ◌≤◌, Option, Some, None, IsSome, unwrap_or}
+use Rattle.std.specs.Prelude.{◌≡◌, ◌⊎◌, ℕ, ◌<◌, ◌≤◌, Option, Some, IsSome, unwrap_or}
 use Rattle.std.specs.Option.{option_map}
 use Rattle.std.specs.FinMap as map
 use Rattle.node_pool.specs.NodePool.{Lived, Nodes, NodePool}
@@ -29,7 +29,7 @@ module _ {N : Type 0} where
 
   -- a node as it is put into the region: behind those that live there
   abbrev pub lived_in : NodePool N → Region → N → Lived N
-  lived_in pool region node = record { node = node; region = region.number; place = count_in pool region }
+  lived_in pool region node = record { node = node; region = region.number; rank = count_in pool region }
 
   -- the region has the nodes that the mark counted
   abbrev pub Reaches : NodePool N → Region → Mark → Type 0
@@ -42,11 +42,11 @@ module _ {N : Type 0} where
 
   -- ---- what lies in a region
 
-  -- the nodes of a region have the places below this number, each of them once
-  pub record HasPlaces (nodes : Nodes N) (region count : ℕ) : Type 0 where
-    pub below : (id : ℕ) (l : Lived N) → map.get nodes id ≡ Some l → l.region ≡ region → l.place < count
-    pub taken : (place : ℕ) → place < count → (id : ℕ) × (l : Lived N) × (map.get nodes id ≡ Some l) × (l.region ≡ region) × (l.place ≡ place)
-    pub once : (a b : ℕ) (k l : Lived N) → map.get nodes a ≡ Some k → map.get nodes b ≡ Some l → k.region ≡ region → l.region ≡ region → k.place ≡ l.place → a ≡ b
+  -- the nodes of a region have the ranks below this number, each of them once
+  pub record HasRanks (nodes : Nodes N) (region count : ℕ) : Type 0 where
+    pub below : (id : ℕ) (l : Lived N) → map.get nodes id ≡ Some l → l.region ≡ region → l.rank < count
+    pub taken : (rank : ℕ) → rank < count → (id : ℕ) × (l : Lived N) × (map.get nodes id ≡ Some l) × (l.region ≡ region) × (l.rank ≡ rank)
+    pub once : (a b : ℕ) (k l : Lived N) → map.get nodes a ≡ Some k → map.get nodes b ≡ Some l → k.region ≡ region → l.region ≡ region → k.rank ≡ l.rank → a ≡ b
 
   -- each node that lived lives on, and each other one that lives lies in the region
   pub record OnlyAdds (old new : Nodes N) (region : ℕ) : Type 0 where

@@ -2,7 +2,7 @@
 ghost use Rattle.std.specs.Prelude.{◌≡◌, ◌≢◌, ℕ, ◌+◌, ◌-◌, ◌^◌, ◌<◌, ◌≤◌, ◌↔◌, Err, Some, None, IsSome, IsOk, IfOk, OnOk, OnErr};
 ghost use Rattle.std.specs.FinMap as map;
 ghost use Rattle.node_pool.specs.NodePool.{Nodes, IsPut, back_to};
-ghost use Rattle.node_pool.specs.Pools.{live_count, node_at, IsLive, IsOpened, count_in, lived_in, Keeps, Reaches, HasPlaces, OnlyAdds};
+ghost use Rattle.node_pool.specs.Pools.{live_count, node_at, IsLive, IsOpened, count_in, lived_in, Keeps, Reaches, HasRanks, OnlyAdds};
 ghost use Rattle.node_pool.specs.declared.pool.Region.{Region as AnyRegion};
 
 use crate::faults::{Mem, PoolFault};
@@ -34,12 +34,12 @@ pub struct Mark {
     count: u32,
 }
 
-// A node with its region, its place there, and the slot of the node at the place before.
+// A node with its region, its rank there, and the slot of the node with the rank before.
 #[derive(Drop)]
 struct Held<N> {
     node: N,
     region: usize,
-    place: u32,
+    rank: u32,
     before: u32,
 }
 
@@ -139,14 +139,17 @@ impl<N: Drop> Pool<N> {
         let number = self.nodes.insert(Held {
             node,
             region: region.number,
-            place: chain.count,
+            rank: chain.count,
             before: chain.last,
         })?;
         let last = number as u32;
-        self.regions.set(region.number, Chain {
-            count: chain.count + 1,
-            last,
-        });
+        self.regions.set(
+            region.number,
+            Chain {
+                count: chain.count + 1,
+                last,
+            },
+        );
         Ok(NodeId { number: last })
     }
 
@@ -179,11 +182,11 @@ impl<N: Drop> Pool<N> {
         self.nodes.live() as u32
     }
 
-    // How many nodes a region has: those of the places below.
+    // How many nodes a region has: they have the ranks below.
     fn count(&self, region: usize) -> u32
         requires { IsSome (map.get self.now.regions region) }
         ensures count { map.get self.now.regions region ≡ Some result }
-        ensures places { HasPlaces self.now.nodes region result }
+        ensures ranks { HasRanks self.now.nodes region result }
     {
         self.regions.get(region).count
     }
@@ -192,7 +195,7 @@ impl<N: Drop> Pool<N> {
     pub fn mark(&self, region: &Region) -> Mark
         requires { IsOpened self.now region.now }
         ensures count { result.count ≡ count_in self.now region.now }
-        ensures places { HasPlaces self.now.nodes region.now.number result.count }
+        ensures ranks { HasRanks self.now.nodes region.now.number result.count }
     {
         Mark {
             count: self.count(region.number),
@@ -205,24 +208,29 @@ impl<N: Drop> Pool<N> {
         ensures nodes { (k : ℕ) → map.get self.old.regions region ≡ Some (k + 1) → self.new.nodes ≡ back_to self.old.nodes region k }
         ensures regions { (k : ℕ) → map.get self.old.regions region ≡ Some (k + 1) → self.new.regions ≡ map.insert self.old.regions region k }
         ensures identity { self.new.identity ≡ self.old.identity }
+        ensures one_less { live_count self.new + 1 ≡ live_count self.old }
         ensures room { live_count self.new + self.new.spare ≡ live_count self.old + self.old.spare }
     {
         let chain = *self.regions.get(region);
         let held = self.nodes.remove(chain.last as usize);
-        self.regions.set(region, Chain {
-            count: held.place,
-            last: held.before,
-        });
+        self.regions.set(
+            region,
+            Chain {
+                count: held.rank,
+                last: held.before,
+            },
+        );
     }
 
-    // The nodes of a region go that have no place below this number, the last one first.
+    // The nodes of a region go whose ranks aren't below this number, the last one first.
     fn shorten(&mut self, region: usize, count: u32)
         requires { (k : ℕ) × (map.get self.old.regions region ≡ Some k) × (count ≤ k) }
         ensures nodes { self.new.nodes ≡ back_to self.old.nodes region count }
         ensures regions { self.new.regions ≡ map.insert self.old.regions region count }
         ensures identity { self.new.identity ≡ self.old.identity }
-        ensures undone { (before : Nodes N) → HasPlaces before region count → OnlyAdds before self.old.nodes region →
+        ensures undone { (before : Nodes N) → HasRanks before region count → OnlyAdds before self.old.nodes region →
             self.new.nodes ≡ before }
+        ensures live { (k : ℕ) → map.get self.old.regions region ≡ Some k → live_count self.new + k ≡ live_count self.old + count }
         ensures room { live_count self.new + self.new.spare ≡ live_count self.old + self.old.spare }
     {
         let mut left = self.count(region);
@@ -240,8 +248,9 @@ impl<N: Drop> Pool<N> {
         ensures regions { self.new.regions ≡ map.insert self.old.regions region.now.number mark.count }
         ensures identity { self.new.identity ≡ self.old.identity }
         ensures open { (other : AnyRegion) → IsOpened self.old other → IsOpened self.new other }
-        ensures undone { (before : Nodes N) → HasPlaces before region.now.number mark.count →
+        ensures undone { (before : Nodes N) → HasRanks before region.now.number mark.count →
             OnlyAdds before self.old.nodes region.now.number → self.new.nodes ≡ before }
+        ensures live { live_count self.new + count_in self.old region.now ≡ live_count self.old + mark.count }
         ensures room { live_count self.new + self.new.spare ≡ live_count self.old + self.old.spare }
     {
         self.shorten(region.number, mark.count);
@@ -254,6 +263,7 @@ impl<N: Drop> Pool<N> {
         ensures regions { self.new.regions ≡ map.remove self.old.regions region.number }
         ensures identity { self.new.identity ≡ self.old.identity }
         ensures others { (other : AnyRegion) → other.number ≢ region.number → IsOpened self.old other → IsOpened self.new other }
+        ensures live { live_count self.new + count_in self.old region ≡ live_count self.old }
         ensures room { live_count self.new + self.new.spare ≡ live_count self.old + self.old.spare }
     {
         self.shorten(region.number, 0);

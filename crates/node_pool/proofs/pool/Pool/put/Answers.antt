@@ -1,4 +1,4 @@
-use Rattle.std.proofs.Common.{◌≡◌, ◌+◌, ◌^◌, ◌<◌, ℕ, Some, is_some, count_by, refl, sym, ap, subst, ◌∙◌, arith, rules}
+use Rattle.std.proofs.Common.{◌≡◌, ◌+◌, ◌^◌, ◌<◌, ℕ, is_some, count_by, refl, sym, ap, subst, ◌∙◌, arith, rules}
 use Rattle.std.specs.Prelude.{IsSome, unwrap_or}
 use Rattle.std.specs.Option.{option_map}
 use Rattle.std.specs.FinMap as map
@@ -37,7 +37,7 @@ invariant_of-self-2 g c =
     let n = c.in_ok-number.number in
     let r = c.args.region.now.number in
     let chain = c.get-chain.result.now in
-    let h : Held _ = record { node = c.args.node; region = r; place = chain.count; before = chain.last } in
+    let h : Held _ = record { node = c.args.node; region = r; rank = chain.count; before = chain.last } in
     let d : Chain = record { count = chain.count + 1; last = n } in
     let room : count_by is_some ns < 2 ^ 31 = omega (arith, c.live.ensures, c.if-live-eq-MAX_LIVE.false, count_within ns, c.self.invariant.few) in
     let p : ArePut ns ms rs qs n r h d.count = are_put ns ms rs qs n r chain d h c.self.invariant c.in_ok-number.ensures.filled c.get-chain.ensures c.set.ensures.slots room refl refl refl refl refl in
@@ -52,14 +52,14 @@ returns-clause-put g c =
     let n = c.in_ok-number.number in
     let r = c.args.region.now.number in
     let chain = c.get-chain.result.now in
-    let h : Held _ = record { node = c.args.node; region = r; place = chain.count; before = chain.last } in
+    let h : Held _ = record { node = c.args.node; region = r; rank = chain.count; before = chain.last } in
     let d : Chain = record { count = chain.count + 1; last = n } in
     let room : count_by is_some ns < 2 ^ 31 = omega (arith, c.live.ensures, c.if-live-eq-MAX_LIVE.false, count_within ns, c.self.invariant.few) in
     let p : ArePut ns ms rs qs n r h d.count = are_put ns ms rs qs n r chain d h c.self.invariant c.in_ok-number.ensures.filled c.get-chain.ensures c.set.ensures.slots room refl refl refl refl refl in
     let count : chain.count ≡ unwrap_or (map.get c.args.self.now.regions r) 0 = sym (ap (λ o. unwrap_or o 0) (ap (λ x. map.get x.regions r) (sym c.self.view_is) ∙ region_count rs r chain c.get-chain.ensures)) in
-    let at_end : IsPut (nodes_of ns) (nodes_of ms) n (record { node = c.args.node; region = r; place = unwrap_or (map.get c.args.self.now.regions r) 0 }) =
-    subst (λ (k : ℕ). IsPut (nodes_of ns) (nodes_of ms) n (record { node = c.args.node; region = r; place = k })) count p.put in
-    subst (λ x. IsPut x.nodes (nodes_of ms) n (record { node = c.args.node; region = r; place = unwrap_or (map.get c.args.self.now.regions r) 0 })) c.self.view_is at_end
+    let at_end : IsPut (nodes_of ns) (nodes_of ms) n (record { node = c.args.node; region = r; rank = unwrap_or (map.get c.args.self.now.regions r) 0 }) =
+    subst (λ (k : ℕ). IsPut (nodes_of ns) (nodes_of ms) n (record { node = c.args.node; region = r; rank = k })) count p.put in
+    subst (λ x. IsPut x.nodes (nodes_of ms) n (record { node = c.args.node; region = r; rank = unwrap_or (map.get c.args.self.now.regions r) 0 })) c.self.view_is at_end
 
 pub returns-clause-region : goal.returns-clause-region
 returns-clause-region g c =
@@ -70,7 +70,7 @@ returns-clause-region g c =
     let n = c.in_ok-number.number in
     let r = c.args.region.now.number in
     let chain = c.get-chain.result.now in
-    let h : Held _ = record { node = c.args.node; region = r; place = chain.count; before = chain.last } in
+    let h : Held _ = record { node = c.args.node; region = r; rank = chain.count; before = chain.last } in
     let d : Chain = record { count = chain.count + 1; last = n } in
     let room : count_by is_some ns < 2 ^ 31 = omega (arith, c.live.ensures, c.if-live-eq-MAX_LIVE.false, count_within ns, c.self.invariant.few) in
     let p : ArePut ns ms rs qs n r h d.count = are_put ns ms rs qs n r chain d h c.self.invariant c.in_ok-number.ensures.filled c.get-chain.ensures c.set.ensures.slots room refl refl refl refl refl in
@@ -100,7 +100,7 @@ returns-clause-one_more g c =
     let n = c.in_ok-number.number in
     let r = c.args.region.now.number in
     let chain = c.get-chain.result.now in
-    let h : Held _ = record { node = c.args.node; region = r; place = chain.count; before = chain.last } in
+    let h : Held _ = record { node = c.args.node; region = r; rank = chain.count; before = chain.last } in
     let d : Chain = record { count = chain.count + 1; last = n } in
     let room : count_by is_some ns < 2 ^ 31 = omega (arith, c.live.ensures, c.if-live-eq-MAX_LIVE.false, count_within ns, c.self.invariant.few) in
     let p : ArePut ns ms rs qs n r h d.count = are_put ns ms rs qs n r chain d h c.self.invariant c.in_ok-number.ensures.filled c.get-chain.ensures c.set.ensures.slots room refl refl refl refl refl in
@@ -115,7 +115,7 @@ returns-clause-room g c =
     let n = c.in_ok-number.number in
     let r = c.args.region.now.number in
     let chain = c.get-chain.result.now in
-    let h : Held _ = record { node = c.args.node; region = r; place = chain.count; before = chain.last } in
+    let h : Held _ = record { node = c.args.node; region = r; rank = chain.count; before = chain.last } in
     let d : Chain = record { count = chain.count + 1; last = n } in
     let room : count_by is_some ns < 2 ^ 31 = omega (arith, c.live.ensures, c.if-live-eq-MAX_LIVE.false, count_within ns, c.self.invariant.few) in
     let p : ArePut ns ms rs qs n r h d.count = are_put ns ms rs qs n r chain d h c.self.invariant c.in_ok-number.ensures.filled c.get-chain.ensures c.set.ensures.slots room refl refl refl refl refl in

@@ -1,5 +1,5 @@
-use Rattle.std.proofs.Common.{◌≡◌, ◌+◌, ℕ, set, Some, None, is_some, count_by, sum_by, refl, sym, ap, subst, ◌∙◌, arith}
-use Rattle.std.specs.Prelude.{IsSome}
+use Rattle.std.proofs.Common.{◌≡◌, set, None, is_some, count_by, sum_by, refl, sym, ap, subst, ◌∙◌, arith}
+use Rattle.std.specs.Prelude.{IsSome, unwrap_or}
 use Rattle.std.specs.FinMap as map
 use Rattle.std.specs.Option.{option_map}
 use Rattle.node_pool.specs.NodePool.{NodePool}
@@ -50,3 +50,10 @@ pub returns-clause-others : goal.returns-clause-others
 returns-clause-others g c other ne h =
     let new : NodePool _ = record { nodes = nodes_of c.self.inside.nodes.slots; regions = regions_of c.remove.new.self.slots; identity = option_map (λ rc. rc.value.name) c.self.inside.identity; spare = c.self.inside.nodes.spare } in
     others_on c.args.self.now new c.args.region.number (ap (λ p. p.identity) c.self.view_is ∙ c.shorten.ensures.identity) (returns-clause-regions g c) other ne h
+
+pub returns-clause-live : goal.returns-clause-live
+returns-clause-live g c =
+    let p = holds (map.get c.args.self.now.regions c.args.region.number) c.requires.1 in
+    let count = ap (λ o. unwrap_or o 0) p.1 in
+    let live = ap (λ x. map.len x.nodes) c.self.view_is in
+    omega (arith, count, live, c.shorten.ensures.live p.0 p.1)

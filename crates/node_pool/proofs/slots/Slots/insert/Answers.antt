@@ -1,5 +1,4 @@
-use Rattle.std.proofs.Common.{◌≡◌, ◌∷◌, [], ◌++◌, Some, sym, ap, ◌∙◌, arith}
-use Rattle.node_pool.specs.declared.slots.Entry.TheVariants.{Vacant, Occupied}
+use Rattle.std.proofs.Common.{Some, sym, ap, ◌∙◌, arith}
 use Rattle.node_pool.proofs.EntryLaws.{next_within, read_next, next_is_vacant, linked_push, linked_fill, filled_push, filled_set}
 use Rattle.node_pool.proofs.slots.Slots.insert.Goals as goal
 

@@ -1,4 +1,3 @@
-use Rattle.std.proofs.Common.{arith}
 use Rattle.std.proofs.lemmas.List.{map-set}
 use Rattle.node_pool.proofs.EntryLaws.{occupied_at, linked_vacate}
 use Rattle.node_pool.proofs.slots.Slots.remove.Goals as goal
