@@ -2,12 +2,15 @@
 use Rattle.std.proofs.Common.{◌≡◌, ◌≢◌, ℕ, Bool, cond, Option, Some, None, IsSome, refl, sym, ap, subst, ◌∙◌, inl, inr}
 use Rattle.std.specs.Cmp.{nat_cmp_total}
 use Rattle.std.specs.FinMap as map
+use Rattle.std.specs.Prelude.{◌≤◌, unwrap_or}
+use Rattle.std.proofs.Common.{arith}
 use Rattle.std.specs.FinMap.{get-remove}
 use Rattle.std.proofs.lemmas.Bool.{cases_eq}
 use Rattle.std.proofs.lemmas.Option.{none-some}
 use Rattle.node_pool.specs.NodePool.{Lived, Nodes, NodePool, IsPut}
-use Rattle.node_pool.specs.Pools.{IsOpened}
+use Rattle.node_pool.specs.Pools.{IsOpened, Reaches}
 use Rattle.node_pool.specs.declared.pool.Region.{Region}
+use Rattle.node_pool.specs.declared.pool.Mark.{Mark}
 use Rattle.node_pool.proofs.MapLaws.{apart}
 use Rattle.node_pool.proofs.ShorterLaws.{got_here, got_there}
 
@@ -29,6 +32,19 @@ module _ {N : Type 0} where
       | inr ne ↦ subst (λ (o : Option ℕ). IsSome o) (sym (ap (λ rs. map.get rs region.number) regions ∙ got_there old.regions r k region.number ne)) h.1
     ],
   )
+
+  -- where the count of one region doesn't fall, each mark is reached that was
+  pub reached_on : (old new : NodePool N) (r k : ℕ) → new.regions ≡ map.insert old.regions r k → unwrap_or (map.get old.regions r) 0 ≤ k → (region : Region) (mark : Mark) → Reaches old region mark → Reaches new region mark
+  reached_on old new r k regions le region mark h =
+      elim (cases_eq region.number r) [
+        | inl e ↦
+            let now : unwrap_or (map.get new.regions region.number) 0 ≡ k = ap (λ rs. unwrap_or (map.get rs region.number) 0) regions ∙ ap (λ (n : ℕ). unwrap_or (map.get (map.insert old.regions r k) n) 0) e ∙ ap (λ (o : Option ℕ). unwrap_or o 0) (got_here old.regions r k) in
+            let was : unwrap_or (map.get old.regions region.number) 0 ≡ unwrap_or (map.get old.regions r) 0 = ap (λ (n : ℕ). unwrap_or (map.get old.regions n) 0) e in
+            omega (arith, h, le, now, was)
+        | inr ne ↦
+            let now : unwrap_or (map.get new.regions region.number) 0 ≡ unwrap_or (map.get old.regions region.number) 0 = ap (λ rs. unwrap_or (map.get rs region.number) 0) regions ∙ ap (λ (o : Option ℕ). unwrap_or o 0) (got_there old.regions r k region.number ne) in
+            omega (arith, h, now)
+      ]
 
   -- where a region ends, each other one that was open is open
   pub others_on : (old new : NodePool N) (r : ℕ) → new.identity ≡ old.identity → new.regions ≡ map.remove old.regions r → (region : Region) → region.number ≢ r → IsOpened old region → IsOpened new region

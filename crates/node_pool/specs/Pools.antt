@@ -35,10 +35,11 @@ module _ {N : Type 0} where
   abbrev pub Reaches : NodePool N → Region → Mark → Type 0
   Reaches pool region mark = mark.count ≤ count_in pool region
 
-  -- what lived lives on, and what was open is open
+  -- what lived lives on, what was open is open, and marks are reached
   pub record Keeps (old new : NodePool N) : Type 0 where
     pub nodes : (id : ℕ) (l : Lived N) → map.get old.nodes id ≡ Some l → map.get new.nodes id ≡ Some l
     pub regions : (region : Region) → IsOpened old region → IsOpened new region
+    pub marks : (region : Region) (mark : Mark) → Reaches old region mark → Reaches new region mark
 
   -- ---- what lies in a region
 

@@ -196,6 +196,7 @@ impl<N: Drop> Pool<N> {
         requires { IsOpened self.now region.now }
         ensures count { result.count ≡ count_in self.now region.now }
         ensures ranks { HasRanks self.now.nodes region.now.number result.count }
+        ensures reaches { Reaches self.now region.now result }
     {
         Mark {
             count: self.count(region.number),

@@ -1,10 +1,10 @@
 use Rattle.std.proofs.Common.{◌≡◌, ℕ, Option, Some, sum_by, is_some, count_by, refl, sym, ap, subst, ◌∙◌, arith, rules}
-use Rattle.std.specs.Prelude.{IsSome}
+use Rattle.std.specs.Prelude.{IsSome, unwrap_or}
 use Rattle.std.specs.Option.{option_map}
 use Rattle.std.specs.FinMap as map
 use Rattle.node_pool.specs.NodePool.{NodePool}
 use Rattle.node_pool.specs.Chains.{chain_count, nodes_of, regions_of}
-use Rattle.node_pool.proofs.KeepLaws.{opened_on}
+use Rattle.node_pool.proofs.KeepLaws.{opened_on, reached_on}
 use Rattle.node_pool.specs.declared.pool.Chain.{Chain}
 use Rattle.node_pool.proofs.MapLaws.{fills, get_map, inserted}
 use Rattle.node_pool.proofs.ChainLaws.{sum_filled, opened_chained}
@@ -55,4 +55,5 @@ returns-clause-keeps g c =
     record {
       nodes = λ id l at. ap (λ p. map.get p.nodes id) c.self.view_is ∙ at;
       regions = λ region h. opened_on old new c.in_ok-number.number 0 same (returns-clause-regions g c) region h;
+      marks = λ region mark h. reached_on old new c.in_ok-number.number 0 (returns-clause-regions g c) (omega (arith, ap (λ o. unwrap_or o 0) (returns-clause-fresh g c))) region mark h;
     }

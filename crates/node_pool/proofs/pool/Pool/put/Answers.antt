@@ -8,7 +8,7 @@ use Rattle.node_pool.specs.declared.pool.Chain.{Chain}
 use Rattle.node_pool.specs.declared.pool.Held.{Held}
 use Rattle.node_pool.proofs.MapLaws.{len_map, count_within}
 use Rattle.node_pool.proofs.ShorterLaws.{got_here}
-use Rattle.node_pool.proofs.KeepLaws.{put_on, opened_on}
+use Rattle.node_pool.proofs.KeepLaws.{put_on, opened_on, reached_on}
 use Rattle.node_pool.proofs.PoolLaws.{is_open, region_count, ArePut, are_put}
 use Rattle.node_pool.proofs.pool.Pool.put.Goals as goal
 
@@ -89,6 +89,7 @@ returns-clause-keeps g c =
     record {
       nodes = λ id l at. put_on old.nodes new.nodes c.in_ok-number.number _ (returns-clause-put g c) id l at;
       regions = λ region h. opened_on old new c.args.region.now.number _ (λ name e. ap (λ p. p.identity) c.self.view_is ∙ e) (returns-clause-region g c) region h;
+      marks = λ region mark h. reached_on old new c.args.region.now.number _ (returns-clause-region g c) (omega arith) region mark h;
     }
 
 pub returns-clause-one_more : goal.returns-clause-one_more
