@@ -173,9 +173,11 @@ module _ (P : ℕ → Type 0) where
     program_held : (m : ℕ) (b : Bool) (ds : List Datum) → Each Held ds → Each SourceHeld (program_in t m b ds)
     program_held m b [] h = tt
     program_held m b (d ∷ ds) h =
-        let forms = importing (model_forms t (map (own m) (d ∷ ds))) in
-        (one_of_two SourceHeld b (part_of (place_of d) (d ∷ ds)) (source_by IsProgram None (place_of d) forms) (plain_held (d ∷ ds) h)
-        (listed_held IsProgram None (place_of d) forms (program_such OwnHeld held_within t (texts_held o) m (d ∷ ds) (own_held m (d ∷ ds) h))), tt)
+        let forms = importing (model_forms t (map (own m) (d ∷ ds))) in (
+          one_of_two SourceHeld b (part_of (place_of d) (d ∷ ds)) (source_by IsProgram None (place_of d) forms) (plain_held (d ∷ ds) h)
+              (listed_held IsProgram None (place_of d) forms (program_such OwnHeld held_within t (texts_held o) m (d ∷ ds) (own_held m (d ∷ ds) h))),
+          tt,
+        )
 
     units_held : (m : ℕ) (ds : List Datum) → Each Held ds → Each SourceHeld (units_in t known all m ds)
     units_held m ds h =

@@ -1,10 +1,16 @@
 //! Rows of import_sets and library_table: units, what they import and export, and their order.
+ghost use Rattle.std.specs.Prelude.{◌<◌, length};
+
 use crate::scopes::{meaning_of, show_meaning};
-use datum_reader::read_all;
+use datum_reader::heads::first_token;
+use datum_reader::{Datum, read_all};
 use import_sets::{ImportFault, ImportSet, NamePair, SetName, entries_of};
+use included_documents::Uris;
+use included_forms::{Documents, Table, Text as ReadText};
+use known_libraries::KnownLibraries;
 use library_table::{
-    ExportFault, ExportSpec, ImportSpec, KnownLibraries, LibraryFault, UnitForm, UnitSource,
-    exports_of, order, read_program, read_unit, repeated,
+    ExportFault, ExportSpec, ImportSpec, LibraryFault, UnitForm, UnitSource, exports_of,
+    first_of_program, order, read_program, read_unit, repeated,
 };
 use ls_base::{Items, Span, Text};
 use row_values::argument::{item, list, made, made_bytes, text};
@@ -15,6 +21,9 @@ use serde_json::Value;
 use std::alloc::Global;
 use syntax_tree::symbols::Symbols;
 use syntax_tree::units::{Entry, Origin, UnitKind};
+
+/// The most tokens of a unit's forms.
+const MAX_TOKENS: u32 = 1_048_576;
 
 /// The most units of a row, and exports of a unit.
 const MANY: usize = 1_000;
@@ -29,6 +38,25 @@ pub fn answer(out: &mut Shown, call: &str, argument: &Value) -> Row<()> {
 }
 
 /// The program of a text, or where there is none its last library.
+fn unit_among(
+    alloc: Global,
+    documents: &Documents<'_>,
+    table: &Table<'_>,
+    data: &[Datum],
+) -> Row<Result<UnitSource, LibraryFault>>
+    requires { 0 < length documents.now.uris.now }
+{
+    if let Some(first) = first_of_program(data) {
+        let span = first_token(first);
+        return Ok(read_program(alloc, documents, table, 0, data, span, 0));
+    }
+    match data.last() {
+        Some(datum) => Ok(read_unit(alloc, documents, table, 0, datum, 0)),
+        None => Err(RowFault::NotShown),
+    }
+}
+
+/// The same of a text that is alone, so that its strings mean nothing.
 fn unit_of(
     alloc: Global,
     value: &Value,
@@ -36,13 +64,20 @@ fn unit_of(
 ) -> Row<Result<UnitSource, LibraryFault>> {
     let bytes = made_bytes(alloc, value)?;
     let data = read_all(alloc, made(&bytes)?)?;
-    if let Some(program) = read_program(alloc, &data, 0)? {
-        return Ok(Ok(program));
-    }
-    match data.as_slice().last() {
-        Some(datum) => Ok(read_unit(alloc, datum, 0, &KnownLibraries::of(alloc, known)?)),
-        None => Err(RowFault::NotShown),
-    }
+    let known = KnownLibraries::of(alloc, known)?;
+    let uris = Uris::of(alloc, &["row"])?;
+    let texts = [ReadText {
+        data: data.as_slice(),
+        unit: 0,
+    }];
+    let documents = Documents {
+        limit: MAX_TOKENS,
+        known: &known,
+        uris: &uris,
+        texts: &texts,
+    };
+    let table = Table::of(alloc, &documents, &[false], &[])?;
+    unit_among(alloc, &documents, &table, data.as_slice())
 }
 
 /// The same, where it isn't refused.
@@ -172,6 +207,7 @@ fn show_fault(out: &mut Shown, fault: &LibraryFault) {
             out.string("cycle");
             out.texts(names.as_slice());
         }
+        LibraryFault::TooManyTokens => out.string("too many tokens"),
         LibraryFault::SameLibrary => out.string("same library"),
         LibraryFault::NotDefined(name) => {
             out.string("not defined");

@@ -8,6 +8,7 @@ ghost use Rattle.std.specs.BTreeMap.{get_by_text};
 ghost use Rattle.scheme_model.specs.Requirements.{LibraryName};
 ghost use Rattle.scheme_model.specs.StandardLibraries.{standard};
 ghost use Rattle.scheme_model.specs.Entries as model;
+ghost use Rattle.scheme_model.specs.IncludedUnits.{Placed};
 ghost use Rattle.scheme_model.specs.Program as program;
 ghost use Rattle.scheme_model.specs.Program.{standard_entry, is_import, is_program, import_all, specs_from, specs_in, unit_entries};
 ghost use Rattle.scheme_model.specs.Diagnostics.{Bytes, document_of, bytes_of, bytes_or, clash_diagnostics, import_fault, set_found, set_diagnostics};
@@ -115,14 +116,14 @@ pub fn given_to(
     ensures entries { IfOk result (λ given. HaveMeaning work.new.symbols given.joined.entries.items) }
     ensures once { IfOk result (λ given. EachOnce given.joined.entries.items) }
     ensures findings { IfOk result (λ given. AreFoundIn (length places.entry.documents.now) given.findings.items) }
-    ensures exact { (spelled : LibraryName → List ℕ) → (all : List program.Placed) → (rs : List program.UnitResult) →
+    ensures exact { (spelled : LibraryName → List ℕ) → (all : List Placed) → (rs : List program.UnitResult) →
         AreLibraries work.old.symbols libraries.entry spelled all rs → (p : program.Prepared) → ImportsAs spelled source.now p →
         IfOk result (λ given. AreEntries work.new.symbols given.joined.entries.items (unit_entries all rs p).0) }
-    ensures told { (spelled : LibraryName → List ℕ) → (all : List program.Placed) → (rs : List program.UnitResult) →
+    ensures told { (spelled : LibraryName → List ℕ) → (all : List Placed) → (rs : List program.UnitResult) →
         AreLibraries work.old.symbols libraries.entry spelled all rs → (p : program.Prepared) → ImportsAs spelled source.now p →
         (reads : List Read) → (us : List program.UnitResult) → ArePlaces places.entry reads us →
         IfOk result (λ given. all_told given.findings.items ≡ set_diagnostics (bytes_of (spans_of reads) us) (document_of us) p.specs (unit_entries all rs p).1) }
-    ensures errors { (spelled : LibraryName → List ℕ) → (all : List program.Placed) → (rs : List program.UnitResult) →
+    ensures errors { (spelled : LibraryName → List ℕ) → (all : List Placed) → (rs : List program.UnitResult) →
         AreLibraries work.old.symbols libraries.entry spelled all rs → (p : program.Prepared) → ImportsAs spelled source.now p → p.forms ≡ forms_of source.now.forms → p.specs ≡ specs_from p.number 0 p.forms →
         IfOk result (λ given. errors_in given.findings.items ≡ set_errors (zip (set_forms p.number 0 p.forms) (unit_entries all rs p).1)) }
 {
@@ -158,15 +159,15 @@ fn gathered(
     ensures means { IfOk result (λ g. GroupsMean symbols.new g.groups.items) }
     ensures apart { IfOk result (λ g. AreApart g.groups.items) }
     ensures findings { OnOk result (AreFoundIn (length places.entry.documents.now) findings.new.items) }
-    ensures exact { (spelled : LibraryName → List ℕ) → (all : List program.Placed) → (rs : List program.UnitResult) →
+    ensures exact { (spelled : LibraryName → List ℕ) → (all : List Placed) → (rs : List program.UnitResult) →
         AreLibraries symbols.old libraries.entry spelled all rs → (p : program.Prepared) → ImportsAs spelled source.now p →
         IfOk result (λ g. GroupsStand symbols.new g.groups.items (unit_entries all rs p).0) }
-    ensures told { (spelled : LibraryName → List ℕ) → (all : List program.Placed) → (rs : List program.UnitResult) →
+    ensures told { (spelled : LibraryName → List ℕ) → (all : List Placed) → (rs : List program.UnitResult) →
         AreLibraries symbols.old libraries.entry spelled all rs → (p : program.Prepared) → ImportsAs spelled source.now p →
         (reads : List Read) → (us : List program.UnitResult) → ArePlaces places.entry reads us →
         OnOk result (all_told findings.new.items
         ≡ all_told findings.old.items ++ set_diagnostics (bytes_of (spans_of reads) us) (document_of us) p.specs (unit_entries all rs p).1) }
-    ensures errors { (spelled : LibraryName → List ℕ) → (all : List program.Placed) → (rs : List program.UnitResult) →
+    ensures errors { (spelled : LibraryName → List ℕ) → (all : List Placed) → (rs : List program.UnitResult) →
         AreLibraries symbols.old libraries.entry spelled all rs → (p : program.Prepared) → ImportsAs spelled source.now p → p.forms ≡ forms_of source.now.forms → p.specs ≡ specs_from p.number 0 p.forms →
         OnOk result (errors_in findings.new.items ≡ errors_in findings.old.items ++ set_errors (zip (set_forms p.number 0 p.forms) (unit_entries all rs p).1)) }
 {
@@ -211,15 +212,15 @@ fn sets_given(
     ensures means { IfOk result (λ g. GroupsMean symbols.new g.groups.items) }
     ensures apart { IfOk result (λ g. AreApart g.groups.items) }
     ensures findings { OnOk result (AreFoundIn (length places.entry.documents.now) findings.new.items) }
-    ensures exact { (spelled : LibraryName → List ℕ) → (all : List program.Placed) → (rs : List program.UnitResult) →
+    ensures exact { (spelled : LibraryName → List ℕ) → (all : List Placed) → (rs : List program.UnitResult) →
         AreLibraries symbols.old libraries.entry spelled all rs → (ss : List program.ImportSpec) → AllMatch (IsSpec spelled) source.now.imports ss →
         IfOk result (λ g. GroupsStand symbols.new g.groups.items (import_all all rs [] ss).0) }
-    ensures told { (spelled : LibraryName → List ℕ) → (all : List program.Placed) → (rs : List program.UnitResult) →
+    ensures told { (spelled : LibraryName → List ℕ) → (all : List Placed) → (rs : List program.UnitResult) →
         AreLibraries symbols.old libraries.entry spelled all rs → (ss : List program.ImportSpec) → AllMatch (IsSpec spelled) source.now.imports ss →
         (reads : List Read) → (us : List program.UnitResult) → ArePlaces places.entry reads us →
         OnOk result (all_told findings.new.items
         ≡ all_told findings.old.items ++ set_diagnostics (bytes_of (spans_of reads) us) (document_of us) ss (import_all all rs [] ss).1) }
-    ensures errors { (spelled : LibraryName → List ℕ) → (all : List program.Placed) → (rs : List program.UnitResult) →
+    ensures errors { (spelled : LibraryName → List ℕ) → (all : List Placed) → (rs : List program.UnitResult) →
         AreLibraries symbols.old libraries.entry spelled all rs → (ss : List program.ImportSpec) → AllMatch (IsSpec spelled) source.now.imports ss → (unit : ℕ) → ss ≡ specs_from unit 0 (forms_of source.now.forms) →
         OnOk result (errors_in findings.new.items ≡ errors_in findings.old.items ++ set_errors (zip (set_forms unit 0 (forms_of source.now.forms)) (import_all all rs [] ss).1)) }
 {
@@ -261,15 +262,15 @@ fn with_set(
     ensures apart { IfOk result (λ g. AreApart g.groups.items) }
     ensures findings { OnOk result (AreFoundIn (length places.entry.documents.now) findings.new.items) }
     ensures clashes { IfOk result (λ g. g.clashes.items ≡ []) }
-    ensures exact { (spelled : LibraryName → List ℕ) → (all : List program.Placed) → (rs : List program.UnitResult) →
+    ensures exact { (spelled : LibraryName → List ℕ) → (all : List Placed) → (rs : List program.UnitResult) →
         AreLibraries symbols.old libraries.entry spelled all rs → (s : program.ImportSpec) → IsSpec spelled set.entry.spec.now s → (es : List model.Entry) →
         GroupsStand symbols.old gathering.groups.items es → IfOk result (λ g. GroupsStand symbols.new g.groups.items (with_set all rs s.set es).0) }
-    ensures told { (spelled : LibraryName → List ℕ) → (all : List program.Placed) → (rs : List program.UnitResult) →
+    ensures told { (spelled : LibraryName → List ℕ) → (all : List Placed) → (rs : List program.UnitResult) →
         AreLibraries symbols.old libraries.entry spelled all rs → (s : program.ImportSpec) → IsSpec spelled set.entry.spec.now s → (es : List model.Entry) →
         GroupsStand symbols.old gathering.groups.items es → (reads : List Read) → (us : List program.UnitResult) → ArePlaces places.entry reads us →
         OnOk result (all_told findings.new.items
         ≡ all_told findings.old.items ++ set_found (bytes_of (spans_of reads) us) set.entry.document s (with_set all rs s.set es).1) }
-    ensures errors { (spelled : LibraryName → List ℕ) → (all : List program.Placed) → (rs : List program.UnitResult) →
+    ensures errors { (spelled : LibraryName → List ℕ) → (all : List Placed) → (rs : List program.UnitResult) →
         AreLibraries symbols.old libraries.entry spelled all rs → (s : program.ImportSpec) → IsSpec spelled set.entry.spec.now s → (es : List model.Entry) →
         GroupsStand symbols.old gathering.groups.items es → OnOk result (errors_in findings.new.items ≡ errors_in findings.old.items ++ set_errors ((set.entry.form, (with_set all rs s.set es).1) ∷ [])) }
 {
@@ -366,7 +367,7 @@ fn of_set(
     requires { ExportsMean symbols.old libraries.expanded.now }
     ensures names { KeepsNames symbols.old symbols.new }
     ensures means { IfOk result (SetMeans symbols.new) }
-    ensures exact { (spelled : LibraryName → List ℕ) → (all : List program.Placed) → (rs : List program.UnitResult) →
+    ensures exact { (spelled : LibraryName → List ℕ) → (all : List Placed) → (rs : List program.UnitResult) →
         AreLibraries symbols.old libraries.entry spelled all rs → (s : model.ImportSet) → IsSetOf (λ t n. t ≡ spelled n) set.now s →
         IfOk result (λ gives. ComesTo symbols.new gives (with_set all rs s)) }
 {
@@ -418,7 +419,7 @@ pub fn library_entries(
     requires { ExportsMean symbols.old libraries.expanded.now }
     ensures names { KeepsNames symbols.old symbols.new }
     ensures means { IfOk result (λ exports. IfSome exports (HaveMeaning symbols.new)) }
-    ensures exact { (spelled : LibraryName → List ℕ) → (all : List program.Placed) → (rs : List program.UnitResult) →
+    ensures exact { (spelled : LibraryName → List ℕ) → (all : List Placed) → (rs : List program.UnitResult) →
         AreLibraries symbols.old libraries.entry spelled all rs → (s : model.ImportSet) → IsSetOf (λ t n. t ≡ spelled n) set.now s →
         IfOk result (λ exports. AreEntriesIf symbols.new exports (set_exports all rs (model.library_in s))) }
 {
@@ -438,7 +439,7 @@ fn named_entries(
     requires { ExportsMean symbols.old libraries.expanded.now }
     ensures names { KeepsNames symbols.old symbols.new }
     ensures means { IfOk result (λ exports. IfSome exports (HaveMeaning symbols.new)) }
-    ensures exact { (spelled : LibraryName → List ℕ) → (all : List program.Placed) → (rs : List program.UnitResult) →
+    ensures exact { (spelled : LibraryName → List ℕ) → (all : List Placed) → (rs : List program.UnitResult) →
         AreLibraries symbols.old libraries.entry spelled all rs → (n : LibraryName) → name.now ≡ spelled n →
         IfOk result (λ exports. AreEntriesIf symbols.new exports (program.library_exports all rs n (standard n))) }
 {

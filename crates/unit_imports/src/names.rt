@@ -7,6 +7,7 @@ ghost use Rattle.scheme_model.specs.Requirements.{LibraryName};
 ghost use Rattle.scheme_model.specs.Meaning as meant;
 ghost use Rattle.scheme_model.specs.Entries as model;
 ghost use Rattle.scheme_model.specs.Live as live;
+ghost use Rattle.scheme_model.specs.IncludedUnits.{Placed};
 ghost use Rattle.scheme_model.specs.Program as program;
 ghost use Rattle.scheme_model.specs.ProgramArrows.{import_uses, uses_in_set};
 ghost use Rattle.syntax_tree.specs.Names.{Names, KeepsNames};
@@ -74,7 +75,7 @@ pub fn names_used(
     requires { ExportsMean work.old.symbols libraries.expanded.now }
     ensures trees { work.new.trees ≡ work.old.trees }
     ensures names { KeepsNames work.old.symbols work.new.symbols }
-    ensures exact { (spelled : LibraryName → List ℕ) → (all : List program.Placed) → (rs : List program.UnitResult) →
+    ensures exact { (spelled : LibraryName → List ℕ) → (all : List Placed) → (rs : List program.UnitResult) →
         AreLibraries work.old.symbols libraries.entry spelled all rs → (ss : List program.ImportSpec) → AllMatch (IsSpec spelled) source.now.imports ss →
         (find : List ℕ → Option model.Entry) → FindsNames work.old.symbols names.now find →
         (xs : List program.ExportSpec) → AreExports source.now.exports xs → HaveOneIfSame xs →
@@ -115,7 +116,7 @@ impl Identifiers {
     ) -> Mem<()>
         requires { ExportsMean symbols.old libraries.expanded.now }
         ensures names { KeepsNames symbols.old symbols.new }
-        ensures adds { (spelled : LibraryName → List ℕ) → (all : List program.Placed) → (rs : List program.UnitResult) →
+        ensures adds { (spelled : LibraryName → List ℕ) → (all : List Placed) → (rs : List program.UnitResult) →
             AreLibraries symbols.old libraries.entry spelled all rs → (ss : List program.ImportSpec) → AllMatch (IsSpec spelled) specs.now ss →
             OnOk result (AddsNames symbols.new self.old self.new (import_uses all rs ss)) }
     {
@@ -135,7 +136,7 @@ impl Identifiers {
     ) -> Mem<()>
         requires { ExportsMean symbols.old libraries.expanded.now }
         ensures names { KeepsNames symbols.old symbols.new }
-        ensures adds { (spelled : LibraryName → List ℕ) → (all : List program.Placed) → (rs : List program.UnitResult) →
+        ensures adds { (spelled : LibraryName → List ℕ) → (all : List Placed) → (rs : List program.UnitResult) →
             AreLibraries symbols.old libraries.entry spelled all rs → (s : model.ImportSet) → IsSetOf (λ t n. t ≡ spelled n) set.now s →
             OnOk result (AddsNames symbols.new self.old self.new (uses_in_set all rs s (model.library_in s))) }
     {
