@@ -26,7 +26,7 @@ pub mod TokensAlike  -- The tokens of documents are those of each reading of the
 pub mod ToldProgram  -- The units of the whole program, by what came of them, what is found in them and what breaks them
 pub mod HeadsStand  -- The heads of units that were listed are those of the program's units
 pub mod HeadsOf  -- The heads of units have what the units do, as these were listed, judged and worked on
-pub mod WorkedForms  -- The forms of a unit that are worked on are those of its source, unless it is a part
+pub mod WorkedForms  -- The forms of a unit that are worked on are those of its source, unless it is a part; what comes of them stands for the unit's forms
 pub mod LostStand  -- Strings of units that mean no text stand in one of the documents
 pub mod UnitNumbers  -- The forms that a unit comes to have the numbers of those that are expanded (R7RS 5.1)
 pub mod NamesKept  -- Definitions and names stand for the same once names are added
