@@ -4,8 +4,8 @@ use Rattle.std.specs.Prelude.{not, ◌&&◌}
 use Rattle.std.specs.List.{list_any}
 use Rattle.std.specs.Option.{option_map}
 use Rattle.ls_base.specs.declared.places.Span.{Span}
-use Rattle.scheme_model.specs.Data.{Place, Datum, place_of}
-use Rattle.scheme_model.specs.Declarations.{UnitForm, UnitKind, IsLibrary, IsProgram, IsPart, plain_form, behind_head, library_name}
+use Rattle.scheme_model.specs.Data.{Datum, place_of}
+use Rattle.scheme_model.specs.Declarations.{UnitForm, UnitKind, IsLibrary, IsProgram, plain_form, behind_head, library_name}
 use Rattle.scheme_model.specs.Included.{Sources, Listing, all_texts, forms_of as listed_forms}
 use Rattle.scheme_model.specs.IncludedUnits.{UnitSource, EarlyFault, OnCircle, source_by, unless_circular, own, library_listing, library_of, importing, part_of, program_in}
 use Rattle.scheme_model.specs.Includes.{Naming, is_among, is_on_circle, is_part}

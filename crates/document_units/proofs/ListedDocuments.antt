@@ -1,9 +1,9 @@
 -- The units of documents, one datum and one document more at a time.
-use Rattle.std.proofs.Common.{◌≡◌, ℕ, suc, ◌+◌, ◌<◌, ◌≤◌, Bool, true, false, cond, List, [], ◌∷◌, ◌++◌, map, take, drop, length, get_or, refl, sym, ap, ◌∙◌, subst, append_assoc, append-nil, arith}
-use Rattle.std.proofs.lemmas.List.{map_more, take_more, take_all, map-append, length-take-le}
+use Rattle.std.proofs.Common.{◌≡◌, ℕ, suc, ◌+◌, ◌<◌, Bool, true, false, cond, List, [], ◌∷◌, ◌++◌, map, take, length, get_or, refl, sym, ap, ◌∙◌, subst, append_assoc, append-nil, arith}
+use Rattle.std.proofs.lemmas.List.{map_more, take_more, map-append, length-take-le}
 use Rattle.scheme_model.specs.Data.{Datum}
 use Rattle.scheme_model.specs.Declarations.{is_library}
-use Rattle.scheme_model.specs.Included.{Sources, Texts, all_texts}
+use Rattle.scheme_model.specs.Included.{Texts}
 use Rattle.scheme_model.specs.IncludedUnits.{UnitSource, unless_circular, library_of, libraries_in, program_in, units_in, Placed, units_from}
 use Rattle.scheme_model.specs.Includes as model
 use Rattle.scheme_model.specs.Includes.{Naming, naming, is_on_circle, is_part, program_data}

@@ -49,7 +49,6 @@ use Rattle.document_units.proofs.OneIfSame.{all_from}
 use Rattle.document_units.proofs.RenamedLaws.{AreDeclaredRead}
 use Rattle.document_units.proofs.StandardNamed.{standard_told, as_imported}
 
-
 abbrev Flat : Type 0
 Flat = Result (List UnitForm) EarlyFault
 

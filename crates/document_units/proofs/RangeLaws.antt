@@ -1,5 +1,5 @@
 -- The tokens of forms, one form more at a time.
-use Rattle.std.proofs.Common.{◌≡◌, ℕ, suc, ◌+◌, ◌<◌, List, [], ◌∷◌, ◌++◌, map, take, length, get_or, refl, sym, ap, ◌∙◌, arith}
+use Rattle.std.proofs.Common.{◌≡◌, ℕ, suc, ◌+◌, ◌<◌, List, [], ◌∷◌, ◌++◌, take, length, get_or, sym, ap, ◌∙◌, arith}
 use Rattle.std.proofs.lemmas.List.{map_more, length-map, length-take-le}
 use Rattle.scheme_model.specs.declared.Home.{Home}
 use Rattle.scheme_model.specs.Data.{place_of}

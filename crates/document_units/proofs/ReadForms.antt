@@ -1,6 +1,6 @@
 -- The forms of units were read, where the data of all documents were, also those that are declarations, and those of included texts.
-use Rattle.std.proofs.Common.{◌≡◌, ℕ, zero, suc, ◌≤◌, List, [], ◌∷◌, map, Bool, true, false, Option, Some, None, Result, Ok, Err, refl, subst, cond, filter, arith}
-use Rattle.scheme_model.specs.Data.{Place, Datum, place_of}
+use Rattle.std.proofs.Common.{◌≡◌, ℕ, zero, suc, List, [], ◌∷◌, map, Bool, true, false, Option, Some, None, Ok, refl, subst, cond, filter, arith}
+use Rattle.scheme_model.specs.Data.{Place, Datum}
 use Rattle.scheme_model.specs.Declarations.{UnitForm, plain_form, behind_head, UnitKind}
 use Rattle.scheme_model.specs.Included.{Homed, FlatForm, Listing, Lists, BadAfter, TooLong, Texts, Sources, inside, forms_of, homed_from, included_data, all_texts}
 use Rattle.scheme_model.specs.IncludedUnits.{source_by, unit_form, own, library_listing, importing}

@@ -155,7 +155,7 @@ module _ (names : BTreeSet (String Global)) (uris : List (List ℕ)) (vs : List 
   -- a reader that is made of these
   module _ (xs : List Text) (told : map (λ (t : Text). data_of t.«data».now) xs ≡ map (λ (c : Document). data_of (items_in c)) cs) (units : map (λ (t : Text). t.unit) xs ≡ map (λ (p : TextPart). p.program) ps) (reader : Reader)
       (by : (o : Sources) → o.limit ≡ max_tokens → o.usable ≡ usable (naming o.documents) o.documents → Knows names o.known → Mean o uris → DocumentsRead o.documents → ((n : ℕ) (x : Text) → slice_get xs n ≡ Some x → is_among o.usable n ≡ true → IsText o n x) →
-          length ps ≡ length o.documents → ((n : ℕ) (p : TextPart) → slice_get ps n ≡ Some p → p.is_usable ≡ is_among o.usable n) → IsReader o reader)
+      length ps ≡ length o.documents → ((n : ℕ) (p : TextPart) → slice_get ps n ≡ Some p → p.is_usable ≡ is_among o.usable n) → IsReader o reader)
       (same : reader.documents.uris.now ≡ uris) where
     reads_by : (known : Known) → Knows names known → IsReader (sources known) reader
     reads_by known knows =

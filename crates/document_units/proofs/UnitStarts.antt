@@ -1,5 +1,5 @@
 -- Units begin at the tokens with the numbers of their first ones.
-use Rattle.std.proofs.Common.{◌≡◌, ℕ, zero, suc, ◌+◌, Bool, true, false, cond, List, [], ◌∷◌, map, filter, chars, slice_get, Some, refl, sym, ap, ◌∙◌, subst, inl, inr, arith}
+use Rattle.std.proofs.Common.{◌≡◌, ℕ, zero, suc, Bool, true, false, cond, List, [], ◌∷◌, filter, chars, slice_get, Some, sym, ap, ◌∙◌, subst, inl, inr}
 use Rattle.std.specs.Prelude.{not}
 use Rattle.scheme_model.specs.Data.{Place, Datum, place_of}
 use Rattle.scheme_model.specs.Declarations.{is_library}
@@ -14,7 +14,7 @@ use Rattle.document_units.specs.Listing.{IsOneOf, Begins}
 use Rattle.document_units.specs.Readings.{Read, Reads, Stops, IsReadAs, AreReadAs, data_in, documents_from, documents_in, spans_in, span_seen}
 use Rattle.document_store.specs.Texts.{Document}
 use Rattle.document_units.specs.Places.{spans_of}
-use Rattle.document_units.proofs.TokenPlaces.{IsAtToken, AreAtTokens, data_at_tokens}
+use Rattle.document_units.proofs.TokenPlaces.{AreAtTokens, data_at_tokens}
 use Rattle.ls_base.specs.declared.places.Span as code_span
 
 -- ---- one of some data

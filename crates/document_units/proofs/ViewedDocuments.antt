@@ -3,11 +3,9 @@ use Rattle.std.proofs.Common.{◌≡◌, ℕ, zero, suc, ◌+◌, ◌<◌, ◌�
 use Rattle.std.specs.Prelude.{not}
 use Rattle.std.specs.Option.{is_some}
 use Rattle.std.proofs.lemmas.List.{length-map}
-use Rattle.std.proofs.lemmas.Option.{slice_get_within}
 use Rattle.scheme_model.specs.Data.{Datum}
 use Rattle.scheme_model.specs.Includes as model
 use Rattle.scheme_model.specs.Includes.{document_at, no_document, or_none}
-use Rattle.datum_reader.specs.declared.datum.Datum as code_datum
 use Rattle.datum_reader.specs.Views.{data_of}
 use Rattle.included_documents.specs.Meant.{meant}
 use Rattle.text_parts.specs.Documents.{document_of, documents_from, documents_in}

@@ -1,5 +1,5 @@
 -- The units of the documents as they are listed (R7RS 5.1, 5.6): what each is by what was read, before it is known of the others.
-use Rattle.std.specs.Prelude.{◌≡◌, ℕ, suc, List, [], ◌∷◌, ◌++◌, map, take, length, slice_get, Option, Some, None, if◌then◌else◌}
+use Rattle.std.specs.Prelude.{◌≡◌, ℕ, List, [], ◌++◌, map, take, length, slice_get, Option, Some, None, if◌then◌else◌}
 use Rattle.std.specs.Option.{option_map}
 use Rattle.scheme_model.specs.Data.{Datum, place_of}
 use Rattle.scheme_model.specs.Requirements.{LibraryName}

@@ -14,8 +14,8 @@ ghost use Rattle.document_units.specs.KnownNames.{name_in, listed_texts};
 
 use crate::documents::Document;
 use base_library::standard;
-use datum_reader::heads::is_headed;
 use datum_reader::Datum;
+use datum_reader::heads::is_headed;
 use ls_base::{Items, Mem, Text};
 use std::alloc::Global;
 

@@ -1,8 +1,6 @@
 -- The reader has what it is made of.
-use Rattle.std.proofs.Common.{◌≡◌, List, map, sym, ap, ◌∙◌}
-use Rattle.std.specs.Prelude.{Bool}
+use Rattle.std.proofs.Common.{map, sym, ap, ◌∙◌}
 use Rattle.text_parts.specs.declared.parts.TextPart.{TextPart}
-use Rattle.scheme_model.specs.Included.{Sources}
 use Rattle.included_forms.specs.Built.{AreDocuments}
 use Rattle.document_units.proofs.ReaderLaws.{usable_by}
 use Rattle.document_units.proofs.included.reader_of.Goals as goal

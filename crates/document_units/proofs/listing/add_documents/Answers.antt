@@ -1,5 +1,5 @@
 -- The units of one document more are sound in one more, and are listed behind those of the documents before.
-use Rattle.std.proofs.Common.{◌≡◌, ◌<◌, ◌+◌, ℕ, List, map, Some, refl, sym, ap, ◌∙◌, subst, length, slice_get, get_or, take, arith}
+use Rattle.std.proofs.Common.{◌≡◌, ◌<◌, ◌+◌, ℕ, List, map, Some, refl, sym, subst, length, slice_get, get_or, take, arith}
 use Rattle.std.proofs.lemmas.List.{take_all}
 use Rattle.std.proofs.lemmas.Option.{slice_get_read, slice_get-get_or, slice_get_within}
 use Rattle.scheme_model.specs.Included.{all_texts}

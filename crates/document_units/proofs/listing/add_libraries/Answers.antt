@@ -38,7 +38,7 @@ loop-datum-preserved c =
       added = λ o reader at.
           let t = all_texts o in
           let there = subst (λ (ds : List model.Datum). IsOneOf ds (datum_of c.datum-item.result)) (sym at.here)
-              (one_at c.args.items.now l.datum-index c.datum-item.result (slice_get_read c.args.items.now (length c.args.items.now) l.datum-index c.datum-item.result refl c.loop-datum-test.true c.datum-item.is)) in
+          (one_at c.args.items.now l.datum-index c.datum-item.result (slice_get_read c.args.items.now (length c.args.items.now) l.datum-index c.datum-item.result refl c.loop-datum-test.true c.datum-item.is)) in
           subst (λ (us : List UnitSource). AddsRead o.documents n us c.args.units.now c.add_library.new.units) (libraries_more t o.known n b c.args.items.now l.datum-index c.datum-item.result c.loop-datum-test.true c.datum-item.is)
           (added_more o.documents n (map (unless_circular b) (libraries_in t o.known n (data_of (take l.datum-index c.args.items.now)))) (map (unless_circular b) (libraries_in t o.known n (datum_of c.datum-item.result ∷ [])))
           c.args.units.now l.units c.add_library.new.units (l.invariant.added o reader at) (c.in_ok-add_library.ensures.added o reader there));

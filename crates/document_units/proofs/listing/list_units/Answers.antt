@@ -1,5 +1,5 @@
 -- The documents are read by what they are to one another.
-use Rattle.std.proofs.Common.{◌≡◌, ℕ, List, map, length, Result, Ok, Err, refl, sym, ap, ◌∙◌, subst, arith}
+use Rattle.std.proofs.Common.{map, length, Result, Ok, Err, sym, ap, ◌∙◌, subst}
 use Rattle.std.specs.Prelude.{IfOk, not}
 use Rattle.std.specs.Option.{is_some}
 use Rattle.std.proofs.lemmas.List.{length-map}

@@ -1,6 +1,5 @@
 -- The tokens of one form more.
-use Rattle.std.proofs.Common.{◌∙◌, List, ap, arith}
-use Rattle.core_tree.specs.declared.units.TokenRange.{TokenRange}
+use Rattle.std.proofs.Common.{arith}
 use Rattle.document_units.proofs.RangeLaws.{range_added}
 use Rattle.document_units.proofs.listing.ranges_of.Goals as goal
 
