@@ -33,7 +33,7 @@ abbrev pub ArePartsOf : Texts → List Bool → Type 0
 ArePartsOf texts parts = (rs : List Read) → AreReadAs (entries texts) rs → parts ≡ parts_in (documents_in rs)
 
 -- the program, the lists and the parts are those of the texts
-pub record BelongTo (encoding : Encoding) (texts : Texts) (expansion : Seen) (shown : List (List ℕ × List told.Diagnostic)) (parts : List Bool) : Type 0 where
+pub record BelongTo (encoding : Encoding) (texts : Texts) (expansion : Seen) (shown : List (List ℕ × List told.Diagnostic)) (marks : List Bool) : Type 0 where
   pub program : IsProgramOfTexts texts expansion.work expansion.program
   pub lists : AreListsFor encoding texts shown
-  pub parts : ArePartsOf texts parts
+  pub parts : ArePartsOf texts marks
