@@ -1,6 +1,7 @@
 //! Which open documents are parts of others, and which of them a string means (R7RS 4.1.7, 5.6.1).
 ghost use Rattle.std.specs.Prelude.{◌≡◌, ◌<◌, List, length, map, IfOk, IfSome};
 ghost use Rattle.scheme_model.specs.Includes.{Document as ModelDocument};
+ghost use Rattle.included_documents.specs.Meant.{uri_at};
 ghost use Rattle.document_units.specs.DataRead.{AreOpened};
 ghost use Rattle.workspace_state.specs.Parts.{mark_at, meant_by, parts_in};
 
@@ -44,6 +45,14 @@ pub fn is_marked(marks: &[bool], place: Option<usize>) -> bool
     }
 }
 
+/// The uri of the document at a place.
+fn uri_of(documents: &[Document], place: usize) -> &Text
+    requires { place < length documents.now }
+    ensures { result.now ≡ uri_at (map (λ c. c.uri) documents.now) place }
+{
+    &documents[place].uri
+}
+
 /// The uri of the document that a string means in the document at a place. `None` exactly where it means none.
 pub fn meant_uri(
     alloc: Global,
@@ -59,7 +68,7 @@ pub fn meant_uri(
     };
     let uris = uris_of(alloc, documents)?;
     match uris.meant(alloc, place, string)? {
-        Some(meant) => Ok(Some(documents[meant].uri.clone()?)),
+        Some(meant) => Ok(Some(uri_of(documents, meant).clone()?)),
         None => Ok(None),
     }
 }
