@@ -149,7 +149,9 @@ impl Workspace {
         let now = lists(alloc, &texts, told.findings.as_slice(), encoding)?;
         let lists = published(alloc, event.uri(), texts.documents(), &self.lists, &now)?;
         let Told {
-            expansion, parts, ..
+            expansion,
+            parts,
+            ..
         } = told;
         self.texts = texts;
         self.expansion = expansion;
