@@ -1,0 +1,201 @@
+-- Whatever a form has defined by a moment was a definition that stood, among its questions.
+use Rattle.std.proofs.Common.{◌≡◌, ◌⊎◌, inl, inr, ℕ, List, [], ◌∷◌, ◌++◌, Option, Some, None, Ok, refl, ap}
+use Rattle.scheme_model.specs.Identifiers.{Number}
+use Rattle.scheme_model.specs.Ident.{Ident}
+use Rattle.scheme_model.specs.Trees.{Tree}
+use Rattle.scheme_model.specs.ExpansionFaults.{Named}
+use Rattle.scheme_model.specs.Meaning.{Meaning, Local, Global, Standard, Free}
+use Rattle.scheme_model.specs.RulesShape.{Rules}
+use Rattle.scheme_model.specs.Order.{Note, Left, Pending, Asked}
+use Rattle.scheme_model.specs.Expression.{expand, meaning_of}
+use Rattle.scheme_model.specs.UnitExpansion.{max_depth, one_form}
+use Rattle.scheme_model.specs.Substitution.{Defined}
+use Rattle.scheme_model.specs.ScopedExpansion.{Frames, FramedIdent, ScopedMacro, body_around}
+use Rattle.scheme_model.specs.Questions.{Moment, Around, Outcome, Stands, Redefines, StoodBefore, unit_outcome, outcome, Question, LooksUp, UsesRules, Compares, IsAssigned, Requires, Defines, left_to_ask, dated, all_left, in_unit, Asking, ended, asking}
+use Rattle.scheme_model.specs.FormsAlike.{start, no_questions, set_aside_asking, finish_asking}
+use Rattle.form_laws.specs.Begins.{Each}
+use Rattle.form_laws.proofs.Sides.{ItemLike, Sides}
+use Rattle.form_laws.proofs.SideRuns.{both_itself, item_itself, run_runs}
+use Rattle.form_laws.proofs.SideExpressions.{expand_goes, left_parts}
+use Rattle.form_laws.proofs.Answering.{answering}
+use Rattle.form_laws.proofs.AskingSides.{NoLocals, fits, sides}
+
+module _ (w : Around) where
+  -- a question by which the form defines it
+  abbrev pub Makes : ℕ → Ident → Moment × Question → Type 0
+  Makes u i (n, LooksUp j) = ⊥
+  Makes u i (n, UsesRules m) = ⊥
+  Makes u i (n, Compares l j) = ⊥
+  Makes u i (n, IsAssigned j) = ⊥
+  Makes u i (n, Requires l) = ⊥
+  Makes u i (n, Defines fs x r ns) = (w.state.unit ≡ u) × (x.name ≡ i) × (unit_outcome w n fs x r ns ≡ Stands)
+
+  abbrev pub Made : List (Moment × Question) → ℕ → Ident → Type 0
+  Made [] u i = ⊥
+  Made (q ∷ qs) u i = Makes u i q ⊎ Made qs u i
+
+  abbrev pub MacroMade : List (Moment × Question) → Meaning → Type 0
+  MacroMade qs (Local v) = Unit {0}
+  MacroMade qs (Global u i) = Made qs u i
+  MacroMade qs (Standard x) = ⊥
+  MacroMade qs (Free x) = ⊥
+
+  -- all that a moment has defined
+  abbrev pub AllMade : List (Moment × Question) → Moment → Type 0
+  AllMade qs n = Each (λ (d : Defined). Made qs d.unit d.ident) n.table × Each (λ (k : ScopedMacro). MacroMade qs k.meaning) n.macros
+
+  abbrev pub Known : Asking → Type 0
+  Known s = AllMade s.asked s.moment × Each (λ (q : Moment × Question). AllMade s.asked q.0) s.asked
+
+  -- ---- more questions
+
+  made_more : (ps qs : List (Moment × Question)) (u : ℕ) (i : Ident) → Made qs u i → Made (ps ++ qs) u i
+  made_more [] qs u i h = h
+  made_more (p ∷ ps) qs u i h = inr (made_more ps qs u i h)
+
+  each_more : {X : Type 0} (P Q : X → Type 0) → ((x : X) → P x → Q x) → (xs : List X) → Each P xs → Each Q xs
+  each_more P Q f [] h = tt
+  each_more P Q f (x ∷ xs) h = (f x h.0, each_more P Q f xs h.1)
+
+  pub each_append : {X : Type 0} (P : X → Type 0) (xs ys : List X) → Each P xs → Each P ys → Each P (xs ++ ys)
+  each_append P [] ys h k = k
+  each_append P (x ∷ xs) ys h k = (h.0, each_append P xs ys h.1 k)
+
+  macro_more : (ps qs : List (Moment × Question)) (m : Meaning) → MacroMade qs m → MacroMade (ps ++ qs) m
+  macro_more ps qs (Local v) h = tt
+  macro_more ps qs (Global u i) h = made_more ps qs u i h
+  macro_more ps qs (Standard x) h = absurd h
+  macro_more ps qs (Free x) h = absurd h
+
+  all_more : (ps qs : List (Moment × Question)) (n : Moment) → AllMade qs n → AllMade (ps ++ qs) n
+  all_more ps qs n h = (
+    each_more (λ (d : Defined). Made qs d.unit d.ident) (λ (d : Defined). Made (ps ++ qs) d.unit d.ident) (λ d a. made_more ps qs d.unit d.ident a) n.table h.0,
+    each_more (λ (k : ScopedMacro). MacroMade qs k.meaning) (λ (k : ScopedMacro). MacroMade (ps ++ qs) k.meaning) (λ k a. macro_more ps qs k.meaning a) n.macros h.1,
+  )
+
+  each_dated : (qs : List (Moment × Question)) (n : Moment) → AllMade qs n → (xs : List Question) → Each (λ (q : Moment × Question). AllMade qs q.0) (dated n xs)
+  each_dated qs n h [] = tt
+  each_dated qs n h (x ∷ xs) = (h, each_dated qs n h xs)
+
+  each_left : (qs : List (Moment × Question)) (n : Moment) → AllMade qs n → (xs : List (Asked Frames Ident)) → Each (λ (q : Moment × Question). AllMade qs q.0) (all_left n xs)
+  each_left qs n h [] = tt
+  each_left qs n h (a ∷ xs) = each_append (λ (q : Moment × Question). AllMade qs q.0) (dated n (left_to_ask n a)) (all_left n xs) (each_dated qs n h (left_to_ask n a)) (each_left qs n h xs)
+
+  -- asked at this moment
+  asked_more : (s : Asking) (ps : List (Moment × Question)) → ((qs : List (Moment × Question)) → AllMade qs s.moment → Each (λ (q : Moment × Question). AllMade qs q.0) ps) → Known s → Known (record { moment = s.moment; asked = ps ++ s.asked })
+  asked_more s ps now h =
+      let a = all_more ps s.asked s.moment h.0 in (
+        a,
+        each_append (λ (q : Moment × Question). AllMade (ps ++ s.asked) q.0) ps s.asked (now (ps ++ s.asked) a)
+        (each_more (λ (q : Moment × Question). AllMade s.asked q.0) (λ (q : Moment × Question). AllMade (ps ++ s.asked) q.0) (λ q b. all_more ps s.asked q.0 b) s.asked h.1),
+      )
+
+  -- ---- a definition
+
+  module _ (fs : Frames) (x : Named Ident) (r : Option (Rules Ident)) (p : Pending Ident FramedIdent) (n : Moment) where
+    in_unit_known : (qs : List (Moment × Question)) (o : Outcome) → unit_outcome w n fs x r p.notes ≡ o → Known (record { moment = n; asked = qs })
+        → Known (record { moment = (ended o w None x r fs p n).1; asked = (n, Defines fs x r p.notes) ∷ qs })
+    in_unit_known qs o e h = go o e r refl
+      where
+        ps : List (Moment × Question)
+        ps = (n, Defines fs x r p.notes) ∷ []
+
+        before : Known (record { moment = n; asked = ps ++ qs })
+        before = asked_more (record { moment = n; asked = qs }) ps (λ zs a. (a, tt)) h
+
+        go : (o : Outcome) → unit_outcome w n fs x r p.notes ≡ o → (z : Option (Rules Ident)) → r ≡ z → Known (record { moment = (ended o w None x z fs p n).1; asked = ps ++ qs })
+        go Redefines e z f = before
+        go StoodBefore e z f = before
+        go Stands e None f = (((inl (refl, refl, e), before.0.0), before.0.1), before.1)
+        go Stands e (Some rules) f = (((inl (refl, refl, e), before.0.0), (inl (refl, refl, e), before.0.1)), before.1)
+
+    in_body_known : (qs : List (Moment × Question)) (b : Number) (o : Outcome) → Known (record { moment = n; asked = qs }) → Known (record { moment = (ended o w (Some b) x r fs p n).1; asked = qs })
+    in_body_known qs b o h = go o r
+      where
+        go : (o : Outcome) (z : Option (Rules Ident)) → Known (record { moment = (ended o w (Some b) x z fs p n).1; asked = qs })
+        go Redefines z = h
+        go StoodBefore z = h
+        go Stands None = h
+        go Stands (Some rules) = ((h.0.0, (tt, h.0.1)), h.1)
+
+    defined_known : (qs : List (Moment × Question)) (b : Option Number) → Known (record { moment = n; asked = qs })
+        → Known (record { moment = (ended (outcome w n b fs x r p.notes) w b x r fs p n).1; asked = dated n (in_unit b (Defines fs x r p.notes)) ++ qs })
+    defined_known qs None h = in_unit_known qs (unit_outcome w n fs x r p.notes) refl h
+    defined_known qs (Some b) h = in_body_known qs b (outcome w n (Some b) fs x r p.notes) h
+
+  -- ---- the run
+
+  module _ (en : NoLocals w) where
+    abbrev known_sides : Sides (asking w) (answering w.state w.known) fits
+    known_sides = let x = sides w w refl refl en en in record {
+      same_so_far = x.same_so_far;
+      later = λ s u. Known s → Known u;
+      near = x.near;
+      defines = x.defines;
+      like = x.like;
+      bounds = x.bounds;
+      notes = x.notes;
+      itself = λ s h. h;
+      then_ = λ s t u a b h. b (a h);
+      fits_later = λ s t a e f h. h;
+      notes_later = λ s t a e ns ms d. d;
+      more_notes = x.more_notes;
+      placed = x.placed;
+      answered = x.answered;
+      ask_back = x.ask_back;
+      ask_later = λ s qs h. asked_more s (all_left s.moment qs) (λ zs a. each_left zs s.moment a qs) h;
+      ask_near = x.ask_near;
+      ask_means = x.ask_means;
+      counts = x.counts;
+      spend_back = x.spend_back;
+      spend_later = λ s n h. h;
+      spend_near = x.spend_near;
+      spend_means = x.spend_means;
+      spend_meant = x.spend_meant;
+      meet_back = x.meet_back;
+      meet_later = λ s t h. h;
+      meet_near = x.meet_near;
+      meet_use_back = x.meet_use_back;
+      meet_use_later = λ s u h. h;
+      meet_use_near = x.meet_use_near;
+      next_use = x.next_use;
+      begin_back = x.begin_back;
+      begin_later = λ s e f a h. h;
+      begin_near = x.begin_near;
+      next_local = x.next_local;
+      take_back = x.take_back;
+      take_later = λ s h. h;
+      take_near = x.take_near;
+      some_bound = x.some_bound;
+      next_bound = x.next_bound;
+      same_meant = x.same_meant;
+      bind_back = x.bind_back;
+      bind_later = λ s i e f a ts h. h;
+      bind_some = x.bind_some;
+      bind_near = x.bind_near;
+      macro = x.macro;
+      keep_back = x.keep_back;
+      keep_later = λ s v r e f a h. ((h.0.0, (tt, h.0.1)), h.1);
+      keep_near = x.keep_near;
+      enter_back = x.enter_back;
+      enter_later = λ s e f a ts h. h;
+      enter_some = x.enter_some;
+      enter_near = x.enter_near;
+      entered = x.entered;
+      inside = x.inside;
+      inside_bounds = x.inside_bounds;
+      define_back = x.define_back;
+      define_later = λ s e f d a i r p q l h. defined_known e i r p s.moment s.asked (body_around e) h;
+      define_some = x.define_some;
+      define_near = x.define_near;
+    }
+
+    pub pass_known : (turns : ℕ) (t : Tree Ident) → Known (set_aside_asking w turns t).1
+    pass_known turns t =
+        (run_runs (asking w) (answering w.state w.known) fits known_sides [] [] tt turns (one_form t []) (one_form t w.notes) (no_questions w) refl (record { todo = refl; aside = tt; uses = refl; notes = refl })).after ((tt, tt), tt)
+
+    pub left_known : (turns : ℕ) (l : Left Ident) → Known (finish_asking w turns (Ok l)).1
+    left_known turns l =
+        let k = known_sides in
+        (left_parts (asking w) (answering w.state w.known) fits k (expand (asking w) turns) (expand (answering w.state w.known) turns) (expand_goes (asking w) (answering w.state w.known) fits k turns) (λ x y. y ≡ x) (λ x y e i. ap (λ z. meaning_of z i) e) max_depth [] [] l l
+        (refl, both_itself (ItemLike (λ x y. y ≡ x)) (item_itself (λ x y. y ≡ x) (λ x. refl)) l.items) (no_questions w) refl).after ((tt, tt), tt)

@@ -1,0 +1,1 @@
+pub mod Noted  -- Which questions are noted for a form

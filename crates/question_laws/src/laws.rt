@@ -1,0 +1,27 @@
+//! Laws of the definitions. Each is the contract of a function that does nothing.
+ghost use Rattle.std.specs.Prelude.{◌≡◌, ℕ, true, false, ◌↔◌, Ok};
+ghost use Rattle.scheme_model.specs.Ident.{Ident as Identifier};
+ghost use Rattle.scheme_model.specs.Trees.{Tree};
+ghost use Rattle.scheme_model.specs.Order.{Left};
+ghost use Rattle.scheme_model.specs.OwnAnswers.{root_means};
+ghost use Rattle.scheme_model.specs.Questions.{Around, Moment, at_moment, SameAnswer};
+ghost use Rattle.scheme_model.specs.FormsAlike.{questions_of_pass, questions_of_left, set_aside, finish};
+ghost use Rattle.form_laws.specs.Begins.{Each, Begins, FormBegins, LeftBegins, SameForm};
+ghost use Rattle.question_laws.specs.Noted.{before_uses, defines_within, answers_alone, all_noted, IsClosed, SameUnit};
+
+/// What an identifier means at a moment of a form is told by what it meant when the form began (R7RS 4.3, 5.3): where the form's own
+/// definitions have neither it nor an identifier within it, it means what the identifier before the form's macro uses meant then; and where
+/// they have it, or what it was before a use of the form inserted it, it means that definition whatever is around the form.
+pub fn moments_are_told()
+    ensures outside { (w : Around) (n : Moment) (i : Identifier) → Begins w.state → defines_within n.table i ≡ false → root_means (at_moment w n) i ≡ root_means w.state (before_uses w.state i) }
+    ensures alone { (w v : Around) (n : Moment) (i : Identifier) → Begins w.state → Begins v.state → SameForm w v → answers_alone w.state n.table i ≡ true → root_means (at_moment v n) i ≡ root_means (at_moment w n) i }
+{}
+
+/// The noted questions are all that a form asks, and no more: two surroundings that give these the same answers give the same answers to
+/// all questions of the form, and the other way round. So most questions are asked when the form begins, before anything of it is expanded.
+pub fn noted_questions_suffice()
+    ensures pass { (w v : Around) (turns : ℕ) (t : Tree Identifier) → SameUnit w v → FormBegins w t → FormBegins v t → IsClosed w.state → IsClosed v.state →
+        Each (SameAnswer w v) (all_noted w (questions_of_pass w turns t)) ↔ Each (SameAnswer w v) (questions_of_pass w turns t) }
+    ensures left { (w v : Around) (turns : ℕ) (l : Left Identifier) → SameUnit w v → Begins w.state → Begins v.state → IsClosed w.state → IsClosed v.state →
+        Each (SameAnswer w v) (all_noted w (questions_of_left w turns (Ok l))) ↔ Each (SameAnswer w v) (questions_of_left w turns (Ok l)) }
+{}
