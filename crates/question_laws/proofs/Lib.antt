@@ -1,3 +1,4 @@
 pub mod Roots  -- What an identifier means at the root where the form's own definitions stand before those of its surroundings
 pub mod OwnRuns  -- Whatever a form has defined by a moment was a definition that stood, among its questions
 pub mod NotedAnswers  -- Each question has the same answer in two surroundings exactly where what is noted for it has
+pub mod Closed  -- What is imported, and what a macro is kept for, still stands where a form has gone to

@@ -19,7 +19,7 @@ use Rattle.form_laws.specs.Begins.{Each, Begins, SameForm}
 use Rattle.form_laws.proofs.AskingSides.{NoLocals, root_no}
 use Rattle.question_laws.specs.Noted.{is_to_come, before_uses, is_defined_in, defines_within, answers_alone, compares_alone, noted_as, noted, all_noted, IsClosed, SameUnit}
 use Rattle.question_laws.proofs.Roots.{or_neither, defined_front, defined_behind, macro_front, macro_behind, macro_either, outside_same, NotYet, to_come_itself, to_come_there, before_same, own_meaning, IsOwn, alone_own, alone_means, StandsThere, root_stands, same_one, own_apart, own_apart_too}
-use Rattle.question_laws.proofs.OwnRuns.{Made, MacroMade, AllMade, each_append}
+use Rattle.question_laws.proofs.OwnRuns.{Made, IsLocalOr, AllMade, each_append, macro_own}
 
 -- ---- what an answer says
 
@@ -103,32 +103,12 @@ module _ (w : Around) (qs : List (Moment × Question)) where
       go true f k e = made_as d.unit u d.ident i f h.0
       go false f k e = k e
 
-  macro_as : (m n : Meaning) → same_meaning m n ≡ true → MacroMade w qs m → MacroMade w qs n
-  macro_as (Local v) (Local z) e h = tt
-  macro_as (Local v) (Global u i) e h = let q : false ≡ true = e in absurd cc
-  macro_as (Local v) (Standard x) e h = let q : false ≡ true = e in absurd cc
-  macro_as (Local v) (Free x) e h = let q : false ≡ true = e in absurd cc
-  macro_as (Global u i) (Local z) e h = let q : false ≡ true = e in absurd cc
-  macro_as (Global u i) (Global v j) e h = made_as u v i j e h
-  macro_as (Global u i) (Standard x) e h = let q : false ≡ true = e in absurd cc
-  macro_as (Global u i) (Free x) e h = let q : false ≡ true = e in absurd cc
-  macro_as (Standard x) n e h = absurd h
-  macro_as (Free x) n e h = absurd h
-
-  macro_made : (ks : List ScopedMacro) → Each (λ (k : ScopedMacro). MacroMade w qs k.meaning) ks → (m : Meaning) → is_some (macro_at ks m) ≡ true → MacroMade w qs m
-  macro_made [] h m e = let q : false ≡ true = e in absurd cc
-  macro_made (k ∷ ks) h m e = go (same_meaning k.meaning m) refl (λ f. macro_made ks h.1 m f) e
-    where
-      go : (b : Bool) → same_meaning k.meaning m ≡ b → (is_some (macro_at ks m) ≡ true → MacroMade w qs m) → is_some (cond b (Some (record { env = k.frames; rules = k.rules })) (macro_at ks m)) ≡ true → MacroMade w qs m
-      go true f r e = macro_as k.meaning m f h.0
-      go false f r e = r e
-
   -- what stood before isn't among it
-  stands_not_made : (m : Meaning) → NoLocal m → StandsThere w.state.table m → MacroMade w qs m → ⊥
-  stands_not_made (Local v) a b h = absurd a
-  stands_not_made (Global u i) a b h = both_ways (is_defined_in w.state.table u i) (made_new w qs u i h) b
-  stands_not_made (Standard x) a b h = absurd h
-  stands_not_made (Free x) a b h = absurd h
+  stands_not_made : (own : Table) → Each (λ (d : Defined). Made w qs d.unit d.ident) own → (m : Meaning) → NoLocal m → StandsThere w.state.table m → IsLocalOr w own m → ⊥
+  stands_not_made own h (Local v) a b e = absurd a
+  stands_not_made own h (Global u i) a b e = both_ways (is_defined_in w.state.table u i) (made_new w qs u i (own_made own h u i e)) b
+  stands_not_made own h (Standard x) a b e = absurd e
+  stands_not_made own h (Free x) a b e = absurd e
 
 -- ---- one question
 
@@ -144,7 +124,7 @@ rules_as o = Expands (option_map bare_macro o)
 
 no_macro : (a : Around) → IsClosed a.state → (own : Table) → New own a.state.table → (m : Meaning) → IsOwn own m → is_some (macro_at a.state.macros m) ≡ false
 no_macro a closed own new (Local v) h = absurd h
-no_macro a closed own new (Global u i) h = false_from_ne_true (is_some (macro_at a.state.macros (Global u i))) (λ e. both_ways (is_defined_in a.state.table u i) (new u i h) (closed.macros u i e))
+no_macro a closed own new (Global u i) h = false_from_ne_true (is_some (macro_at a.state.macros (Global u i))) (λ e. both_ways (is_defined_in a.state.table u i) (new u i h) (closed.kept u i e))
 no_macro a closed own new (Standard x) h = absurd h
 no_macro a closed own new (Free x) h = absurd h
 
@@ -337,7 +317,7 @@ module _ (w v : Around) (same : SameUnit w v) (begins : Begins w.state) (there :
     outside_macro : NoLocals w → (n : Moment) → AllMade w qs n → (i : Ident) → is_some (macro_at n.macros (root_means w.state (before_uses w.state i))) ≡ false
     outside_macro en n h i =
         let j = before_uses w.state i in let m = root_means w.state j in
-        false_from_ne_true (is_some (macro_at n.macros m)) (λ e. stands_not_made w qs m (root_no w.state.table w.state.entry en j) (root_stands w.state closed j) (macro_made w qs n.macros h.1 m e))
+        false_from_ne_true (is_some (macro_at n.macros m)) (λ e. stands_not_made w qs n.table h.0 m (root_no w.state.table w.state.entry en j) (root_stands w.state closed j) (macro_own w n.table n.macros h.1 m e))
 
     all_back : NoLocals w → (xs : List (Moment × Question)) → Each (λ (q : Moment × Question). AllMade w qs q.0) xs → Same xs → Same (all_noted w xs)
     all_back en [] h a = tt

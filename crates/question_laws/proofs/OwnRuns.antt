@@ -1,24 +1,29 @@
 -- Whatever a form has defined by a moment was a definition that stood, among its questions.
-use Rattle.std.proofs.Common.{◌≡◌, ◌⊎◌, inl, inr, ℕ, List, [], ◌∷◌, ◌++◌, Option, Some, None, Ok, refl, ap}
+use Rattle.std.proofs.Common.{◌≡◌, ◌⊎◌, inl, inr, ℕ, List, [], ◌∷◌, ◌++◌, Bool, true, false, cond, eqb, Option, Some, None, Ok, refl, sym, ap, ◌∙◌, arith, eq-eqb}
+use Rattle.std.specs.Prelude.{◌&&◌}
+use Rattle.std.proofs.lemmas.Bool.{and_from}
 use Rattle.scheme_model.specs.Identifiers.{Number}
-use Rattle.scheme_model.specs.Ident.{Ident}
+use Rattle.scheme_model.specs.Ident.{Ident, same_ident}
 use Rattle.scheme_model.specs.Trees.{Tree}
 use Rattle.scheme_model.specs.ExpansionFaults.{Named}
-use Rattle.scheme_model.specs.Meaning.{Meaning, Local, Global, Standard, Free}
+use Rattle.scheme_model.specs.Meaning.{Meaning, Local, Global, Standard, Free, same_meaning}
 use Rattle.scheme_model.specs.RulesShape.{Rules}
-use Rattle.scheme_model.specs.Order.{Note, Left, Pending, Asked}
+use Rattle.scheme_model.specs.Order.{Note, Left, Pending, Asked, is_some}
 use Rattle.scheme_model.specs.Expression.{expand, meaning_of}
 use Rattle.scheme_model.specs.UnitExpansion.{max_depth, one_form}
-use Rattle.scheme_model.specs.Substitution.{Defined}
-use Rattle.scheme_model.specs.ScopedExpansion.{Frames, FramedIdent, ScopedMacro, body_around}
+use Rattle.scheme_model.specs.Substitution.{Table, Defined, defined_in}
+use Rattle.scheme_model.specs.ScopedExpansion.{Frames, FramedIdent, ScopedMacro, macro_at, body_around}
 use Rattle.scheme_model.specs.Questions.{Moment, Around, Outcome, Stands, Redefines, StoodBefore, unit_outcome, outcome, Question, LooksUp, UsesRules, Compares, IsAssigned, Requires, Defines, left_to_ask, dated, all_left, in_unit, Asking, ended, asking}
 use Rattle.scheme_model.specs.FormsAlike.{start, no_questions, set_aside_asking, finish_asking}
+use Rattle.scheme_model.proofs.IdentLaws.{ident_itself}
 use Rattle.form_laws.specs.Begins.{Each}
 use Rattle.form_laws.proofs.Sides.{ItemLike, Sides}
 use Rattle.form_laws.proofs.SideRuns.{both_itself, item_itself, run_runs}
 use Rattle.form_laws.proofs.SideExpressions.{expand_goes, left_parts}
 use Rattle.form_laws.proofs.Answering.{answering}
 use Rattle.form_laws.proofs.AskingSides.{NoLocals, fits, sides}
+use Rattle.question_laws.specs.Noted.{is_defined_in}
+use Rattle.question_laws.proofs.Roots.{same_one}
 
 module _ (w : Around) where
   -- a question by which the form defines it
@@ -34,15 +39,16 @@ module _ (w : Around) where
   Made [] u i = ⊥
   Made (q ∷ qs) u i = Makes u i q ⊎ Made qs u i
 
-  abbrev pub MacroMade : List (Moment × Question) → Meaning → Type 0
-  MacroMade qs (Local v) = Unit {0}
-  MacroMade qs (Global u i) = Made qs u i
-  MacroMade qs (Standard x) = ⊥
-  MacroMade qs (Free x) = ⊥
+  -- what it has a macro for is a local, or a definition of its own
+  abbrev pub IsLocalOr : Table → Meaning → Type 0
+  IsLocalOr own (Local v) = Unit {0}
+  IsLocalOr own (Global u i) = is_defined_in own u i ≡ true
+  IsLocalOr own (Standard x) = ⊥
+  IsLocalOr own (Free x) = ⊥
 
   -- all that a moment has defined
   abbrev pub AllMade : List (Moment × Question) → Moment → Type 0
-  AllMade qs n = Each (λ (d : Defined). Made qs d.unit d.ident) n.table × Each (λ (k : ScopedMacro). MacroMade qs k.meaning) n.macros
+  AllMade qs n = Each (λ (d : Defined). Made qs d.unit d.ident) n.table × Each (λ (k : ScopedMacro). IsLocalOr n.table k.meaning) n.macros
 
   abbrev pub Known : Asking → Type 0
   Known s = AllMade s.asked s.moment × Each (λ (q : Moment × Question). AllMade s.asked q.0) s.asked
@@ -61,16 +67,26 @@ module _ (w : Around) where
   each_append P [] ys h k = k
   each_append P (x ∷ xs) ys h k = (h.0, each_append P xs ys h.1 k)
 
-  macro_more : (ps qs : List (Moment × Question)) (m : Meaning) → MacroMade qs m → MacroMade (ps ++ qs) m
-  macro_more ps qs (Local v) h = tt
-  macro_more ps qs (Global u i) h = made_more ps qs u i h
-  macro_more ps qs (Standard x) h = absurd h
-  macro_more ps qs (Free x) h = absurd h
+  macro_more : (d : Defined) (own : Table) (m : Meaning) → IsLocalOr own m → IsLocalOr (d ∷ own) m
+  macro_more d own (Local v) h = tt
+  macro_more d own (Global u i) h = go (eqb d.unit u && same_ident d.ident i)
+    where
+      go : (b : Bool) → is_some (cond b (Some d) (defined_in own u i)) ≡ true
+      go true = refl
+      go false = h
+  macro_more d own (Standard x) h = absurd h
+  macro_more d own (Free x) h = absurd h
+
+  macros_more : (d : Defined) (own : Table) (ks : List ScopedMacro) → Each (λ (k : ScopedMacro). IsLocalOr own k.meaning) ks → Each (λ (k : ScopedMacro). IsLocalOr (d ∷ own) k.meaning) ks
+  macros_more d own ks h = each_more (λ (k : ScopedMacro). IsLocalOr own k.meaning) (λ (k : ScopedMacro). IsLocalOr (d ∷ own) k.meaning) (λ k a. macro_more d own k.meaning a) ks h
+
+  defined_first : (d : Defined) (own : Table) → is_defined_in (d ∷ own) d.unit d.ident ≡ true
+  defined_first d own = ap (λ b. is_some (cond b (Some d) (defined_in own d.unit d.ident))) (and_from (eqb d.unit d.unit) (same_ident d.ident d.ident) (eq-eqb d.unit d.unit refl) (ident_itself d.ident))
 
   all_more : (ps qs : List (Moment × Question)) (n : Moment) → AllMade qs n → AllMade (ps ++ qs) n
   all_more ps qs n h = (
     each_more (λ (d : Defined). Made qs d.unit d.ident) (λ (d : Defined). Made (ps ++ qs) d.unit d.ident) (λ d a. made_more ps qs d.unit d.ident a) n.table h.0,
-    each_more (λ (k : ScopedMacro). MacroMade qs k.meaning) (λ (k : ScopedMacro). MacroMade (ps ++ qs) k.meaning) (λ k a. macro_more ps qs k.meaning a) n.macros h.1,
+    h.1,
   )
 
   each_dated : (qs : List (Moment × Question)) (n : Moment) → AllMade qs n → (xs : List Question) → Each (λ (q : Moment × Question). AllMade qs q.0) (dated n xs)
@@ -90,6 +106,28 @@ module _ (w : Around) where
         (each_more (λ (q : Moment × Question). AllMade s.asked q.0) (λ (q : Moment × Question). AllMade (ps ++ s.asked) q.0) (λ q b. all_more ps s.asked q.0 b) s.asked h.1),
       )
 
+  -- ---- macros
+
+  macro_as : (own : Table) (m n : Meaning) → same_meaning m n ≡ true → IsLocalOr own m → IsLocalOr own n
+  macro_as own (Local v) (Local z) e h = tt
+  macro_as own (Local v) (Global u i) e h = let q : false ≡ true = e in absurd cc
+  macro_as own (Local v) (Standard x) e h = let q : false ≡ true = e in absurd cc
+  macro_as own (Local v) (Free x) e h = let q : false ≡ true = e in absurd cc
+  macro_as own (Global u i) (Local z) e h = let q : false ≡ true = e in absurd cc
+  macro_as own (Global u i) (Global v j) e h = let p = same_one u v i j e in let a = p.0 in let b = p.1 in (λ z. is_defined_in own (sym a z) (sym b z)) ∙ h
+  macro_as own (Global u i) (Standard x) e h = let q : false ≡ true = e in absurd cc
+  macro_as own (Global u i) (Free x) e h = let q : false ≡ true = e in absurd cc
+  macro_as own (Standard x) n e h = absurd h
+  macro_as own (Free x) n e h = absurd h
+
+  pub macro_own : (own : Table) (ks : List ScopedMacro) → Each (λ (k : ScopedMacro). IsLocalOr own k.meaning) ks → (m : Meaning) → is_some (macro_at ks m) ≡ true → IsLocalOr own m
+  macro_own own [] h m e = let q : false ≡ true = e in absurd cc
+  macro_own own (k ∷ ks) h m e = go (same_meaning k.meaning m) refl (λ f. macro_own own ks h.1 m f) e
+    where
+      go : (b : Bool) → same_meaning k.meaning m ≡ b → (is_some (macro_at ks m) ≡ true → IsLocalOr own m) → is_some (cond b (Some (record { env = k.frames; rules = k.rules })) (macro_at ks m)) ≡ true → IsLocalOr own m
+      go true f r e = macro_as own k.meaning m f h.0
+      go false f r e = r e
+
   -- ---- a definition
 
   module _ (fs : Frames) (x : Named Ident) (r : Option (Rules Ident)) (p : Pending Ident FramedIdent) (n : Moment) where
@@ -100,14 +138,17 @@ module _ (w : Around) where
         ps : List (Moment × Question)
         ps = (n, Defines fs x r p.notes) ∷ []
 
+        new : Bool → Defined
+        new keyword = record { unit = w.state.unit; form = w.state.form; ident = x.name; keyword = keyword; occ = x.occ }
+
         before : Known (record { moment = n; asked = ps ++ qs })
         before = asked_more (record { moment = n; asked = qs }) ps (λ zs a. (a, tt)) h
 
         go : (o : Outcome) → unit_outcome w n fs x r p.notes ≡ o → (z : Option (Rules Ident)) → r ≡ z → Known (record { moment = (ended o w None x z fs p n).1; asked = ps ++ qs })
         go Redefines e z f = before
         go StoodBefore e z f = before
-        go Stands e None f = (((inl (refl, refl, e), before.0.0), before.0.1), before.1)
-        go Stands e (Some rules) f = (((inl (refl, refl, e), before.0.0), (inl (refl, refl, e), before.0.1)), before.1)
+        go Stands e None f = (((inl (refl, refl, e), before.0.0), macros_more (new false) n.table n.macros before.0.1), before.1)
+        go Stands e (Some rules) f = (((inl (refl, refl, e), before.0.0), (defined_first (new true) n.table, macros_more (new true) n.table n.macros before.0.1)), before.1)
 
     in_body_known : (qs : List (Moment × Question)) (b : Number) (o : Outcome) → Known (record { moment = n; asked = qs }) → Known (record { moment = (ended o w (Some b) x r fs p n).1; asked = qs })
     in_body_known qs b o h = go o r

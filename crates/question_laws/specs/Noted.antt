@@ -5,8 +5,8 @@ use Rattle.scheme_model.specs.Identifiers.{Number}
 use Rattle.scheme_model.specs.Ident.{Ident, Written, Inserted}
 use Rattle.scheme_model.specs.Meaning.{Global}
 use Rattle.scheme_model.specs.Order.{is_some}
-use Rattle.scheme_model.specs.Substitution.{Table, defined_in}
-use Rattle.scheme_model.specs.ScopedExpansion.{ScopedState, macro_at}
+use Rattle.scheme_model.specs.Substitution.{Table, Entries, defined_in}
+use Rattle.scheme_model.specs.ScopedExpansion.{ScopedMacro, ScopedState, macro_at}
 use Rattle.scheme_model.specs.Questions.{Moment, Around, Question, LooksUp, UsesRules, Compares, IsAssigned, Requires, Defines}
 use Rattle.scheme_model.specs.FormsAlike.{start}
 use Rattle.form_laws.specs.Begins.{SameForm}
@@ -58,9 +58,12 @@ all_noted w (q ∷ qs) = noted w q ++ all_noted w qs
 -- ---- two surroundings
 
 -- a definition that is imported stands in its unit, and so does one that a macro is kept for
-pub record IsClosed (s : ScopedState) : Type 0 where
-  pub imports : (u : ℕ) (x : List ℕ) (v : ℕ) (i : Ident) → s.entry u x ≡ Some (Global v i) → is_defined_in s.table v i ≡ true
-  pub macros : (v : ℕ) (i : Ident) → is_some (macro_at s.macros (Global v i)) ≡ true → is_defined_in s.table v i ≡ true
+pub record AllStand (table : Table) (entry : Entries) (macros : List ScopedMacro) : Type 0 where
+  pub imports : (u : ℕ) (x : List ℕ) (v : ℕ) (i : Ident) → entry u x ≡ Some (Global v i) → is_defined_in table v i ≡ true
+  pub kept : (v : ℕ) (i : Ident) → is_some (macro_at macros (Global v i)) ≡ true → is_defined_in table v i ≡ true
+
+abbrev pub IsClosed : ScopedState → Type 0
+IsClosed s = AllStand s.table s.entry s.macros
 
 -- one unit at one form, a program in both or in neither
 pub record SameUnit (w v : Around) : Type 0 where

@@ -5,7 +5,7 @@ ghost use Rattle.scheme_model.specs.Trees.{Tree};
 ghost use Rattle.scheme_model.specs.Order.{Left};
 ghost use Rattle.scheme_model.specs.OwnAnswers.{root_means};
 ghost use Rattle.scheme_model.specs.Questions.{Around, Moment, at_moment, SameAnswer};
-ghost use Rattle.scheme_model.specs.FormsAlike.{questions_of_pass, questions_of_left, set_aside, finish};
+ghost use Rattle.scheme_model.specs.FormsAlike.{questions_of_pass, questions_of_left, set_aside, finish, set_aside_asking, again};
 ghost use Rattle.form_laws.specs.Begins.{Each, Begins, FormBegins, LeftBegins, SameForm};
 ghost use Rattle.question_laws.specs.Noted.{before_uses, defines_within, answers_alone, all_noted, IsClosed, SameUnit};
 
@@ -24,4 +24,12 @@ pub fn noted_questions_suffice()
         Each (SameAnswer w v) (all_noted w (questions_of_pass w turns t)) ↔ Each (SameAnswer w v) (questions_of_pass w turns t) }
     ensures left { (w v : Around) (turns : ℕ) (l : Left Identifier) → SameUnit w v → Begins w.state → Begins v.state → IsClosed w.state → IsClosed v.state →
         Each (SameAnswer w v) (all_noted w (questions_of_left w turns (Ok l))) ↔ Each (SameAnswer w v) (questions_of_left w turns (Ok l)) }
+{}
+
+/// Where each definition that is imported, or that a macro is kept for, stands in its unit when a form begins, so it does where the form has
+/// gone to: after its first part, after its second, and where what it has made and found elsewhere is put into other surroundings.
+pub fn what_stands_stays()
+    ensures pass { (w : Around) (turns : ℕ) (t : Tree Identifier) → FormBegins w t → IsClosed w.state → IsClosed (set_aside w turns t).1 }
+    ensures left { (w : Around) (turns : ℕ) (l : Left Identifier) → LeftBegins w l → IsClosed w.state → IsClosed (finish w turns (Ok l)).1 }
+    ensures put { (w v : Around) (turns : ℕ) (t : Tree Identifier) → Begins w.state → IsClosed v.state → IsClosed (again v (set_aside_asking w turns t).1.moment) }
 {}
