@@ -1,4 +1,4 @@
--- What is imported, and what a macro is kept for, still stands where a form has gone to.
+-- What is imported, and what a macro is kept for, still stands where what a form has made and found is put.
 use Rattle.std.proofs.Common.{◌≡◌, ◌⊎◌, inl, inr, ℕ, List, [], ◌∷◌, ◌++◌, map, Bool, true, false, cond, Option, Some, None, Ok, refl, sym, ap, ◌∙◌, subst}
 use Rattle.std.proofs.lemmas.Bool.{or_cases}
 use Rattle.scheme_model.specs.Ident.{Ident}
@@ -24,26 +24,6 @@ still_defined own ys u i e = go (is_defined_in own u i) refl
     go true f = ap is_some (defined_front own ys u i f) ∙ f
     go false f = ap is_some (defined_behind own ys u i f) ∙ e
 
--- ---- without times
-
-bare_found : (ks : List ScopedMacro) (m : Meaning) → is_some (macro_at (map bare_kept ks) m) ≡ is_some (macro_at ks m)
-bare_found [] m = refl
-bare_found (k ∷ ks) m = go (same_meaning k.meaning m) (bare_found ks m)
-  where
-    go : (b : Bool) → is_some (macro_at (map bare_kept ks) m) ≡ is_some (macro_at ks m)
-        → is_some (cond b (Some (record { env = (bare_kept k).frames; rules = k.rules })) (macro_at (map bare_kept ks) m)) ≡ is_some (cond b (Some (record { env = k.frames; rules = k.rules })) (macro_at ks m))
-    go true h = refl
-    go false h = h
-
-pub bare_closed : (s t : ScopedState) → bare_state s ≡ bare_state t → IsClosed t → IsClosed s
-bare_closed s t e h =
-    let table = ap (λ (z : ScopedState). z.table) e in let entry = ap (λ (z : ScopedState). z.entry) e in let macros = ap (λ (z : ScopedState). z.macros) e in
-    record {
-      imports = λ u x v i f. ap (λ ds. is_defined_in ds v i) table ∙ h.imports u x v i (sym (ap (λ (z : Entries). z u x) entry) ∙ f);
-      kept = λ v i f. ap (λ ds. is_defined_in ds v i) table
-          ∙ h.kept v i (sym (bare_found t.macros (Global v i)) ∙ (sym (ap (λ ks. is_some (macro_at ks (Global v i))) macros) ∙ (bare_found s.macros (Global v i) ∙ f)));
-    }
-
 -- ---- at a moment
 
 module _ (w v : Around) (closed : IsClosed v.state) (qs : List (Moment × Question)) (n : Moment) (made : AllMade w qs n) where
@@ -56,16 +36,3 @@ module _ (w v : Around) (closed : IsClosed v.state) (qs : List (Moment × Questi
 
   pub again_closed : IsClosed (again v n)
   again_closed = record { imports = λ u x z i e. still_defined n.table v.state.table z i (closed.imports u x z i e); kept = λ u i e. kept_still u i e }
-
-module _ (w : Around) (closed : IsClosed w.state) (turns : ℕ) where
-  pub pass_closed : (t : Tree Ident) → FormBegins w t → IsClosed (set_aside w turns t).1
-  pass_closed t h =
-      let en : NoLocals w = λ u x. entry_given (w.state.entry u x) (h.state.entries u x) in
-      let p = set_aside_asking w turns t in
-      bare_closed (set_aside w turns t).1 (again w p.1.moment) (set_itself w turns t h).state (again_closed w w closed p.1.asked p.1.moment (pass_known w en turns t).0)
-
-  pub left_closed : (l : Left Ident) → LeftBegins w l → IsClosed (finish w turns (Ok l)).1
-  left_closed l h =
-      let en : NoLocals w = λ u x. entry_given (w.state.entry u x) (h.state.entries u x) in
-      let p = finish_asking w turns (Ok l) in
-      bare_closed (finish w turns (Ok l)).1 (again w p.1.moment) (finish_itself w turns l h).state (again_closed w w closed p.1.asked p.1.moment (left_known w en turns l).0)

@@ -1,8 +1,12 @@
 //! Laws of the definitions. Each is the contract of a function that does nothing.
-ghost use Rattle.std.specs.Prelude.{◌≡◌, ℕ, true, false, ◌↔◌, Ok};
+ghost use Rattle.std.specs.Prelude.{◌≡◌, ℕ, true, false, ◌↔◌, List, Ok};
 ghost use Rattle.scheme_model.specs.Ident.{Ident as Identifier};
 ghost use Rattle.scheme_model.specs.Trees.{Tree};
 ghost use Rattle.scheme_model.specs.Order.{Left};
+ghost use Rattle.scheme_model.specs.Requirements.{Known};
+ghost use Rattle.scheme_model.specs.IncludedUnits.{Placed};
+ghost use Rattle.scheme_model.specs.Program.{Prepared};
+ghost use Rattle.scheme_model.specs.ScopedProgram.{scoped_work, scoped_before, scoped_start_after};
 ghost use Rattle.scheme_model.specs.OwnAnswers.{root_means};
 ghost use Rattle.scheme_model.specs.Questions.{Around, Moment, at_moment, SameAnswer};
 ghost use Rattle.scheme_model.specs.FormsAlike.{questions_of_pass, questions_of_left, set_aside, finish, set_aside_asking, again};
@@ -26,10 +30,12 @@ pub fn noted_questions_suffice()
         Each (SameAnswer w v) (all_noted w (questions_of_left w turns (Ok l))) ↔ Each (SameAnswer w v) (questions_of_left w turns (Ok l)) }
 {}
 
-/// Where each definition that is imported, or that a macro is kept for, stands in its unit when a form begins, so it does where the form has
-/// gone to: after its first part, after its second, and where what it has made and found elsewhere is put into other surroundings.
-pub fn what_stands_stays()
-    ensures pass { (w : Around) (turns : ℕ) (t : Tree Identifier) → FormBegins w t → IsClosed w.state → IsClosed (set_aside w turns t).1 }
-    ensures left { (w : Around) (turns : ℕ) (l : Left Identifier) → LeftBegins w l → IsClosed w.state → IsClosed (finish w turns (Ok l)).1 }
+/// Each definition that is imported, or that a macro is kept for, stands in its unit where a unit of a program begins (R7RS 5.2, 5.3), whatever
+/// unit it is and however many were worked on before it; and so it does behind each form: after its first part, after its second, and where what
+/// it has made and found elsewhere is put into other surroundings.
+pub fn imports_stand()
+    ensures units { (all : List Placed) (units : List Prepared) (known : Known) (n : ℕ) (p : Prepared) → IsClosed (scoped_start_after all p (scoped_work all units known n scoped_before)) }
+    ensures pass { (w : Around) (turns : ℕ) (t : Tree Identifier) → IsClosed w.state → IsClosed (set_aside w turns t).1 }
+    ensures left { (w : Around) (turns : ℕ) (l : Left Identifier) → IsClosed w.state → IsClosed (finish w turns (Ok l)).1 }
     ensures put { (w v : Around) (turns : ℕ) (t : Tree Identifier) → Begins w.state → IsClosed v.state → IsClosed (again v (set_aside_asking w turns t).1.moment) }
 {}
