@@ -1,5 +1,5 @@
 -- Whatever a form has defined by a moment was a definition that stood, among its questions.
-use Rattle.std.proofs.Common.{◌≡◌, ◌⊎◌, inl, inr, ℕ, List, [], ◌∷◌, ◌++◌, Bool, true, false, cond, eqb, Option, Some, None, Ok, refl, sym, ap, ◌∙◌, arith, eq-eqb}
+use Rattle.std.proofs.Common.{◌≡◌, ◌⊎◌, inl, inr, ℕ, List, [], ◌∷◌, ◌++◌, Bool, true, false, cond, eqb, Option, Some, None, Ok, refl, sym, ap, ◌∙◌, subst, arith, eq-eqb}
 use Rattle.std.specs.Prelude.{◌&&◌}
 use Rattle.std.proofs.lemmas.Bool.{and_from}
 use Rattle.scheme_model.specs.Identifiers.{Number}
@@ -9,21 +9,16 @@ use Rattle.scheme_model.specs.ExpansionFaults.{Named}
 use Rattle.scheme_model.specs.Meaning.{Meaning, Local, Global, Standard, Free, same_meaning}
 use Rattle.scheme_model.specs.RulesShape.{Rules}
 use Rattle.scheme_model.specs.Order.{Note, Left, Pending, Asked, is_some}
-use Rattle.scheme_model.specs.Expression.{expand, meaning_of}
-use Rattle.scheme_model.specs.UnitExpansion.{max_depth, one_form}
 use Rattle.scheme_model.specs.Substitution.{Table, Defined, defined_in}
 use Rattle.scheme_model.specs.ScopedExpansion.{Frames, FramedIdent, ScopedMacro, macro_at, body_around}
 use Rattle.scheme_model.specs.Questions.{Moment, Around, Outcome, Stands, Redefines, StoodBefore, unit_outcome, outcome, Question, LooksUp, UsesRules, Compares, IsAssigned, Requires, Defines, left_to_ask, dated, all_left, in_unit, Asking, ended, asking}
 use Rattle.scheme_model.specs.FormsAlike.{start, no_questions, set_aside_asking, finish_asking}
 use Rattle.scheme_model.proofs.IdentLaws.{ident_itself}
 use Rattle.form_laws.specs.Begins.{Each}
-use Rattle.form_laws.proofs.Sides.{ItemLike, Sides}
-use Rattle.form_laws.proofs.SideRuns.{both_itself, item_itself, run_runs}
-use Rattle.form_laws.proofs.SideExpressions.{expand_goes, left_parts}
-use Rattle.form_laws.proofs.Answering.{answering}
-use Rattle.form_laws.proofs.AskingSides.{NoLocals, fits, sides}
+use Rattle.form_laws.proofs.AskingSides.{NoLocals}
 use Rattle.question_laws.specs.Noted.{is_defined_in}
 use Rattle.question_laws.proofs.Roots.{same_one}
+use Rattle.question_laws.proofs.AskingRuns.{Invariant, pass_holds, left_holds}
 
 module _ (w : Around) where
   -- a question by which the form defines it
@@ -166,77 +161,30 @@ module _ (w : Around) where
 
   -- ---- the run
 
-  module _ (en : NoLocals w) where
-    abbrev known_sides : Sides (asking w) (answering w.state w.known) fits
-    known_sides = let x = sides w w refl refl en en in record {
-      same_so_far = x.same_so_far;
-      later = λ s u. Known s → Known u;
-      near = x.near;
-      defines = x.defines;
-      like = x.like;
-      bounds = x.bounds;
-      notes = x.notes;
-      itself = λ s h. h;
-      then_ = λ s t u a b h. b (a h);
-      fits_later = λ s t a e f h. h;
-      notes_later = λ s t a e ns ms d. d;
-      more_notes = x.more_notes;
-      placed = x.placed;
-      answered = x.answered;
-      ask_back = x.ask_back;
-      ask_later = λ s qs h. asked_more s (all_left s.moment qs) (λ zs a. each_left zs s.moment a qs) h;
-      ask_near = x.ask_near;
-      ask_means = x.ask_means;
-      counts = x.counts;
-      spend_back = x.spend_back;
-      spend_later = λ s n h. h;
-      spend_near = x.spend_near;
-      spend_means = x.spend_means;
-      spend_meant = x.spend_meant;
-      meet_back = x.meet_back;
-      meet_later = λ s t h. h;
-      meet_near = x.meet_near;
-      meet_use_back = x.meet_use_back;
-      meet_use_later = λ s u h. h;
-      meet_use_near = x.meet_use_near;
-      next_use = x.next_use;
-      begin_back = x.begin_back;
-      begin_later = λ s e f a h. h;
-      begin_near = x.begin_near;
-      next_local = x.next_local;
-      take_back = x.take_back;
-      take_later = λ s h. h;
-      take_near = x.take_near;
-      some_bound = x.some_bound;
-      next_bound = x.next_bound;
-      same_meant = x.same_meant;
-      bind_back = x.bind_back;
-      bind_later = λ s i e f a ts h. h;
-      bind_some = x.bind_some;
-      bind_near = x.bind_near;
-      macro = x.macro;
-      keep_back = x.keep_back;
-      keep_later = λ s v r e f a h. ((h.0.0, (tt, h.0.1)), h.1);
-      keep_near = x.keep_near;
-      enter_back = x.enter_back;
-      enter_later = λ s e f a ts h. h;
-      enter_some = x.enter_some;
-      enter_near = x.enter_near;
-      entered = x.entered;
-      inside = x.inside;
-      inside_bounds = x.inside_bounds;
-      define_back = x.define_back;
-      define_later = λ s e f d a i r p q l h. defined_known e i r p s.moment s.asked (body_around e) h;
-      define_some = x.define_some;
-      define_near = x.define_near;
-    }
+  known_still : (s u : Asking) → u.moment.table ≡ s.moment.table → u.moment.macros ≡ s.moment.macros → u.asked ≡ s.asked → Known s → Known u
+  known_still s u a b c h = (
+    (
+      subst (λ (qs : List (Moment × Question)). Each (λ (d : Defined). Made qs d.unit d.ident) u.moment.table) (sym c) (subst (λ (ds : Table). Each (λ (d : Defined). Made s.asked d.unit d.ident) ds) (sym a) h.0.0),
+      subst (λ (ds : Table). Each (λ (k : ScopedMacro). IsLocalOr ds k.meaning) u.moment.macros) (sym a) (subst (λ (ks : List ScopedMacro). Each (λ (k : ScopedMacro). IsLocalOr s.moment.table k.meaning) ks) (sym b) h.0.1),
+    ),
+    subst (λ (qs : List (Moment × Question)). Each (λ (q : Moment × Question). AllMade qs q.0) qs) (sym c) h.1,
+  )
 
-    pub pass_known : (turns : ℕ) (t : Tree Ident) → Known (set_aside_asking w turns t).1
-    pass_known turns t =
-        (run_runs (asking w) (answering w.state w.known) fits known_sides [] [] tt turns (one_form t []) (one_form t w.notes) (no_questions w) refl (record { todo = refl; aside = tt; uses = refl; notes = refl })).after ((tt, tt), tt)
+  known : Invariant w
+  known = record {
+    holds = Known;
+    defines = λ fs. Unit {0};
+    still = λ s u a b c h. known_still s u a b c h;
+    asks = λ s qs h. asked_more s (all_left s.moment qs) (λ zs a. each_left zs s.moment a qs) h;
+    keeps = λ s v r fs h. ((h.0.0, (tt, h.0.1)), h.1);
+    makes = λ s fs d x r p h. defined_known fs x r p s.moment s.asked (body_around fs) h;
+    inside = λ s fs ts. tt;
+  }
 
-    pub left_known : (turns : ℕ) (l : Left Ident) → Known (finish_asking w turns (Ok l)).1
-    left_known turns l =
-        let k = known_sides in
-        (left_parts (asking w) (answering w.state w.known) fits k (expand (asking w) turns) (expand (answering w.state w.known) turns) (expand_goes (asking w) (answering w.state w.known) fits k turns) (λ x y. y ≡ x) (λ x y e i. ap (λ z. meaning_of z i) e) max_depth [] [] l l
-        (refl, both_itself (ItemLike (λ x y. y ≡ x)) (item_itself (λ x y. y ≡ x) (λ x. refl)) l.items) (no_questions w) refl).after ((tt, tt), tt)
+  pub pass_known : NoLocals w → (turns : ℕ) (t : Tree Ident) → Known (set_aside_asking w turns t).1
+  unfolding known
+  pass_known en turns t = pass_holds w en known tt turns t ((tt, tt), tt)
+
+  pub left_known : NoLocals w → (turns : ℕ) (l : Left Ident) → Known (finish_asking w turns (Ok l)).1
+  unfolding known
+  left_known en turns l = left_holds w en known turns l ((tt, tt), tt)

@@ -9,7 +9,7 @@ ghost use Rattle.scheme_model.specs.Program.{Prepared};
 ghost use Rattle.scheme_model.specs.ScopedProgram.{scoped_work, scoped_before, scoped_start_after};
 ghost use Rattle.scheme_model.specs.OwnAnswers.{root_means};
 ghost use Rattle.scheme_model.specs.Questions.{Around, Moment, at_moment, SameAnswer};
-ghost use Rattle.scheme_model.specs.FormsAlike.{questions_of_pass, questions_of_left, set_aside, finish, set_aside_asking, again};
+ghost use Rattle.scheme_model.specs.FormsAlike.{questions_of_pass, questions_of_left, set_aside, finish, set_aside_asking, start, again};
 ghost use Rattle.form_laws.specs.Begins.{Each, Begins, FormBegins, LeftBegins, SameForm};
 ghost use Rattle.question_laws.specs.Noted.{before_uses, defines_within, answers_alone, all_noted, IsClosed, SameUnit};
 
@@ -22,12 +22,14 @@ pub fn moments_are_told()
 {}
 
 /// The noted questions are all that a form asks, and no more: two surroundings that give these the same answers give the same answers to
-/// all questions of the form, and the other way round. So most questions are asked when the form begins, before anything of it is expanded.
+/// all questions of the form, and the other way round. The second part of a form defines nothing, so all that is noted for it is asked when it
+/// begins; of its first part, only what its own definitions have a part in is asked later.
 pub fn noted_questions_suffice()
     ensures pass { (w v : Around) (turns : ℕ) (t : Tree Identifier) → SameUnit w v → FormBegins w t → FormBegins v t → IsClosed w.state → IsClosed v.state →
         Each (SameAnswer w v) (all_noted w (questions_of_pass w turns t)) ↔ Each (SameAnswer w v) (questions_of_pass w turns t) }
     ensures left { (w v : Around) (turns : ℕ) (l : Left Identifier) → SameUnit w v → Begins w.state → Begins v.state → IsClosed w.state → IsClosed v.state →
         Each (SameAnswer w v) (all_noted w (questions_of_left w turns (Ok l))) ↔ Each (SameAnswer w v) (questions_of_left w turns (Ok l)) }
+    ensures left_first { (w : Around) (turns : ℕ) (l : Left Identifier) → Begins w.state → Each (λ q. q.0 ≡ start w.state) (all_noted w (questions_of_left w turns (Ok l))) }
 {}
 
 /// Each definition that is imported, or that a macro is kept for, stands in its unit where a unit of a program begins (R7RS 5.2, 5.3), whatever
