@@ -1,21 +1,16 @@
 -- What is imported, and what a macro is kept for, still stands where what a form has made and found is put.
-use Rattle.std.proofs.Common.{◌≡◌, ◌⊎◌, inl, inr, ℕ, List, [], ◌∷◌, ◌++◌, map, Bool, true, false, cond, Option, Some, None, Ok, refl, sym, ap, ◌∙◌, subst}
+use Rattle.std.proofs.Common.{◌≡◌, ◌⊎◌, inl, inr, ℕ, List, ◌++◌, Bool, true, false, refl, sym, ap, ◌∙◌}
 use Rattle.std.proofs.lemmas.Bool.{or_cases}
 use Rattle.scheme_model.specs.Ident.{Ident}
-use Rattle.scheme_model.specs.Trees.{Tree}
-use Rattle.scheme_model.specs.Meaning.{Meaning, Global, same_meaning}
-use Rattle.scheme_model.specs.Order.{Left, is_some}
-use Rattle.scheme_model.specs.Substitution.{Table, Entries, Defined, defined_in}
-use Rattle.scheme_model.specs.ScopedExpansion.{ScopedMacro, ScopedState, macro_at}
+use Rattle.scheme_model.specs.Meaning.{Global}
+use Rattle.scheme_model.specs.Order.{is_some}
+use Rattle.scheme_model.specs.Substitution.{Table}
+use Rattle.scheme_model.specs.ScopedExpansion.{macro_at}
 use Rattle.scheme_model.specs.Questions.{Moment, Question, Around}
-use Rattle.scheme_model.specs.FormsAlike.{again, bare_kept, bare_state, Leaves, set_aside, finish, set_aside_asking, finish_asking}
-use Rattle.form_laws.specs.Begins.{Each, FormBegins, LeftBegins}
-use Rattle.form_laws.proofs.AskingSides.{NoLocals}
-use Rattle.form_laws.proofs.OwnStates.{entry_given}
-use Rattle.form_laws.proofs.FormLaws.{set_itself, finish_itself}
-use Rattle.question_laws.specs.Noted.{is_defined_in, AllStand, IsClosed}
+use Rattle.scheme_model.specs.FormsAlike.{again}
+use Rattle.question_laws.specs.Noted.{is_defined_in, IsClosed}
 use Rattle.question_laws.proofs.Roots.{defined_front, defined_behind, macro_either}
-use Rattle.question_laws.proofs.OwnRuns.{AllMade, macro_own, pass_known, left_known}
+use Rattle.question_laws.proofs.OwnRuns.{AllMade, macro_own}
 
 pub still_defined : (own ys : Table) (u : ℕ) (i : Ident) → is_defined_in ys u i ≡ true → is_defined_in (own ++ ys) u i ≡ true
 still_defined own ys u i e = go (is_defined_in own u i) refl

@@ -1,31 +1,29 @@
 -- Each step of expansion leaves standing what is imported, and what a macro is kept for: only definitions change what stands, and they add to it.
-use Rattle.std.proofs.Common.{◌≡◌, ℕ, List, [], ◌∷◌, map, Bool, true, false, cond, eqb, Option, Some, None, Result, Ok, Err, refl, sym, ap, ◌∙◌, arith, eq-eqb}
+use Rattle.std.proofs.Common.{◌≡◌, ℕ, List, [], ◌∷◌, map, Bool, true, false, cond, eqb, Option, Some, None, Result, Ok, Err, refl, sym, ap, ◌∙◌, eq-eqb}
 use Rattle.std.specs.Prelude.{◌&&◌, nat_lt}
 use Rattle.std.proofs.lemmas.Bool.{and_from}
 use Rattle.scheme_model.specs.Identifiers.{Number}
 use Rattle.scheme_model.specs.Ident.{Ident, same_ident}
 use Rattle.scheme_model.specs.Trees.{Tree}
 use Rattle.scheme_model.specs.ExpansionFaults.{Named, Fault, KeywordRedefined, Duplicate}
-use Rattle.scheme_model.specs.Meaning.{Meaning, Local, Global, same_meaning}
+use Rattle.scheme_model.specs.Meaning.{Global, same_meaning}
 use Rattle.scheme_model.specs.Requirements.{Known}
 use Rattle.scheme_model.specs.RulesShape.{Rules}
-use Rattle.scheme_model.specs.Cores.{Bound, Parts, no_parts, part, Part}
-use Rattle.scheme_model.specs.Steps.{Broken, Step, ◌>>=◌, done}
-use Rattle.scheme_model.specs.Order.{Item, Note, Left, Pending, Pass, Renamed, Transformer, WaitingUse, Ops, is_some, meet_all, run}
+use Rattle.scheme_model.specs.Cores.{Bound, no_parts, part, Part}
+use Rattle.scheme_model.specs.Steps.{Broken, ◌>>=◌, done}
+use Rattle.scheme_model.specs.Order.{Item, Note, Left, Pending, Renamed, Transformer, Ops, is_some, meet_all, run}
 use Rattle.scheme_model.specs.Expression.{meaning_of, expand, item_part, parts}
-use Rattle.scheme_model.specs.UnitExpansion.{Formed, Work, ◌then◌, going, max_depth, max_total, nodes_in, unless_over, LeftOf, one_form, passes, with_part, before_parts, items_parts, form_parts, finished, unit}
+use Rattle.scheme_model.specs.UnitExpansion.{Work, ◌then◌, going, max_depth, max_total, nodes_in, unless_over, LeftOf, one_form, passes, with_part, before_parts, items_parts, form_parts, finished, unit}
 use Rattle.scheme_model.specs.Substitution.{Table, Defined, defined_in, any, unchanged}
-use Rattle.scheme_model.specs.ScopedExpansion.{Frames, FramedIdent, ScopedMacro, ScopedState, macro_at, body_around, definition_added, meaning_next, is_defined}
+use Rattle.scheme_model.specs.ScopedExpansion.{Frames, FramedIdent, ScopedState, macro_at, body_around, definition_added, meaning_next, is_defined}
 use Rattle.scheme_model.specs.CountedExpansion.{refused_here, counted}
-use Rattle.scheme_model.specs.Questions.{Around}
-use Rattle.scheme_model.specs.FormsAlike.{set_aside, finish}
 use Rattle.scheme_model.proofs.IdentLaws.{ident_itself}
 use Rattle.scheme_model.proofs.FrameHeads.{IfMacro}
-use Rattle.form_laws.proofs.Sides.{Both, Results, ItemLike, PendingLike, RenamedLike, LeftLike, Sides}
+use Rattle.form_laws.proofs.Sides.{Results, ItemLike, PendingLike, RenamedLike, Sides}
 use Rattle.form_laws.proofs.SideSteps.{meet_all_later}
 use Rattle.form_laws.proofs.SideRuns.{both_itself, item_itself, run_runs}
 use Rattle.form_laws.proofs.SideExpressions.{expand_goes, left_parts}
-use Rattle.question_laws.specs.Noted.{is_defined_in, AllStand, IsClosed}
+use Rattle.question_laws.specs.Noted.{is_defined_in, IsClosed}
 use Rattle.question_laws.proofs.Roots.{same_one}
 
 -- what stood stands, by the same imports

@@ -1,23 +1,21 @@
 -- Each question has the same answer in two surroundings exactly where what is noted for it has.
-use Rattle.std.proofs.Common.{◌≡◌, ◌⊎◌, inl, inr, ◌↔◌, ℕ, List, [], ◌∷◌, ◌++◌, Bool, true, false, cond, eqb, Option, Some, None, Ok, refl, sym, ap, ◌∙◌, subst}
+use Rattle.std.proofs.Common.{◌≡◌, ◌⊎◌, inl, inr, ◌↔◌, ℕ, List, [], ◌∷◌, ◌++◌, Bool, true, false, cond, eqb, Option, Some, None, refl, sym, ap, ◌∙◌, subst}
 use Rattle.std.specs.Prelude.{◌&&◌, ◌||◌, not}
 use Rattle.std.proofs.lemmas.Bool.{and_parts, not-true, both_ways, or_cases, false_from_ne_true}
-use Rattle.scheme_model.specs.Identifiers.{Number}
 use Rattle.scheme_model.specs.Ident.{Ident, same_ident}
-use Rattle.scheme_model.specs.Trees.{Tree}
 use Rattle.scheme_model.specs.ExpansionFaults.{Named}
 use Rattle.scheme_model.specs.Meaning.{Meaning, Local, Global, Standard, Free, same_meaning}
 use Rattle.scheme_model.specs.RulesShape.{Rules, option_map}
 use Rattle.scheme_model.specs.Order.{Note, Transformer, is_some}
 use Rattle.scheme_model.specs.Substitution.{Table, Defined, defined_in, is_variable, any}
-use Rattle.scheme_model.specs.ScopedExpansion.{Frames, FramedIdent, ScopedMacro, macro_at, is_defined, assigned}
+use Rattle.scheme_model.specs.ScopedExpansion.{Frames, FramedIdent, macro_at, is_defined}
 use Rattle.scheme_model.specs.OwnAnswers.{root_means, unit_refused}
 use Rattle.scheme_model.specs.Questions.{Moment, Around, at_moment, own_at, found, Outcome, Stands, Redefines, StoodBefore, outcome_by, unit_outcome, Question, LooksUp, UsesRules, Compares, IsAssigned, Requires, Defines, Answer, Means, Expands, Says, Ends, bare_macro, answer, SameAnswer}
 use Rattle.scheme_model.specs.FormsAlike.{start}
 use Rattle.scheme_model.proofs.EntryLaws.{NoLocal}
-use Rattle.form_laws.specs.Begins.{Each, Begins, SameForm}
+use Rattle.form_laws.specs.Begins.{Each, Begins}
 use Rattle.form_laws.proofs.AskingSides.{NoLocals, root_no}
-use Rattle.question_laws.specs.Noted.{is_to_come, before_uses, is_defined_in, defines_within, answers_alone, compares_alone, noted_as, noted, all_noted, IsClosed, SameUnit}
+use Rattle.question_laws.specs.Noted.{before_uses, is_defined_in, defines_within, answers_alone, compares_alone, noted_as, noted, all_noted, IsClosed, SameUnit}
 use Rattle.question_laws.proofs.Roots.{or_neither, defined_front, defined_behind, macro_front, macro_behind, macro_either, outside_same, NotYet, to_come_itself, to_come_there, before_same, own_meaning, IsOwn, alone_own, alone_means, StandsThere, root_stands, same_one, own_apart, own_apart_too}
 use Rattle.question_laws.proofs.OwnRuns.{Made, IsLocalOr, AllMade, each_append, macro_own}
 
@@ -262,7 +260,7 @@ module _ (w v : Around) (same : SameUnit w v) (begins : Begins w.state) (there :
         let p = ap meaning_in r in let q = ap truth_in r in
         let no_there = ap (λ m. is_some (macro_at n.macros m)) p ∙ none in
         let z = or_right (is_some (macro_at n.macros (there_means i))) (is_some (macro_at v.state.macros (there_means i))) no_there
-            ∙ (q ∙ sym (or_right (is_some (macro_at n.macros (here_means i))) (is_some (macro_at w.state.macros (here_means i))) none)) in
+        ∙ (q ∙ sym (or_right (is_some (macro_at n.macros (here_means i))) (is_some (macro_at w.state.macros (here_means i))) none)) in
         λ j. Means (p j) (z j)
 
     compare_first : (l i : Ident) → (defines_within n.table l || defines_within n.table i) ≡ false → SameAnswer w v (n, Compares l i) → SameAnswer w v (start w.state, Compares (before_uses w.state l) (before_uses w.state i))

@@ -1,5 +1,5 @@
 -- The second part of a form defines nothing, so all that is noted for it is asked when it begins.
-use Rattle.std.proofs.Common.{◌≡◌, ℕ, List, [], ◌∷◌, ◌++◌, Bool, true, false, cond, Option, Some, None, Result, Ok, refl, sym, ap, ◌∙◌, subst}
+use Rattle.std.proofs.Common.{◌≡◌, ℕ, List, [], ◌∷◌, ◌++◌, Bool, true, false, cond, Option, Some, None, Ok, refl, sym, ap, ◌∙◌, subst}
 use Rattle.std.specs.Prelude.{◌&&◌, ◌||◌, not}
 use Rattle.scheme_model.specs.Identifiers.{Number}
 use Rattle.scheme_model.specs.Ident.{Ident, Written, Inserted}
@@ -7,11 +7,10 @@ use Rattle.scheme_model.specs.ExpansionFaults.{Named}
 use Rattle.scheme_model.specs.Meaning.{Meaning, Local, Global, Standard, Free}
 use Rattle.scheme_model.specs.RulesShape.{Rules}
 use Rattle.scheme_model.specs.Order.{Left, Pending, Asked, Meant, Headed, RulesOf, Alike, Assigns, Library, is_some}
-use Rattle.scheme_model.specs.Substitution.{Table}
 use Rattle.scheme_model.specs.ScopedExpansion.{ScopedState, Frames, FramedIdent, macro_at, body_around}
 use Rattle.scheme_model.specs.OwnAnswers.{own_local}
-use Rattle.scheme_model.specs.Questions.{Moment, Around, own_at, Outcome, Stands, Redefines, StoodBefore, outcome, Question, LooksUp, UsesRules, Compares, IsAssigned, Requires, Defines, unless_own, unless_local, in_unit, left_to_ask, dated, all_left, Asking, number_in, ended}
-use Rattle.scheme_model.specs.FormsAlike.{start, no_questions, finish_asking}
+use Rattle.scheme_model.specs.Questions.{Moment, Around, own_at, Outcome, Stands, Redefines, StoodBefore, outcome, Question, LooksUp, UsesRules, Compares, IsAssigned, Defines, unless_own, unless_local, in_unit, left_to_ask, dated, all_left, Asking, number_in, ended}
+use Rattle.scheme_model.specs.FormsAlike.{start, finish_asking}
 use Rattle.form_laws.specs.Begins.{Each}
 use Rattle.form_laws.proofs.AskingSides.{NoLocals}
 use Rattle.question_laws.specs.Noted.{is_to_come, before_uses, is_defined_in, defines_within, answers_alone, compares_alone, noted_as, noted, all_noted}
@@ -124,6 +123,7 @@ module _ (w : Around) where
   noted_all : (qs : List (Moment × Question)) → Each First qs → Each IsFirst (all_noted w qs)
   noted_all [] h = tt
   noted_all (q ∷ qs) h = each_append w IsFirst (noted w q) (all_noted w qs) h.0 (noted_all qs h.1)
+
   pub left_noted_first : NoLocals w → (turns : ℕ) (l : Left Ident) → Each IsFirst (all_noted w (finish_asking w turns (Ok l)).1.asked)
   unfolding undefined
   left_noted_first en turns l = noted_all (finish_asking w turns (Ok l)).1.asked (left_holds w en undefined turns l (refl, tt)).1

@@ -1,12 +1,9 @@
 -- What is noted for small forms, computed: latest first, by the words of what is asked, each with the form's own definitions by then.
-use Rattle.std.proofs.Common.{◌≡◌, ℕ, List, [], ◌∷◌, ◌++◌, map, Option, Some, None, refl}
-use Rattle.std.specs.Prelude.{codes, if◌then◌else◌}
-use Rattle.std.specs.Str.{bytes_eq}
+use Rattle.std.proofs.Common.{◌≡◌, ℕ, List, [], ◌∷◌, ◌++◌, map, refl}
+use Rattle.std.specs.Prelude.{codes}
 use Rattle.scheme_model.specs.Ident.{Ident, symbol_of}
 use Rattle.scheme_model.specs.Trees.{Tree}
-use Rattle.scheme_model.specs.Meaning.{Meaning, Standard}
 use Rattle.scheme_model.specs.Substitution.{Defined}
-use Rattle.scheme_model.specs.ScopedExpansion.{ScopedState}
 use Rattle.scheme_model.specs.Questions.{Around, Moment, Question, LooksUp, UsesRules, Compares, IsAssigned, Requires, Defines}
 use Rattle.scheme_model.specs.FormsAlike.{set_aside, questions_of_pass}
 use Rattle.form_laws.proofs.QuestionRows.{imported, empty, around, word, form}

@@ -1,5 +1,5 @@
 -- Whatever a form has defined by a moment was a definition that stood, among its questions.
-use Rattle.std.proofs.Common.{◌≡◌, ◌⊎◌, inl, inr, ℕ, List, [], ◌∷◌, ◌++◌, Bool, true, false, cond, eqb, Option, Some, None, Ok, refl, sym, ap, ◌∙◌, subst, arith, eq-eqb}
+use Rattle.std.proofs.Common.{◌≡◌, ◌⊎◌, inl, inr, ℕ, List, [], ◌∷◌, ◌++◌, Bool, true, false, cond, eqb, Option, Some, None, Ok, refl, sym, ap, ◌∙◌, subst, eq-eqb}
 use Rattle.std.specs.Prelude.{◌&&◌}
 use Rattle.std.proofs.lemmas.Bool.{and_from}
 use Rattle.scheme_model.specs.Identifiers.{Number}
@@ -8,11 +8,11 @@ use Rattle.scheme_model.specs.Trees.{Tree}
 use Rattle.scheme_model.specs.ExpansionFaults.{Named}
 use Rattle.scheme_model.specs.Meaning.{Meaning, Local, Global, Standard, Free, same_meaning}
 use Rattle.scheme_model.specs.RulesShape.{Rules}
-use Rattle.scheme_model.specs.Order.{Note, Left, Pending, Asked, is_some}
+use Rattle.scheme_model.specs.Order.{Left, Pending, Asked, is_some}
 use Rattle.scheme_model.specs.Substitution.{Table, Defined, defined_in}
 use Rattle.scheme_model.specs.ScopedExpansion.{Frames, FramedIdent, ScopedMacro, macro_at, body_around}
-use Rattle.scheme_model.specs.Questions.{Moment, Around, Outcome, Stands, Redefines, StoodBefore, unit_outcome, outcome, Question, LooksUp, UsesRules, Compares, IsAssigned, Requires, Defines, left_to_ask, dated, all_left, in_unit, Asking, ended, asking}
-use Rattle.scheme_model.specs.FormsAlike.{start, no_questions, set_aside_asking, finish_asking}
+use Rattle.scheme_model.specs.Questions.{Moment, Around, Outcome, Stands, Redefines, StoodBefore, unit_outcome, outcome, Question, LooksUp, UsesRules, Compares, IsAssigned, Requires, Defines, left_to_ask, dated, all_left, in_unit, Asking, ended}
+use Rattle.scheme_model.specs.FormsAlike.{set_aside_asking, finish_asking}
 use Rattle.scheme_model.proofs.IdentLaws.{ident_itself}
 use Rattle.form_laws.specs.Begins.{Each}
 use Rattle.form_laws.proofs.AskingSides.{NoLocals}
@@ -98,7 +98,7 @@ module _ (w : Around) where
       let a = all_more ps s.asked s.moment h.0 in (
         a,
         each_append (λ (q : Moment × Question). AllMade (ps ++ s.asked) q.0) ps s.asked (now (ps ++ s.asked) a)
-        (each_more (λ (q : Moment × Question). AllMade s.asked q.0) (λ (q : Moment × Question). AllMade (ps ++ s.asked) q.0) (λ q b. all_more ps s.asked q.0 b) s.asked h.1),
+            (each_more (λ (q : Moment × Question). AllMade s.asked q.0) (λ (q : Moment × Question). AllMade (ps ++ s.asked) q.0) (λ q b. all_more ps s.asked q.0 b) s.asked h.1),
       )
 
   -- ---- macros

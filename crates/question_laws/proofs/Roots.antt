@@ -11,7 +11,6 @@ use Rattle.scheme_model.specs.Scopes.{defined_or, given_or}
 use Rattle.scheme_model.specs.ScopedExpansion.{ScopedMacro, ScopedState, means_outside, macro_at}
 use Rattle.scheme_model.specs.OwnAnswers.{root_means}
 use Rattle.scheme_model.specs.Questions.{Around}
-use Rattle.scheme_model.specs.FormsAlike.{start}
 use Rattle.scheme_model.proofs.IdentLaws.{ident_told}
 use Rattle.form_laws.specs.Begins.{Begins, SameForm}
 use Rattle.question_laws.specs.Noted.{is_to_come, before_uses, is_defined_in, defines_within, answers_alone, IsClosed}
