@@ -1,13 +1,15 @@
 -- What is noted for small forms, computed: latest first, by the words of what is asked, each with the form's own definitions by then.
 use Rattle.std.proofs.Common.{◌≡◌, ℕ, List, [], ◌∷◌, ◌++◌, map, refl}
 use Rattle.std.specs.Prelude.{codes}
-use Rattle.scheme_model.specs.Ident.{Ident, symbol_of}
+use Rattle.scheme_model.specs.Ident.{Ident, Written, symbol_of}
 use Rattle.scheme_model.specs.Trees.{Tree}
+use Rattle.scheme_model.specs.Meaning.{Standard, Free}
 use Rattle.scheme_model.specs.Substitution.{Defined}
-use Rattle.scheme_model.specs.Questions.{Around, Moment, Question, LooksUp, UsesRules, Compares, IsAssigned, Requires, Defines}
+use Rattle.scheme_model.specs.OwnAnswers.{root_means}
+use Rattle.scheme_model.specs.Questions.{Around, Moment, Question, LooksUp, UsesRules, Compares, IsAssigned, Requires, Defines, Answer, answer}
 use Rattle.scheme_model.specs.FormsAlike.{set_aside, questions_of_pass}
 use Rattle.form_laws.proofs.QuestionRows.{imported, empty, around, word, form}
-use Rattle.question_laws.specs.Noted.{all_noted}
+use Rattle.question_laws.specs.Noted.{before_uses, all_noted}
 
 -- a program that imports these alone
 abbrev first : Around
@@ -66,3 +68,28 @@ then_foo = behind (behind first 1 defining) 2 (form (word (codes "def") ∷ word
 within_noted : notes then_foo (helped (codes "foo"))
     ≡ (codes "helper" ∷ [], codes "helper") ∷ ([], codes "rules") ∷ ([], codes "foo") ∷ ([], codes "defines helper") ∷ ([], codes "assigned helper") ∷ ([], codes "define") ∷ ([], codes "begin") ∷ []
 within_noted = refl
+
+-- where helper is imported too, all answers are the same, though that identifier means something else when the form begins: so a note of what it
+-- means then would ask too much
+abbrev imports_more : Around
+imports_more = record then_foo { state = record then_foo.state { entry = λ u s. imported (codes "helper" ∷ codes "define" ∷ codes "begin" ∷ codes "define-syntax" ∷ codes "syntax-rules" ∷ []) s } }
+
+abbrev answers_in : Around → List Answer
+answers_in v = map (λ q. answer v q.0 q.1) (questions_of_pass then_foo 20 (helped (codes "foo")))
+
+answers_same : answers_in imports_more ≡ answers_in then_foo
+answers_same = refl
+
+abbrev latest : List (Moment × Question) → Ident
+latest [] = Written 0 []
+latest ((n, LooksUp i) ∷ qs) = i
+latest (q ∷ qs) = Written 0 []
+
+abbrev inserted : Ident
+inserted = before_uses then_foo.state (latest (questions_of_pass then_foo 20 (helped (codes "foo"))))
+
+free_at_first : root_means then_foo.state inserted ≡ Free (codes "helper")
+free_at_first = refl
+
+imported_at_first : root_means imports_more.state inserted ≡ Standard (codes "helper")
+imported_at_first = refl
