@@ -1,5 +1,5 @@
 -- Each question has the same answer in two surroundings exactly where what is noted for it has.
-use Rattle.std.proofs.Common.{◌≡◌, ◌⊎◌, inl, inr, ◌↔◌, ℕ, List, [], ◌∷◌, ◌++◌, Bool, true, false, cond, eqb, Option, Some, None, refl, sym, ap, ◌∙◌, subst}
+use Rattle.std.proofs.Common.{◌≡◌, ◌⊎◌, inl, inr, ◌↔◌, ℕ, List, [], ◌∷◌, ◌++◌, Bool, true, false, cond, eqb, Option, Some, None, refl, sym, ap, ◌∙◌, subst, zero, suc, ◌<◌, length, arith, Contains}
 use Rattle.std.specs.Prelude.{◌&&◌, ◌||◌, not}
 use Rattle.std.proofs.lemmas.Bool.{and_parts, not-true, both_ways, or_cases, false_from_ne_true}
 use Rattle.scheme_model.specs.Ident.{Ident, same_ident}
@@ -15,7 +15,7 @@ use Rattle.scheme_model.specs.FormsAlike.{start}
 use Rattle.scheme_model.proofs.EntryLaws.{NoLocal}
 use Rattle.form_laws.specs.Begins.{Each, Begins}
 use Rattle.form_laws.proofs.AskingSides.{NoLocals, root_no}
-use Rattle.question_laws.specs.Noted.{before_uses, is_defined_in, defines_within, answers_alone, compares_alone, noted_as, noted, all_noted, IsClosed, SameUnit}
+use Rattle.question_laws.specs.Noted.{before_uses, is_defined_in, defines_within, answers_alone, compares_alone, noted_as, noted, all_noted, AreNotes, IsClosed, SameUnit}
 use Rattle.question_laws.proofs.Roots.{or_neither, defined_front, defined_behind, macro_front, macro_behind, macro_either, outside_same, NotYet, to_come_itself, to_come_there, before_same, own_meaning, IsOwn, alone_own, alone_means, StandsThere, root_stands, same_one, own_apart, own_apart_too}
 use Rattle.question_laws.proofs.OwnRuns.{Made, IsLocalOr, AllMade, each_append, macro_own}
 
@@ -323,3 +323,17 @@ module _ (w v : Around) (same : SameUnit w v) (begins : Begins w.state) (there :
 
     pub noted_suffice : NoLocals w → Same (all_noted w qs) ↔ Same qs
     noted_suffice en = (λ a. all_told a qs made a, λ a. all_back en qs made a)
+
+-- ---- in any order
+
+contained : {X : Type 0} (P : X → Type 0) (xs : List X) (x : X) → Each P xs → Contains xs x → P x
+contained P [] x h c = let l : c.0 < 0 = c.1 in absurd (omega (arith, l))
+contained P (y ∷ ys) x h (zero, l, e) = subst P e h.0
+contained P (y ∷ ys) x h (suc k, l, e) = contained P ys x h.1 (k, (let m : suc k < suc (length ys) = l in omega (arith, m)), e)
+
+each_contained : {X : Type 0} (P : X → Type 0) (xs ys : List X) → Each (λ (y : X). Contains xs y) ys → Each P xs → Each P ys
+each_contained P xs [] c h = tt
+each_contained P xs (y ∷ ys) c h = (contained P xs y h c.0, each_contained P xs ys c.1 h)
+
+pub notes_suffice : (w v : Around) (qs ns : List (Moment × Question)) → AreNotes w qs ns → Each (SameAnswer w v) ns ↔ Each (SameAnswer w v) (all_noted w qs)
+notes_suffice w v qs ns h = (λ a. each_contained (SameAnswer w v) ns (all_noted w qs) h.all a, λ a. each_contained (SameAnswer w v) (all_noted w qs) ns h.alone a)

@@ -1,6 +1,7 @@
 -- Which questions are noted for a form (R7RS 4.3, 5.3): what its own definitions don't answer is asked of its surroundings as they are
 -- when it begins, and at its moment only where its own definitions may have a part in the answer.
 use Rattle.std.specs.Prelude.{◌≡◌, ℕ, nat_lt, ◌==◌, List, [], ◌∷◌, ◌++◌, Bool, true, not, ◌&&◌, ◌||◌, Some, if◌then◌else◌}
+use Rattle.std.specs.List.{Contains}
 use Rattle.scheme_model.specs.Identifiers.{Number}
 use Rattle.scheme_model.specs.Ident.{Ident, Written, Inserted}
 use Rattle.scheme_model.specs.Meaning.{Global}
@@ -9,7 +10,7 @@ use Rattle.scheme_model.specs.Substitution.{Table, Entries, defined_in}
 use Rattle.scheme_model.specs.ScopedExpansion.{ScopedMacro, ScopedState, macro_at}
 use Rattle.scheme_model.specs.Questions.{Moment, Around, Question, LooksUp, UsesRules, Compares, IsAssigned, Requires, Defines}
 use Rattle.scheme_model.specs.FormsAlike.{start}
-use Rattle.form_laws.specs.Begins.{SameForm}
+use Rattle.form_laws.specs.Begins.{Each, SameForm}
 
 -- a macro use that the form at work has yet to begin
 abbrev pub is_to_come : ScopedState → Number → Bool
@@ -54,6 +55,11 @@ noted w (n, Defines fs x r ns) = (n, Defines fs x r ns) ∷ []
 abbrev pub all_noted : Around → List (Moment × Question) → List (Moment × Question)
 all_noted w [] = []
 all_noted w (q ∷ qs) = noted w q ++ all_noted w qs
+
+-- these are the noted questions, in any order, and each as often as it may be
+pub record AreNotes (w : Around) (qs ns : List (Moment × Question)) : Type 0 where
+  pub all : Each (λ (q : Moment × Question). Contains ns q) (all_noted w qs)
+  pub alone : Each (λ (q : Moment × Question). Contains (all_noted w qs) q) ns
 
 -- ---- two surroundings
 

@@ -8,10 +8,10 @@ ghost use Rattle.scheme_model.specs.IncludedUnits.{Placed};
 ghost use Rattle.scheme_model.specs.Program.{Prepared};
 ghost use Rattle.scheme_model.specs.ScopedProgram.{scoped_work, scoped_before, scoped_start_after};
 ghost use Rattle.scheme_model.specs.OwnAnswers.{root_means};
-ghost use Rattle.scheme_model.specs.Questions.{Around, Moment, at_moment, SameAnswer};
+ghost use Rattle.scheme_model.specs.Questions.{Around, Moment, Question, at_moment, SameAnswer};
 ghost use Rattle.scheme_model.specs.FormsAlike.{questions_of_pass, questions_of_left, set_aside, finish, set_aside_asking, start, again};
 ghost use Rattle.form_laws.specs.Begins.{Each, Begins, FormBegins, LeftBegins, SameForm};
-ghost use Rattle.question_laws.specs.Noted.{before_uses, defines_within, answers_alone, all_noted, IsClosed, SameUnit};
+ghost use Rattle.question_laws.specs.Noted.{before_uses, defines_within, answers_alone, all_noted, AreNotes, IsClosed, SameUnit};
 
 /// What an identifier means at a moment of a form is told by what it meant when the form began (R7RS 4.3, 5.3): where the form's own
 /// definitions have neither it nor an identifier within it, it means what the identifier before the form's macro uses meant then; and where
@@ -23,13 +23,15 @@ pub fn moments_are_told()
 
 /// The noted questions are all that a form asks, and no more: two surroundings that give these the same answers give the same answers to
 /// all questions of the form, and the other way round. The second part of a form defines nothing, so all that is noted for it is asked when it
-/// begins; of its first part, only what its own definitions have a part in is asked later.
+/// begins; of its first part, only what its own definitions have a part in is asked later. In which order the notes stand, and how often, is
+/// all one.
 pub fn noted_questions_suffice()
     ensures pass { (w v : Around) (turns : ℕ) (t : Tree Identifier) → SameUnit w v → FormBegins w t → FormBegins v t → IsClosed w.state → IsClosed v.state →
         Each (SameAnswer w v) (all_noted w (questions_of_pass w turns t)) ↔ Each (SameAnswer w v) (questions_of_pass w turns t) }
     ensures left { (w v : Around) (turns : ℕ) (l : Left Identifier) → SameUnit w v → Begins w.state → Begins v.state → IsClosed w.state → IsClosed v.state →
         Each (SameAnswer w v) (all_noted w (questions_of_left w turns (Ok l))) ↔ Each (SameAnswer w v) (questions_of_left w turns (Ok l)) }
     ensures left_first { (w : Around) (turns : ℕ) (l : Left Identifier) → Begins w.state → Each (λ q. q.0 ≡ start w.state) (all_noted w (questions_of_left w turns (Ok l))) }
+    ensures notes { (w v : Around) (qs ns : List (Moment × Question)) → AreNotes w qs ns → Each (SameAnswer w v) ns ↔ Each (SameAnswer w v) (all_noted w qs) }
 {}
 
 /// Each definition that is imported, or that a macro is kept for, stands in its unit where a unit of a program begins (R7RS 5.2, 5.3), whatever

@@ -4,7 +4,7 @@ use Rattle.form_laws.proofs.AskingSides.{NoLocals}
 use Rattle.form_laws.proofs.OwnStates.{entry_given}
 use Rattle.question_laws.proofs.OwnRuns.{pass_known, left_known}
 use Rattle.question_laws.proofs.NotedFirst.{left_noted_first}
-use Rattle.question_laws.proofs.NotedAnswers.{noted_suffice}
+use Rattle.question_laws.proofs.NotedAnswers.{noted_suffice, notes_suffice}
 use Rattle.question_laws.proofs.laws.noted_questions_suffice.Goals as goal
 
 pub returns : goal.returns
@@ -18,4 +18,5 @@ returns c = record {
   left_first = λ w turns l h.
       let en : NoLocals w = λ u x. entry_given (w.state.entry u x) (h.entries u x) in
       left_noted_first w en turns l;
+  notes = λ w v qs ns h. notes_suffice w v qs ns h;
 }
