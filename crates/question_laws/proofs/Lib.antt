@@ -6,4 +6,4 @@ pub mod Closed  -- What is imported, and what a macro is kept for, still stands 
 pub mod NotedRows  -- What is noted for small forms, computed
 pub mod ClosedSteps  -- Each step of expansion leaves standing what is imported, and what a macro is kept for
 pub mod ClosedPrograms  -- What the units of a program import, and what a macro is kept for, stands where each of them begins
-pub mod NotedFirst  -- The second part of a form defines nothing, so all that is noted for it is asked when it begins
+pub mod NotedFirst  -- The second part of a form defines nothing, so all that is noted for it is asked when it begins; and so is all that is noted for its first part but for that in which its own definitions have a part

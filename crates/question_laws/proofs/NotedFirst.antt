@@ -1,5 +1,6 @@
--- The second part of a form defines nothing, so all that is noted for it is asked when it begins.
-use Rattle.std.proofs.Common.{◌≡◌, ℕ, List, [], ◌∷◌, ◌++◌, Bool, true, false, cond, Option, Some, None, Ok, refl, sym, ap, ◌∙◌, subst}
+-- The second part of a form defines nothing, so all that is noted for it is asked when it begins; and so is all that is noted for its first part
+-- but for that in which its own definitions have a part.
+use Rattle.std.proofs.Common.{◌≡◌, ℕ, List, [], ◌∷◌, ◌++◌, Bool, true, false, cond, Option, Some, None, Ok, refl, sym, ap, ◌∙◌, subst, ◌⊎◌, inl, inr}
 use Rattle.std.specs.Prelude.{◌&&◌, ◌||◌, not}
 use Rattle.scheme_model.specs.Identifiers.{Number}
 use Rattle.scheme_model.specs.Ident.{Ident, Written, Inserted}
@@ -9,11 +10,11 @@ use Rattle.scheme_model.specs.RulesShape.{Rules}
 use Rattle.scheme_model.specs.Order.{Left, Pending, Asked, Meant, Headed, RulesOf, Alike, Assigns, Library, is_some}
 use Rattle.scheme_model.specs.ScopedExpansion.{ScopedState, Frames, FramedIdent, macro_at, body_around}
 use Rattle.scheme_model.specs.OwnAnswers.{own_local}
-use Rattle.scheme_model.specs.Questions.{Moment, Around, own_at, Outcome, Stands, Redefines, StoodBefore, outcome, Question, LooksUp, UsesRules, Compares, IsAssigned, Defines, unless_own, unless_local, in_unit, left_to_ask, dated, all_left, Asking, number_in, ended}
+use Rattle.scheme_model.specs.Questions.{Moment, Around, own_at, Outcome, Stands, Redefines, StoodBefore, outcome, Question, LooksUp, UsesRules, Compares, IsAssigned, Requires, Defines, unless_own, unless_local, in_unit, left_to_ask, dated, all_left, Asking, number_in, ended}
 use Rattle.scheme_model.specs.FormsAlike.{start, finish_asking}
 use Rattle.form_laws.specs.Begins.{Each}
 use Rattle.form_laws.proofs.AskingSides.{NoLocals}
-use Rattle.question_laws.specs.Noted.{is_to_come, before_uses, is_defined_in, defines_within, answers_alone, compares_alone, noted_as, noted, all_noted}
+use Rattle.question_laws.specs.Noted.{is_to_come, before_uses, is_defined_in, defines_within, answers_alone, compares_alone, noted_as, noted, all_noted, HasPart}
 use Rattle.question_laws.proofs.AskingRuns.{Invariant, left_holds}
 use Rattle.question_laws.proofs.OwnRuns.{each_append}
 
@@ -127,3 +128,31 @@ module _ (w : Around) where
   pub left_noted_first : NoLocals w → (turns : ℕ) (l : Left Ident) → Each IsFirst (all_noted w (finish_asking w turns (Ok l)).1.asked)
   unfolding undefined
   left_noted_first en turns l = noted_all (finish_asking w turns (Ok l)).1.asked (left_holds w en undefined turns l (refl, tt)).1
+
+  -- ---- the first part
+
+  -- asked when the form begins, or its own definitions have a part in it
+  abbrev pub IsFirstOr : Moment × Question → Type 0
+  IsFirstOr q = (q.0 ≡ start w.state) ⊎ HasPart q
+
+  noted_or : (alone part : Bool) (now : Moment × Question) (z : Question) → (part ≡ true → HasPart now) → Each IsFirstOr (noted_as w alone part now z)
+  noted_or true part now z h = tt
+  noted_or false true now z h = (inr (h refl), tt)
+  noted_or false false now z h = (inl refl, tt)
+
+  unless_or : (b : Bool) (z : Question) → Each IsFirstOr (cond b [] ((start w.state, z) ∷ []))
+  unless_or true z = tt
+  unless_or false z = (inl refl, tt)
+
+  one_or : (n : Moment) (q : Question) → Each IsFirstOr (noted w (n, q))
+  one_or n (LooksUp i) = noted_or (answers_alone w.state n.table i) (defines_within n.table i) (n, LooksUp i) (LooksUp (before_uses w.state i)) (λ e. e)
+  one_or n (UsesRules m) = unless_or (is_some (macro_at n.macros m)) (UsesRules m)
+  one_or n (Compares l i) =
+      noted_or (compares_alone w.state n.table l i) (defines_within n.table l || defines_within n.table i) (n, Compares l i) (Compares (before_uses w.state l) (before_uses w.state i)) (λ e. e)
+  one_or n (IsAssigned i) = unless_or (is_defined_in n.table w.state.unit i) (IsAssigned i)
+  one_or n (Requires l) = (inl refl, tt)
+  one_or n (Defines fs x r ns) = (inr tt, tt)
+
+  pub all_or : (qs : List (Moment × Question)) → Each IsFirstOr (all_noted w qs)
+  all_or [] = tt
+  all_or ((n, q) ∷ qs) = each_append w IsFirstOr (noted w (n, q)) (all_noted w qs) (one_or n q) (all_or qs)

@@ -56,6 +56,15 @@ abbrev pub all_noted : Around → List (Moment × Question) → List (Moment × 
 all_noted w [] = []
 all_noted w (q ∷ qs) = noted w q ++ all_noted w qs
 
+-- the form's own definitions have a part in the answer, or it is how one of them ends
+abbrev pub HasPart : Moment × Question → Type 0
+HasPart (n, LooksUp i) = defines_within n.table i ≡ true
+HasPart (n, UsesRules m) = ⊥
+HasPart (n, Compares l i) = (defines_within n.table l || defines_within n.table i) ≡ true
+HasPart (n, IsAssigned i) = ⊥
+HasPart (n, Requires l) = ⊥
+HasPart (n, Defines fs x r ns) = Unit {0}
+
 -- these are the noted questions, in any order, and each as often as it may be
 pub record AreNotes (w : Around) (qs ns : List (Moment × Question)) : Type 0 where
   pub all : Each (λ (q : Moment × Question). Contains ns q) (all_noted w qs)

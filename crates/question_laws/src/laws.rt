@@ -1,5 +1,5 @@
 //! Laws of the definitions. Each is the contract of a function that does nothing.
-ghost use Rattle.std.specs.Prelude.{◌≡◌, ℕ, true, false, ◌↔◌, List, Ok};
+ghost use Rattle.std.specs.Prelude.{◌≡◌, ℕ, true, false, ◌↔◌, ◌⊎◌, List, Ok};
 ghost use Rattle.scheme_model.specs.Ident.{Ident as Identifier};
 ghost use Rattle.scheme_model.specs.Trees.{Tree};
 ghost use Rattle.scheme_model.specs.Order.{Left};
@@ -11,7 +11,7 @@ ghost use Rattle.scheme_model.specs.OwnAnswers.{root_means};
 ghost use Rattle.scheme_model.specs.Questions.{Around, Moment, Question, at_moment, SameAnswer};
 ghost use Rattle.scheme_model.specs.FormsAlike.{questions_of_pass, questions_of_left, set_aside, finish, set_aside_asking, start, again};
 ghost use Rattle.form_laws.specs.Begins.{Each, Begins, FormBegins, LeftBegins, SameForm};
-ghost use Rattle.question_laws.specs.Noted.{before_uses, defines_within, answers_alone, all_noted, AreNotes, IsClosed, SameUnit};
+ghost use Rattle.question_laws.specs.Noted.{before_uses, defines_within, answers_alone, all_noted, HasPart, AreNotes, IsClosed, SameUnit};
 
 /// What an identifier means at a moment of a form is told by what it meant when the form began (R7RS 4.3, 5.3): where the form's own
 /// definitions have neither it nor an identifier within it, it means what the identifier before the form's macro uses meant then; and where
@@ -30,6 +30,7 @@ pub fn noted_questions_suffice()
         Each (SameAnswer w v) (all_noted w (questions_of_pass w turns t)) ↔ Each (SameAnswer w v) (questions_of_pass w turns t) }
     ensures left { (w v : Around) (turns : ℕ) (l : Left Identifier) → SameUnit w v → Begins w.state → Begins v.state → IsClosed w.state → IsClosed v.state →
         Each (SameAnswer w v) (all_noted w (questions_of_left w turns (Ok l))) ↔ Each (SameAnswer w v) (questions_of_left w turns (Ok l)) }
+    ensures pass_first { (w : Around) (turns : ℕ) (t : Tree Identifier) → Each (λ q. (q.0 ≡ start w.state) ⊎ HasPart q) (all_noted w (questions_of_pass w turns t)) }
     ensures left_first { (w : Around) (turns : ℕ) (l : Left Identifier) → Begins w.state → Each (λ q. q.0 ≡ start w.state) (all_noted w (questions_of_left w turns (Ok l))) }
     ensures notes { (w v : Around) (qs ns : List (Moment × Question)) → AreNotes w qs ns → Each (SameAnswer w v) ns ↔ Each (SameAnswer w v) (all_noted w qs) }
 {}
