@@ -1,5 +1,5 @@
 -- What the calls of a work leave standing.
-use Rattle.std.proofs.Common.{◌≡◌, ℕ, ◌<◌, List, length, Some, sym, ap, ◌∙◌, subst}
+use Rattle.std.proofs.Common.{◌≡◌, ◌≢◌, ℕ, ◌<◌, ◌≤◌, zero, suc, Option, Some, None, refl, sym, ap, ◌∙◌, subst, arith}
 use Rattle.std.specs.Prelude.{is_some, IsSome}
 use Rattle.std.specs.Option.{option_map}
 use Rattle.std.specs.FinMap as map
@@ -7,8 +7,10 @@ use Rattle.std.proofs.lemmas.Option.{same_Some}
 use Rattle.scheme_model.specs.Trees.{Tree}
 use Rattle.scheme_model.specs.Ident.{Ident as Identifier}
 use Rattle.syntax_tree.specs.Names.{Names, KeepsNames}
-use Rattle.syntax_tree.specs.Nodes.{Shape, Lived, Nodes, shape_at, IsPut}
-use Rattle.syntax_tree.specs.Regions.{Outlives}
+use Rattle.node_pool.specs.Pools.{HasRanks}
+use Rattle.node_pool.proofs.BackLaws.{stayed, elsewhere_stays}
+use Rattle.syntax_tree.specs.Nodes.{Shape, Lived, Nodes, parts_of, shape_at, region_at, IsPut, back_to}
+use Rattle.syntax_tree.specs.Regions.{Regions, Outlives, MayName, IsClosed, ArePartsFirst, CanGoBack}
 use Rattle.syntax_tree.specs.Standing.{Stands, IsNode}
 use Rattle.syntax_tree.specs.Works.{StandsFor, IsStanding, IsNodeOf, KeepsTrees, SameRegions, IsOpened, with_names}
 use Rattle.syntax_tree.specs.Kept.{shape_of}
@@ -17,8 +19,9 @@ use Rattle.syntax_tree.specs.declared.trees.Work.{Work}
 use Rattle.syntax_tree.specs.declared.trees.nodes.Tree as code
 use Rattle.syntax_tree.specs.declared.trees.table.Region.{Region}
 use Rattle.syntax_tree.proofs.NodeLaws.{map_some, put_keeps}
-use Rattle.syntax_tree.proofs.RegionLaws.{KeepsOuters, outlives_kept, region_kept}
-use Rattle.syntax_tree.proofs.StandingLaws.{names_itself, nodes_itself, node_there, stands_kept, stands_once as once_at}
+use Rattle.syntax_tree.proofs.RegionLaws.{all_both, KeepsOuters, outlives_kept, region_kept}
+use Rattle.syntax_tree.proofs.EndLaws.{left_was, parts_left}
+use Rattle.syntax_tree.proofs.StandingLaws.{names_itself, nodes_itself, node_there, stands_kept, stands_left, stands_once as once_at}
 use Rattle.syntax_tree.proofs.AddedLaws.{put_stands}
 
 pub stands_once : (work : Work) (n : code.Tree) (t u : Tree Identifier) → StandsFor work n t → StandsFor work n u → t ≡ u
@@ -36,7 +39,7 @@ names_keep work names keeps = record {
 pub standing_lives : (work : Work) (n : code.Tree) → IsStanding work n → IsSome (map.get work.trees.nodes n.number)
 standing_lives work n h =
     let p = node_there work.trees.nodes work.symbols h.0 n.number h.1 in
-    let q = map_some (λ (l : Lived). l.shape) (map.get work.trees.nodes n.number) p.0 p.1 in
+    let q = map_some (λ (l : Lived). l.node) (map.get work.trees.nodes n.number) p.0 p.1 in
     ap (λ o. is_some o) q.1
 
 -- the node that lives there is of the tree
@@ -47,10 +50,10 @@ node_of nodes names n s at t h =
 
 -- the same regions
 pub regions_stay : (old new : Work) → SameRegions old new → (region : Region) → IsOpened old region → IsOpened new region
-regions_stay old new same region h = (same.identity ∙ h.0, subst (λ (rs : List (List ℕ)). region.number < length rs) (sym same.regions) h.1)
+regions_stay old new same region h = (same.identity ∙ h.0, subst (λ (rs : Regions). IsSome (map.get rs region.in_pool.number)) (sym same.regions) h.1)
 
 pub outlives_stay : (old new : Work) → SameRegions old new → (a b : ℕ) → Outlives old.trees.regions a b → Outlives new.trees.regions a b
-outlives_stay old new same a b h = subst (λ (rs : List (List ℕ)). Outlives rs a b) (sym same.regions) h
+outlives_stay old new same a b h = subst (λ (rs : Regions). Outlives rs a b) (sym same.regions) h
 
 -- one more node
 pub added_keeps : (old new : Work) (n : ℕ) (l : Lived) → IsPut old.trees.nodes new.trees.nodes n l → SameRegions old new → new.symbols ≡ old.symbols → KeepsTrees old new
@@ -65,7 +68,7 @@ added_keeps old new n l put same symbols =
       outlives = outlives_stay old new same;
     }
 
-pub added_stands : (old : Work) (nodes : Nodes) (n : ℕ) (l : Lived) (node : Node) → IsPut old.trees.nodes nodes n l → l.shape ≡ shape_of node →
+pub added_stands : (old : Work) (nodes : Nodes) (n : ℕ) (l : Lived) (node : Node) → IsPut old.trees.nodes nodes n l → l.node ≡ shape_of node →
     (t : Tree Identifier) → IsNodeOf old node t → Stands nodes old.symbols t n
 added_stands old nodes n l node put is t h =
     put_stands old.trees.nodes nodes old.symbols n l t put (subst (λ (s : Shape). IsNode old.trees.nodes old.symbols s t) (sym is) h)
@@ -79,3 +82,35 @@ regions_keep old new nodes symbols keeps opened = record {
   regions = opened;
   outlives = λ a b h. outlives_kept old.trees.regions new.trees.regions a b keeps h;
 }
+
+-- ---- going back
+
+-- where a region goes back, what stood and is left still stands
+pub stands_back : (nodes : Nodes) (regions : Regions) (names : Names) (r count : ℕ) → IsClosed nodes regions → ArePartsFirst nodes → CanGoBack nodes r count →
+    (t : Tree Identifier) (n : ℕ) → Stands nodes names t n → IsSome (map.get (back_to nodes r count) n) → Stands (back_to nodes r count) names t n
+stands_back nodes regions names r count closed first can t n h live =
+    stands_left nodes (back_to nodes r count) names (λ m l at. (left_was nodes r count m l at).0)
+    (λ m l at.
+    let was = (left_was nodes r count m l at).0 in
+    all_both (MayName nodes regions l.region) (λ p. map.get (back_to nodes r count) p ≡ map.get nodes p) (λ p. IsSome (map.get (back_to nodes r count) p))
+    (λ p named same.
+    let q = map_some (λ (x : Lived). x.region) (map.get nodes p) named.0 named.1 in
+    ap (λ o. is_some o) (same ∙ q.1))
+    (parts_of l.node) (closed m l was) (parts_left nodes regions r count closed first can m l at))
+    t n h live
+
+-- what lies elsewhere is left
+pub elsewhere_left : (nodes : Nodes) (r count n : ℕ) → IsSome (map.get nodes n) → (region_at nodes n ≢ Some r) → IsSome (map.get (back_to nodes r count) n)
+elsewhere_left nodes r count n live ne = by_node (map.get nodes n) refl live
+  where
+    by_node : (o : Option Lived) → map.get nodes n ≡ o → IsSome o → IsSome (map.get (back_to nodes r count) n)
+    by_node None e is = absurd cc
+    by_node (Some l) e is = ap (λ o. is_some o) (stayed nodes r count n l e (elsewhere_stays r count l (λ same. ne (ap (option_map (λ (x : Lived). x.region)) e ∙ ap Some same))))
+
+-- a region has at least as many nodes as a mark counted that still live
+pub mark_reached : (nodes : Nodes) (r count had : ℕ) → HasRanks nodes r count → ((rank : ℕ) → rank < had → (n : ℕ) × (l : Lived) × (map.get nodes n ≡ Some l) × (l.region ≡ r) × (l.rank ≡ rank)) → had ≤ count
+mark_reached nodes r count zero has reaches = omega arith
+mark_reached nodes r count (suc k) has reaches =
+    let p = reaches k (omega arith) in
+    let lt = has.below p.0 p.1 p.2 p.3 in
+    omega (arith, lt, p.4)
