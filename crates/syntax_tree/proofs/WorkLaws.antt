@@ -8,9 +8,10 @@ use Rattle.scheme_model.specs.Trees.{Tree}
 use Rattle.scheme_model.specs.Ident.{Ident as Identifier}
 use Rattle.syntax_tree.specs.Names.{Names, KeepsNames}
 use Rattle.node_pool.specs.Pools.{HasRanks}
+use Rattle.node_pool.proofs.MapLaws.{holds}
 use Rattle.node_pool.proofs.BackLaws.{stayed, elsewhere_stays}
 use Rattle.syntax_tree.specs.Nodes.{Shape, Lived, Nodes, parts_of, shape_at, region_at, IsPut, back_to}
-use Rattle.syntax_tree.specs.Regions.{Regions, Outlives, MayName, IsClosed, ArePartsFirst, CanGoBack}
+use Rattle.syntax_tree.specs.Regions.{Forest, Regions, Outlives, MayName, IsClosed, ArePartsFirst, CanGoBack}
 use Rattle.syntax_tree.specs.Standing.{Stands, IsNode}
 use Rattle.syntax_tree.specs.Works.{StandsFor, IsStanding, IsNodeOf, KeepsTrees, SameRegions, IsOpened, with_names}
 use Rattle.syntax_tree.specs.Kept.{shape_of}
@@ -18,6 +19,7 @@ use Rattle.syntax_tree.specs.declared.trees.nodes.Node.{Node}
 use Rattle.syntax_tree.specs.declared.trees.Work.{Work}
 use Rattle.syntax_tree.specs.declared.trees.nodes.Tree as code
 use Rattle.syntax_tree.specs.declared.trees.table.Region.{Region}
+use Rattle.syntax_tree.proofs.Places.{none_some}
 use Rattle.syntax_tree.proofs.NodeLaws.{map_some, put_keeps}
 use Rattle.syntax_tree.proofs.RegionLaws.{all_both, KeepsOuters, outlives_kept, region_kept}
 use Rattle.syntax_tree.proofs.EndLaws.{left_was, parts_left}
@@ -83,7 +85,32 @@ regions_keep old new nodes symbols keeps opened = record {
   outlives = λ a b h. outlives_kept old.trees.regions new.trees.regions a b keeps h;
 }
 
+-- regions that stay are open
+pub still_open : (old new : Regions) → KeepsOuters old new → (r : ℕ) → IsSome (map.get old r) → IsSome (map.get new r)
+still_open old new keeps r h =
+    let p = holds (map.get old r) h in
+    let q = keeps r p.0 p.1 in
+    ap (λ o. is_some o) q.1
+
+pub not_open : (regions : Regions) (r : ℕ) → map.get regions r ≡ None → IsSome (map.get regions r) → ⊥
+not_open regions r none is = none_some (holds (map.get regions r) is).0 (sym none ∙ (holds (map.get regions r) is).1)
+
+-- the same nodes with more room
+pub spare_keeps : (old new : Work) → new.trees ≡ record old.trees { spare = new.trees.spare } → new.symbols ≡ old.symbols → KeepsTrees old new
+spare_keeps old new same symbols =
+    let regions : new.trees.regions ≡ old.trees.regions = ap (λ (f : Forest). f.regions) same in
+    let identity : new.trees.identity ≡ old.trees.identity = ap (λ (f : Forest). f.identity) same in
+    regions_keep old new (ap (λ (f : Forest). f.nodes) same) symbols
+    (λ c outer at. (outer, ap (λ (rs : Regions). map.get rs c) regions ∙ at, λ b h. h))
+    (λ region h. (identity ∙ h.0, subst (λ (rs : Regions). IsSome (map.get rs region.in_pool.number)) (sym regions) h.1))
+
 -- ---- going back
+
+pub lives_at : (nodes : Nodes) (n : ℕ) → IsSome (shape_at nodes n) → IsSome (map.get nodes n)
+lives_at nodes n h =
+    let s = holds (shape_at nodes n) h in
+    let p = map_some (λ (l : Lived). l.node) (map.get nodes n) s.0 s.1 in
+    ap (λ o. is_some o) p.1
 
 -- where a region goes back, what stood and is left still stands
 pub stands_back : (nodes : Nodes) (regions : Regions) (names : Names) (r count : ℕ) → IsClosed nodes regions → ArePartsFirst nodes → CanGoBack nodes r count →

@@ -1,4 +1,4 @@
-use Rattle.std.proofs.Common.{◌≡◌, ◌^◌, ◌+◌, Some, refl, sym, ap, subst, ◌∙◌, arith}
+use Rattle.std.proofs.Common.{◌+◌, Err, refl, sym, ap, subst, ◌∙◌, arith}
 use Rattle.std.specs.Prelude.{IsSome, unwrap_or}
 use Rattle.std.specs.FinMap as map
 use Rattle.node_pool.specs.NodePool as pool
@@ -70,13 +70,13 @@ pub returns-in-Err-Full-clause-full : goal.returns-in-Err-Full-clause-full
 returns-in-Err-Full-clause-full c =
     let n = count_seen c.self.inside.pool.nodes in
     let live = ap (λ (f : Forest). map.len f.nodes) c.self.view_is in
-    (λ e. omega (arith, n, live, c.put.ensures.full.0 c.in-Err-Full.is), λ e. refl)
+    (λ e. omega (arith, n, live, c.put.ensures.full.0 (c.in-Err-Full.is ∙ ap Err c.in-Err-Full.field-0-is)), λ e. refl)
 
 pub returns-in-Err-Memory-clause-full : goal.returns-in-Err-Memory-clause-full
 returns-in-Err-Memory-clause-full c =
     let n = count_seen c.self.inside.pool.nodes in
     let live = ap (λ (f : Forest). map.len f.nodes) c.self.view_is in
-    (λ e. absurd cc, λ e. let full = c.put.ensures.full.1 (omega (arith, n, live, e)) in let is = c.in-Err-Memory.is in absurd cc)
+    (λ e. absurd cc, λ e. let full = c.put.ensures.full.1 (omega (arith, n, live, e)) in let is = c.in-Err-Memory.is ∙ ap Err c.in-Err-Memory.field-0-is in absurd cc)
 
 pub returns-clause-full : goal.returns-clause-full
 returns-clause-full c =
