@@ -1,5 +1,5 @@
 -- What the calls of a work leave standing.
-use Rattle.std.proofs.Common.{◌≡◌, ◌≢◌, ℕ, ◌<◌, ◌≤◌, zero, suc, Option, Some, None, refl, sym, ap, ◌∙◌, subst, arith}
+use Rattle.std.proofs.Common.{◌≡◌, ◌≢◌, ℕ, ◌<◌, ◌≤◌, zero, suc, Option, Some, None, refl, sym, ap, ◌∙◌, subst, inl, inr, arith}
 use Rattle.std.specs.Prelude.{is_some, IsSome}
 use Rattle.std.specs.Option.{option_map}
 use Rattle.std.specs.FinMap as map
@@ -7,21 +7,22 @@ use Rattle.std.proofs.lemmas.Option.{same_Some}
 use Rattle.scheme_model.specs.Trees.{Tree}
 use Rattle.scheme_model.specs.Ident.{Ident as Identifier}
 use Rattle.syntax_tree.specs.Names.{Names, KeepsNames}
-use Rattle.node_pool.specs.Pools.{HasRanks}
+use Rattle.node_pool.specs.Pools.{HasRanks, OnlyAdds}
 use Rattle.node_pool.proofs.MapLaws.{holds}
 use Rattle.node_pool.proofs.BackLaws.{stayed, elsewhere_stays}
 use Rattle.syntax_tree.specs.Nodes.{Shape, Lived, Nodes, parts_of, shape_at, region_at, IsPut, back_to}
-use Rattle.syntax_tree.specs.Regions.{Forest, Regions, Outlives, MayName, IsClosed, ArePartsFirst, CanGoBack}
+use Rattle.syntax_tree.specs.Regions.{Forest, Regions, Outlives, MayName, IsClosed, ArePartsFirst, Goes, CanGoBack}
 use Rattle.syntax_tree.specs.Standing.{Stands, IsNode}
-use Rattle.syntax_tree.specs.Works.{StandsFor, IsStanding, IsNodeOf, KeepsTrees, SameRegions, IsOpened, with_names}
+use Rattle.syntax_tree.specs.Works.{StandsFor, IsStanding, IsNodeOf, Reaches, KeepsTrees, AddsIn, SameRegions, IsOpened, with_names}
 use Rattle.syntax_tree.specs.Kept.{shape_of}
 use Rattle.syntax_tree.specs.declared.trees.nodes.Node.{Node}
 use Rattle.syntax_tree.specs.declared.trees.Work.{Work}
 use Rattle.syntax_tree.specs.declared.trees.nodes.Tree as code
 use Rattle.syntax_tree.specs.declared.trees.table.Region.{Region}
+use Rattle.node_pool.specs.declared.pool.Mark.{Mark}
 use Rattle.syntax_tree.proofs.Places.{none_some}
 use Rattle.syntax_tree.proofs.NodeLaws.{map_some, put_keeps}
-use Rattle.syntax_tree.proofs.RegionLaws.{all_both, KeepsOuters, outlives_kept, region_kept}
+use Rattle.syntax_tree.proofs.RegionLaws.{all_map, all_both, KeepsOuters, outlives_kept, region_kept}
 use Rattle.syntax_tree.proofs.EndLaws.{left_was, parts_left}
 use Rattle.syntax_tree.proofs.StandingLaws.{names_itself, nodes_itself, node_there, stands_kept, stands_left, stands_once as once_at}
 use Rattle.syntax_tree.proofs.AddedLaws.{put_stands}
@@ -141,3 +142,41 @@ mark_reached nodes r count (suc k) has reaches =
     let p = reaches k (omega arith) in
     let lt = has.below p.0 p.1 p.2 p.3 in
     omega (arith, lt, p.4)
+
+-- ---- nodes that were added to one region alone
+
+pub only_adds : (old new : Work) (region : Region) → KeepsTrees old new → AddsIn old new region → OnlyAdds old.trees.nodes new.trees.nodes region.in_pool.number
+only_adds old new region keeps adds = record {
+  kept = λ n l at.
+      let lies = keeps.places (record { number = n }) l.region (ap (option_map (λ (x : Lived). x.region)) at) in
+      let now = map_some (λ (x : Lived). x.region) (map.get new.trees.nodes n) l.region lies in
+      elim (adds n now.0 now.1) [
+        | inl was ↦ now.1 ∙ sym was ∙ at
+        | inr fresh ↦ none_some l (sym fresh.0 ∙ at)
+      ];
+  added = λ n l at.
+      elim (adds n l at) [
+        | inl was ↦ inl was
+        | inr fresh ↦ inr fresh.1
+      ];
+}
+
+pub still_reached : (before : Nodes) (now : Work) (region : Region) (mark : Mark) → HasRanks before region.in_pool.number mark.count → OnlyAdds before now.trees.nodes region.in_pool.number → Reaches now region mark
+still_reached before now region mark has adds rank lt =
+    let p = has.taken rank lt in
+    (p.0, p.1, adds.kept p.0 p.1 p.2, p.3, p.4)
+
+-- what is named by nodes elsewhere lived before
+pub unnamed_since : (before now : Nodes) (regions : Regions) (r count : ℕ) → IsClosed before regions → HasRanks before r count → OnlyAdds before now r → CanGoBack now r count
+unnamed_since before now regions r count closed has adds n l at ne =
+    elim (adds.added n l at) [
+      | inl was ↦
+          all_map (MayName before regions l.region) (λ p. ¬ Goes now r count p)
+          (λ p named goes.
+          let x = map_some (λ (y : Lived). y.region) (map.get before p) named.0 named.1 in
+          let same : x.0 ≡ goes.0 = same_Some x.0 goes.0 (sym (adds.kept p x.0 x.1) ∙ goes.1) in
+          let lt = has.below p x.0 x.1 (ap (λ (y : Lived). y.region) same ∙ goes.2) in
+          absurd (omega (arith, lt, ap (λ (y : Lived). y.rank) same, goes.3)))
+          (parts_of l.node) (closed n l was)
+      | inr in_r ↦ absurd (ne in_r)
+    ]
