@@ -7,7 +7,7 @@ use crate::trees::nodes::{Node, Tree};
 use node_pool::{NodeId, Pool};
 
 /// A node with the number of nodes and the depth of its tree. A part that stands twice counts twice.
-#[derive(Debug, Drop)]
+#[derive(Drop)]
 pub struct Kept {
     pub node: Node,
     pub size: u32,
