@@ -16,7 +16,7 @@ use std::sync::ledger::Blank;
 const MAX_LIVE: usize = 2_147_483_648;
 
 /// The id of a node. It is its node's own as long as that lives.
-#[derive(Clone, Copy, Debug, PartialEq, Eq, PartialOrd, Ord, Hash)]
+#[derive(Clone, Copy)]
 pub struct NodeId {
     pub number: u32,
 }
@@ -38,7 +38,7 @@ impl Region {
 }
 
 /// A moment of a region, to which it can go back: how many nodes it had.
-#[derive(Clone, Copy, Debug, PartialEq, Eq)]
+#[derive(Clone, Copy)]
 pub struct Mark {
     count: u32,
 }
