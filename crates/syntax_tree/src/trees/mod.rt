@@ -55,6 +55,7 @@ impl Work {
         ensures counts { IfOk result (λ region. self.new.trees.counts ≡ map.insert self.old.trees.counts region.in_pool.number 0) }
         ensures keeps { KeepsTrees self.old self.new }
         ensures nodes { self.new.trees.nodes ≡ self.old.trees.nodes }
+        ensures spare { self.new.trees.spare ≡ self.old.trees.spare }
         ensures symbols { self.new.symbols ≡ self.old.symbols }
         ensures err { OnErr result (self.new ≡ self.old) }
     {
@@ -70,6 +71,7 @@ impl Work {
         ensures counts { self.new.trees.counts ≡ self.old.trees.counts }
         ensures keeps { KeepsTrees self.old self.new }
         ensures nodes { self.new.trees.nodes ≡ self.old.trees.nodes }
+        ensures spare { self.new.trees.spare ≡ self.old.trees.spare }
         ensures symbols { self.new.symbols ≡ self.old.symbols }
         ensures err { OnErr result (self.new ≡ self.old) }
     {
