@@ -1,5 +1,4 @@
 use Rattle.std.proofs.Common.{refl}
-use Rattle.syntax_tree.specs.declared.trees.Work.{Work}
 use Rattle.syntax_tree.proofs.WorkLaws.{spare_keeps}
 use Rattle.syntax_tree.proofs.trees.Work.reserve.Goals as goal
 

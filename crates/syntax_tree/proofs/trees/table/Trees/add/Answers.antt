@@ -5,7 +5,7 @@ use Rattle.node_pool.specs.NodePool as pool
 use Rattle.node_pool.specs.Pools.{HasRanks}
 use Rattle.syntax_tree.specs.Nodes.{IsPut}
 use Rattle.syntax_tree.specs.Regions.{Forest, Regions, count_at, MayNameParts}
-use Rattle.syntax_tree.specs.Kept.{shape_of, KeptNodes, nodes_of, size_at, depth_at, shape_size, shape_depth, regions_of, IsTable}
+use Rattle.syntax_tree.specs.Kept.{shape_of, nodes_of, regions_of, IsTable}
 use Rattle.syntax_tree.specs.declared.trees.measures.Kept.{Kept}
 use Rattle.syntax_tree.proofs.NodeLaws.{put_seen, ranks_seen, count_seen}
 use Rattle.syntax_tree.proofs.OuterLaws.{is_open, counted_again, count_is}
