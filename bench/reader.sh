@@ -9,7 +9,7 @@ trap 'rm -rf "$work"' EXIT
 
 timed=$work/crates/reader_timed
 mkdir -p "$timed/src" "$timed/proofs/planted" "$timed/proofs/count"
-for crate in ls_base scheme_model scheme_tokens syntax_tree datum_reader; do
+for crate in ls_base scheme_model node_pool scheme_tokens syntax_tree datum_reader; do
   mkdir "$work/crates/$crate"
   (cd "$top/crates/$crate" && for part in src specs proofs; do [ ! -d "$part" ] || cp -r "$part" "$work/crates/$crate/"; done)
   grep "^$crate:" "$top/crates.txt" >> "$work/crates.txt"

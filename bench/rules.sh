@@ -11,7 +11,7 @@ trap 'rm -rf "$work"' EXIT
 
 timed=$work/crates/rules_timed
 mkdir -p "$timed/src" "$timed/proofs"
-for crate in ls_base scheme_model scheme_tokens syntax_tree datum_reader rules_check rules_match rules_build; do
+for crate in ls_base scheme_model node_pool scheme_tokens syntax_tree datum_reader rules_check rules_match rules_build; do
   mkdir "$work/crates/$crate"
   (cd "$top/crates/$crate" && for part in src specs proofs; do [ ! -d "$part" ] || cp -r "$part" "$work/crates/$crate/"; done)
   grep "^$crate:" "$top/crates.txt" >> "$work/crates.txt"

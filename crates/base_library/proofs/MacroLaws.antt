@@ -46,7 +46,7 @@ pair_kept : (a b : Work) (region : Region) → KeepsTrees a b → (r : code_rule
 pair_kept a b region keeps r p h = record {
   pattern = keeps.trees r.pattern p.0 h.pattern;
   template = keeps.trees r.template p.1 h.template;
-  lie = record { pattern = keeps.places r.pattern region.number h.lie.pattern; template = keeps.places r.template region.number h.lie.template };
+  lie = record { pattern = keeps.places r.pattern region.in_pool.number h.lie.pattern; template = keeps.places r.template region.in_pool.number h.lie.template };
 }
 
 pub pairs_kept : (a b : Work) (region : Region) → KeepsTrees a b → (rs : List code_rule.Rule) (ps : List (Tree Identifier × Tree Identifier)) → Each (IsPair a region) rs ps → Each (IsPair b region) rs ps

@@ -91,7 +91,7 @@ lie_drop w region zero ns h = h
 lie_drop w region (suc k) [] h = tt
 lie_drop w region (suc k) (n ∷ ns) h = lie_drop w region k ns h.1
 
-lie_push : (w : Work) (region : Region) (ns : List ℕ) (n : ℕ) → AllLie w region ns → region_at w.trees.nodes n ≡ Some region.number → AllLie w region (ns ++ n ∷ [])
+lie_push : (w : Work) (region : Region) (ns : List ℕ) (n : ℕ) → AllLie w region ns → region_at w.trees.nodes n ≡ Some region.in_pool.number → AllLie w region (ns ++ n ∷ [])
 lie_push w region [] n h at = (at, tt)
 lie_push w region (m ∷ ns) n h at = (h.0, lie_push w region ns n h.1 at)
 
@@ -193,7 +193,7 @@ module _ (start w : Work) (region : Region) (ts : Row) (ns : List code.Tree) (h 
         stand = all_kept w new (names_keep w names keeps) (trees_from ts) (numbers ns) h.stand;
         lie = h.lie;
         of_last = i.0.tree w.trees.nodes;
-        can_name = subst (λ (l : List ℕ). AllByRecursion (MayName w.trees.nodes w.trees.regions region.number) l) (sym i.0.alone) tt;
+        can_name = subst (λ (l : List ℕ). AllByRecursion (MayName w.trees.nodes w.trees.regions region.in_pool.number) l) (sym i.0.alone) tt;
       }
 
   pub leaf_broken : (names : Names) (t : Tree Identifier) (e : Memory) → Interns w.symbols names t (Err e) → Breaks start (with_names w names) region (ts ++ t ∷ []) fault.Memory
@@ -224,7 +224,7 @@ module _ (start w : Work) (region : Region) (ts : Row) (ns : List code.Tree) (h 
         }
       where
         may_name_list : (end : Option code.Tree) → AllLie c region (tail_numbers end) → (items : List ℕ) → AllLie c region items →
-            AllByRecursion (MayName c.trees.nodes c.trees.regions region.number) (parts_of (list_shape items (option_map (λ (t : code.Tree). t.number) end) None))
+            AllByRecursion (MayName c.trees.nodes c.trees.regions region.in_pool.number) (parts_of (list_shape items (option_map (λ (t : code.Tree). t.number) end) None))
         may_name_list None end_lie items l = may_name c region items l
         may_name_list (Some n) end_lie items l = may_name c region (n.number ∷ items) (end_lie.0, l)
 
@@ -239,7 +239,7 @@ module _ (start w : Work) (region : Region) (ts : Row) (ns : List code.Tree) (h 
 -- ---- the outermost node
 
 module _ (start b : Work) (region : Region) (left : Row) (t : Tree Identifier) (ns : List code.Tree) (node : Node) (h : IsReady start b region left t ns node) where
-  pub put_on : (c : Work) (n : code.Tree) → KeepsTrees b c → SameRegions b c → c.symbols ≡ b.symbols → IsPut b.trees.nodes c.trees.nodes n.number (lived_in region node) →
+  pub put_on : (c : Work) (n : code.Tree) → KeepsTrees b c → SameRegions b c → c.symbols ≡ b.symbols → IsPut b.trees.nodes c.trees.nodes n.number (lived_in b region node) →
       live_count c ≡ live_count b + 1 → StandsFor c n t → LiesIn c region n → Holds start c region (left ++ t ∷ []) (ns ++ n ∷ [])
   put_on c n keeps same symbols put more stands lies =
       let all : numbers ns ++ n.number ∷ [] ≡ numbers (ns ++ n ∷ []) = sym (map-append (λ (t : code.Tree). t.number) ns (n ∷ [])) in

@@ -83,12 +83,12 @@ pub grows_names : (w : Work) (names : Names) (region : Region) → KeepsNames w.
 grows_names w names region keeps = record { trees = names_keep w names keeps; names = keeps; added = λ n l h. inl h; regions = record { identity = refl; regions = refl } }
 
 -- a node was added
-pub grows_put : (a b : Work) (region : Region) (node : Node) (n : ℕ) → KeepsTrees a b → SameRegions a b → b.symbols ≡ a.symbols → IsPut a.trees.nodes b.trees.nodes n (lived_in region node) → Grows a b region
+pub grows_put : (a b : Work) (region : Region) (node : Node) (n : ℕ) → KeepsTrees a b → SameRegions a b → b.symbols ≡ a.symbols → IsPut a.trees.nodes b.trees.nodes n (lived_in a region node) → Grows a b region
 grows_put a b region node n keeps same symbols put = record {
   trees = keeps;
   names = subst (λ (names : Names). KeepsNames a.symbols names) (sym symbols) (names_itself a.symbols);
   added = λ m l at.
-      elim (put_cases a.trees.nodes b.trees.nodes n (lived_in region node) put m l at) [
+      elim (put_cases a.trees.nodes b.trees.nodes n (lived_in a region node) put m l at) [
         | inl was ↦ inl was
         | inr is ↦ inr (ap (map.get a.trees.nodes) is.0 ∙ put.free, ap (λ (x : Lived). x.region) is.1)
       ];
@@ -104,12 +104,12 @@ all_kept a b keeps (tree t ts) (n ∷ ns) h = (keeps.trees (record { number = n 
 
 pub lie_kept : (a b : Work) (region : Region) → KeepsTrees a b → (ns : List ℕ) → AllLie a region ns → AllLie b region ns
 lie_kept a b region keeps [] h = tt
-lie_kept a b region keeps (n ∷ ns) h = (keeps.places (record { number = n }) region.number h.0, lie_kept a b region keeps ns h.1)
+lie_kept a b region keeps (n ∷ ns) h = (keeps.places (record { number = n }) region.in_pool.number h.0, lie_kept a b region keeps ns h.1)
 
 -- nodes of the region may name what lies in it
-pub may_name : (w : Work) (region : Region) (ns : List ℕ) → AllLie w region ns → AllByRecursion (MayName w.trees.nodes w.trees.regions region.number) ns
+pub may_name : (w : Work) (region : Region) (ns : List ℕ) → AllLie w region ns → AllByRecursion (MayName w.trees.nodes w.trees.regions region.in_pool.number) ns
 may_name w region [] h = tt
-may_name w region (n ∷ ns) h = ((region.number, h.0, itself), may_name w region ns h.1)
+may_name w region (n ∷ ns) h = ((region.in_pool.number, h.0, itself), may_name w region ns h.1)
 
 -- ---- faults
 
@@ -138,7 +138,7 @@ adds_only a b region names total count most p keeps fits = record {
 
 module _ (a b : Work) (region : Region) (t : Tree Identifier) (node : Node) (h : Prepares a b region t (Ok node)) where
   -- it was added
-  pub put_last : (c : Work) (n : code.Tree) → KeepsTrees b c → SameRegions b c → c.symbols ≡ b.symbols → IsPut b.trees.nodes c.trees.nodes n.number (lived_in region node) →
+  pub put_last : (c : Work) (n : code.Tree) → KeepsTrees b c → SameRegions b c → c.symbols ≡ b.symbols → IsPut b.trees.nodes c.trees.nodes n.number (lived_in b region node) →
       live_count c ≡ live_count b + 1 → StandsFor c n t → LiesIn c region n → Seeds a c region t (Ok n)
   put_last c n keeps same symbols put more stands lies = (
     record {
@@ -192,7 +192,7 @@ leaf_prepared w names region t u node same size keeps h =
       size,
       record { grows = grows_names w names region keeps; names = h.1 ∙ ap (λ (x : Tree Identifier). interned x w.symbols) (sym same); nodes = omega arith },
       subst (λ (x : Tree Identifier). IsNodeOf made node x) (sym same) (h.0.tree w.trees.nodes),
-      subst (λ (ns : List ℕ). AllByRecursion (MayName made.trees.nodes made.trees.regions region.number) ns) (sym h.0.alone) tt,
+      subst (λ (ns : List ℕ). AllByRecursion (MayName made.trees.nodes made.trees.regions region.in_pool.number) ns) (sym h.0.alone) tt,
     )
 
 pub leaf_failed : (w : Work) (names : Names) (region : Region) (t u : Tree Identifier) (e : Memory) → u ≡ t → 0 + 1 ≡ tree_size u → Interns w.symbols names t (Err e) →

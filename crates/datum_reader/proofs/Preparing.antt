@@ -44,7 +44,7 @@ module _ (a b : Work) (region : Region) (ts : Trees Identifier) (o : Option Occ)
 
 -- nodes of the region may name the parts and the tail of a list
 list_names : (w : Work) (region : Region) (items : List ℕ) (end : Option code.Tree) (o : Option Occ) → AllLie w region items → AllLie w region (tail_numbers end) →
-    AllByRecursion (MayName w.trees.nodes w.trees.regions region.number) (parts_of (list_shape items (option_map (λ (t : code.Tree). t.number) end) o))
+    AllByRecursion (MayName w.trees.nodes w.trees.regions region.in_pool.number) (parts_of (list_shape items (option_map (λ (t : code.Tree). t.number) end) o))
 list_names w region items None o h k = may_name w region items h
 list_names w region items (Some n) o h k = may_name w region (n.number ∷ items) (k.0, h)
 

@@ -27,7 +27,7 @@ stand_push nodes names [] (m ∷ ns) t n h s = absurd h
 stand_push nodes names (u ∷ ts) [] t n h s = absurd h
 stand_push nodes names (u ∷ ts) (m ∷ ns) t n h s = (h.0, stand_push nodes names ts ns t n h.1 s)
 
-lie_push : (w : Work) (region : Region) (ns : List ℕ) (n : ℕ) → AllLie w region ns → region_at w.trees.nodes n ≡ Some region.number → AllLie w region (ns ++ n ∷ [])
+lie_push : (w : Work) (region : Region) (ns : List ℕ) (n : ℕ) → AllLie w region ns → region_at w.trees.nodes n ≡ Some region.in_pool.number → AllLie w region (ns ++ n ∷ [])
 lie_push w region [] n h at = (at, tt)
 lie_push w region (m ∷ ns) n h at = (h.0, lie_push w region ns n h.1 at)
 

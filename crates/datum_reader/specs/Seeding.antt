@@ -76,7 +76,7 @@ Fails old most fault.Memory = Unit {0}
 
 -- the numbers are of nodes in the region
 abbrev pub AllLie : Work → Region → List ℕ → Type 0
-AllLie work region ns = AllByRecursion (λ n. region_at work.trees.nodes n ≡ Some region.number) ns
+AllLie work region ns = AllByRecursion (λ n. region_at work.trees.nodes n ≡ Some region.in_pool.number) ns
 
 -- how seeding of a tree, of trees in a row and of a tail ends
 abbrev pub Seeds : Work → Work → Region → Tree Identifier → Result code.Tree PoolFault → Type 0

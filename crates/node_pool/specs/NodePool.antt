@@ -37,7 +37,7 @@ module _ {N : Type 0} where
   abbrev pub back_to : Nodes N → ℕ → ℕ → Nodes N
   back_to nodes region count = map.retain_keys nodes (λ id. stays region count (map.get nodes id))
 
-abbrev lived_code : {N : Type 0} → Coded N → Coded (Lived N)
+abbrev pub lived_code : {N : Type 0} → Coded N → Coded (Lived N)
 lived_code {N} code =
     code_by (N × (ℕ × ℕ)) (coded× code (coded× coded_ℕ coded_ℕ)) (λ l. (l.node, (l.region, l.rank))) (λ p. record { node = p.0; region = p.1.0; rank = p.1.1 }) (λ _. refl)
 

@@ -4,8 +4,6 @@
 mod faults;
 mod pool;
 mod slots;
-#[cfg(test)]
-mod tests;
 
 pub use faults::{Mem, Memory, PoolFault};
 pub use pool::{Mark, NodeId, Pool, Region};

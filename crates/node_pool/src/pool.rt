@@ -1,7 +1,7 @@
 //! The pool: nodes by ids, in regions that go back to a mark and end.
 ghost use Rattle.std.specs.Prelude.{◌≡◌, ◌≢◌, ℕ, ◌+◌, ◌-◌, ◌^◌, ◌<◌, ◌≤◌, ◌↔◌, Err, Some, None, IsSome, IsOk, IfOk, OnOk, OnErr};
 ghost use Rattle.std.specs.FinMap as map;
-ghost use Rattle.node_pool.specs.NodePool.{Nodes, IsPut, back_to};
+ghost use Rattle.node_pool.specs.NodePool.{Lived, Nodes, IsPut, back_to};
 ghost use Rattle.node_pool.specs.Pools.{live_count, node_at, IsLive, IsOpened, count_in, lived_in, Keeps, Reaches, HasRanks, OnlyAdds};
 ghost use Rattle.node_pool.specs.declared.pool.Region.{Region as AnyRegion};
 
@@ -16,7 +16,7 @@ use std::sync::ledger::Blank;
 const MAX_LIVE: usize = 2_147_483_648;
 
 /// The id of a node. It is its node's own as long as that lives.
-#[derive(Clone, Copy, Debug, PartialEq, Eq, PartialOrd, Ord, Hash)]
+#[derive(Clone, Copy)]
 pub struct NodeId {
     pub number: u32,
 }
@@ -28,8 +28,17 @@ pub struct Region {
     pool: Rc<Blank>,
 }
 
+impl Region {
+    /// The number of the region. Another one may get it once this one has ended.
+    pub fn number(&self) -> usize
+        ensures { result ≡ self.now.number }
+    {
+        self.number
+    }
+}
+
 /// A moment of a region, to which it can go back: how many nodes it had.
-#[derive(Clone, Copy, Debug, PartialEq, Eq)]
+#[derive(Clone, Copy)]
 pub struct Mark {
     count: u32,
 }
@@ -180,6 +189,14 @@ impl<N: Drop> Pool<N> {
         ensures few { result ≤ 2 ^ 31 }
     {
         self.nodes.live() as u32
+    }
+
+    /// Nodes live in open regions alone, and those of a region have the ranks below its count.
+    pub fn ranked(&self)
+        ensures homes { (id : ℕ) (l : Lived N) → map.get self.now.nodes id ≡ Some l → IsSome (map.get self.now.regions l.region) }
+        ensures ranks { (region count : ℕ) → map.get self.now.regions region ≡ Some count → HasRanks self.now.nodes region count }
+    {
+        let _nodes = &self.nodes;
     }
 
     // How many nodes a region has: they have the ranks below.

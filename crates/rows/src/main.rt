@@ -46,6 +46,13 @@
 //!                                 `["noted",SCOPE,IDENTIFIER,HEAD]` for a meaning and the questions that were noted
 //!         [["noted",0,["q",0,[]],true]]   -> [[["free",0],["lookup",0,true,["free",0]]]]
 //!
+//! Nodes, which are characters, in a pool with one region, whose begin is marked.
+//!
+//!     nodes/of [STEP,..]          what those steps answer that ask. A string puts its first character: its id, and what lives under
+//!                                 it; a number makes room for so many puts; "mark" marks this moment; "back" goes back to the mark,
+//!                                 and "end" ends the region and opens another: how many live
+//!         ["a","mark","b","back","c"]   -> [[0,"a"],[1,"b"],1,[1,"c"]]
+//!
 //! Positions, whose characters are counted in an encoding.
 //!
 //!     positions/offset [TEXT,POSITION,ENCODING]   the offset in bytes of a position
@@ -93,6 +100,7 @@
 #![tactic(auto)]
 
 mod data;
+mod nodes;
 mod positions;
 mod scopes;
 mod store;
@@ -116,6 +124,7 @@ fn answer_to(out: &mut Shown, store: &mut Store, call: &Call<'_>, argument: &Val
         "data" => Ok(data::answer(out, call.name, argument)?),
         "scopes" => Ok(scopes::answer(out, call.name, argument)?),
         "units" => Ok(units::answer(out, call.name, argument)?),
+        "nodes" => Ok(nodes::answer(out, call.name, argument)?),
         "positions" => Ok(positions::answer(out, call.name, argument)?),
         "store" => Ok(store::answer(out, store, call.name, argument)?),
         _ => Err(RowFault::NoCall),

@@ -107,12 +107,12 @@ pub grows_more : (a b : Work) (region : Region) (k : Number) (m most : ℕ) → 
 grows_more a b region k m most p l = record { trees = p.trees; names = p.names; added = p.added; regions = p.regions; nodes = omega (arith, p.nodes, l) }
 
 -- a node was added
-pub grows_put : (a b : Work) (region : Region) (k : Number) (x : Node) (n : ℕ) → KeepsTrees a b → SameRegions a b → b.symbols ≡ a.symbols → IsPut a.trees.nodes b.trees.nodes n (lived_in region x) → live_count b ≡ live_count a + 1 → Grows a b region k 1
+pub grows_put : (a b : Work) (region : Region) (k : Number) (x : Node) (n : ℕ) → KeepsTrees a b → SameRegions a b → b.symbols ≡ a.symbols → IsPut a.trees.nodes b.trees.nodes n (lived_in a region x) → live_count b ≡ live_count a + 1 → Grows a b region k 1
 grows_put a b region k x n keeps same symbols put more = record {
   trees = keeps;
   names = subst (λ (names : Names). Inserts a.symbols names k) (sym symbols) (inserts_none a.symbols k);
   added = λ m l at.
-      elim (put_cases a.trees.nodes b.trees.nodes n (lived_in region x) put m l at) [
+      elim (put_cases a.trees.nodes b.trees.nodes n (lived_in a region x) put m l at) [
         | inl was ↦ inl was
         | inr is ↦ inr (ap (map.get a.trees.nodes) is.0 ∙ put.free, ap (λ (y : Lived). y.region) is.1)
       ];
@@ -145,7 +145,7 @@ grows_names w names region k n h = record { trees = names_keep w names h.keeps; 
 
 module _ (old new : Work) (region : Region) (trees : KeepsTrees old new) (names : KeepsNames old.symbols new.symbols) where
   pub name_kept : (n : number.Tree) → CanName old region n → CanName new region n
-  name_kept n h = (h.0, trees.places n h.0 h.1, trees.outlives h.0 region.number h.2)
+  name_kept n h = (h.0, trees.places n h.0 h.1, trees.outlives h.0 region.in_pool.number h.2)
 
   pub rest_kept : (n : number.Tree) (from : ℕ) (us : Trees Identifier) (tail : Tail Identifier) → IsRestOf old region n from us tail → IsRestOf new region n from us tail
   rest_kept n from us tail h = record { parts = h.parts; place = h.place; whole = trees.trees n (list h.parts tail h.place) h.whole; within = h.within; rest = h.rest; named = name_kept n h.named }
@@ -191,7 +191,7 @@ pub named_both : (w : Work) (region : Region) (ns ms : List number.Tree) → Are
 named_both w region [] ms h g = g
 named_both w region (n ∷ ns) ms h g = (h.0, named_both w region ns ms h.1 g)
 
-pub named_parts : (w : Work) (region : Region) (ns : List number.Tree) → AreNamed w region ns → AllByRecursion (MayName w.trees.nodes w.trees.regions region.number) (numbers ns)
+pub named_parts : (w : Work) (region : Region) (ns : List number.Tree) → AreNamed w region ns → AllByRecursion (MayName w.trees.nodes w.trees.regions region.in_pool.number) (numbers ns)
 named_parts w region [] h = tt
 named_parts w region (n ∷ ns) h = (h.0, named_parts w region ns h.1)
 
@@ -305,7 +305,7 @@ row_grows a b region k ds j ns u = grows_more a b region k u.count (all_make ds)
 
 -- ---- a list that is copied
 
-named_from : (w : Work) (region : Region) (ns : List number.Tree) → AllByRecursion (MayName w.trees.nodes w.trees.regions region.number) (numbers ns) → AreNamed w region ns
+named_from : (w : Work) (region : Region) (ns : List number.Tree) → AllByRecursion (MayName w.trees.nodes w.trees.regions region.in_pool.number) (numbers ns) → AreNamed w region ns
 named_from w region [] h = tt
 named_from w region (n ∷ ns) h = (h.0, named_from w region ns h.1)
 

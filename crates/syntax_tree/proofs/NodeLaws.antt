@@ -1,45 +1,32 @@
--- The nodes as a map, and the vector that keeps them.
-use Rattle.std.proofs.Common.{◌≡◌, ◌≢◌, ℕ, zero, suc, ◌+◌, ◌<◌, Bool, true, false, cond, List, [], ◌∷◌, ◌++◌, length, slice_get, Option, Some, None, refl, sym, ap, ◌∙◌, inl, inr, arith}
-use Rattle.std.specs.Prelude.{◌⊎◌, is_some}
+-- The nodes as a map, without the measures that the pool keeps with them.
+use Rattle.std.proofs.Common.{◌≡◌, ◌≢◌, ℕ, ◌+◌, ◌<◌, Bool, true, false, cond, Option, Some, None, refl, sym, ap, subst, ◌∙◌, inl, inr}
+use Rattle.std.specs.Prelude.{◌⊎◌, is_some, IsSome}
 use Rattle.std.specs.Option.{option_map}
 use Rattle.std.specs.Ordering.{nat_cmp, eq_by_cmp}
-use Rattle.std.specs.Cmp.{unsigned_tied, nat_cmp_total}
+use Rattle.std.specs.Cmp.{nat_cmp_total}
 use Rattle.std.specs.FinMap as map
-use Rattle.std.specs.FinMap.{get-insert, get-from_entries, len-insert, from_entries_push, nat_cmp-IsAntisymmetric}
-use Rattle.std.proofs.lemmas.Bool.Decides.{nat_tests}
-use Rattle.std.proofs.lemmas.Option.{slice_get_past, same_Some}
-use Rattle.syntax_tree.specs.Nodes.{Shape, Lived, Nodes, shape_at, KeepsNodes, IsPut}
-use Rattle.syntax_tree.specs.Kept.{shape_of, lived_as, entries_from, nodes_of}
+use Rattle.std.specs.FinMap.{get-insert, len-insert}
+use Rattle.std.proofs.lemmas.Bool.{cases_eq}
+use Rattle.std.proofs.lemmas.Option.{same_Some}
+use Rattle.node_pool.specs.NodePool as pool
+use Rattle.node_pool.specs.Pools.{HasRanks}
+use Rattle.node_pool.proofs.MapLaws.{tied, apart, holds}
+use Rattle.node_pool.proofs.BackLaws.{get_back}
+use Rattle.syntax_tree.specs.Nodes.{Shape, Lived, Nodes, shape_at, IsPut, back_to}
+use Rattle.syntax_tree.specs.Kept.{shape_of, KeptNodes, lived_as, nodes_of}
 use Rattle.syntax_tree.specs.declared.trees.measures.Kept.{Kept}
 use Rattle.syntax_tree.proofs.Places.{none_some}
+use Rattle.syntax_tree.proofs.SeenLaws.{same_finite, get_seen, len_seen, seen_at, seen_insert, found_seen}
 
 pub map_some : {A B : Type 0} (f : A → B) (o : Option A) (y : B) → option_map f o ≡ Some y → (x : A) × (o ≡ Some x) × (f x ≡ y)
 map_some f None y h = none_some y h
 map_some f (Some x) y h = (x, refl, same_Some (f x) y h)
 
--- ---- numbers as keys
-
-tied : (n : ℕ) → eq_by_cmp nat_cmp n n ≡ true
-tied n = unsigned_tied n n ∙ grind (arith, nat_tests)
-
-apart : (m n : ℕ) → m ≢ n → eq_by_cmp nat_cmp m n ≡ false
-apart m n h = unsigned_tied m n ∙ grind (arith, nat_tests)
-
-tells : (m n : ℕ) → (m ≡ n) ⊎ (m ≢ n)
-tells zero zero = inl refl
-tells zero (suc n) = inr (λ e. absurd (omega (arith, e)))
-tells (suc m) zero = inr (λ e. absurd (omega (arith, e)))
-tells (suc m) (suc n) =
-    elim (tells m n) [
-      | inl e ↦ inl (ap suc e)
-      | inr ne ↦ inr (λ e. ne (omega (arith, e)))
-    ]
-
 -- ---- a node that is put
 
-module _ (old new : Nodes) (n : ℕ) (l : Lived) (h : IsPut old new n l) where
+module _ {N : Type 0} (old new : pool.Nodes N) (n : ℕ) (l : pool.Lived N) (h : IsPut old new n l) where
   got : (m : ℕ) → map.get new m ≡ cond (eq_by_cmp nat_cmp m n) (Some l) (map.get old m)
-  got m = ap (λ (nodes : Nodes). map.get nodes m) h.put ∙ get-insert nat_cmp_total old n l m
+  got m = ap (λ (nodes : pool.Nodes N). map.get nodes m) h.put ∙ get-insert nat_cmp_total old n l m
 
   pub put_there : map.get new n ≡ Some l
   put_there = got n ∙ ap (λ (b : Bool). cond b (Some l) (map.get old n)) (tied n)
@@ -47,79 +34,86 @@ module _ (old new : Nodes) (n : ℕ) (l : Lived) (h : IsPut old new n l) where
   pub put_other : (m : ℕ) → m ≢ n → map.get new m ≡ map.get old m
   put_other m ne = got m ∙ ap (λ (b : Bool). cond b (Some l) (map.get old m)) (apart m n ne)
 
-  clash : (m : ℕ) (x : Lived) → map.get old m ≡ Some x → m ≢ n
+  clash : (m : ℕ) (x : pool.Lived N) → map.get old m ≡ Some x → m ≢ n
   clash m x at e = none_some x (sym h.free ∙ ap (map.get old) (sym e) ∙ at)
 
-  pub put_keeps : KeepsNodes old new
+  -- what lived lives on
+  pub put_keeps : (m : ℕ) (x : pool.Lived N) → map.get old m ≡ Some x → map.get new m ≡ Some x
   put_keeps m x at = put_other m (clash m x at) ∙ at
 
   -- each node that lives did so before, or is the one that was put
-  pub put_cases : (m : ℕ) (x : Lived) → map.get new m ≡ Some x → (map.get old m ≡ Some x) ⊎ ((m ≡ n) × (x ≡ l))
+  pub put_cases : (m : ℕ) (x : pool.Lived N) → map.get new m ≡ Some x → (map.get old m ≡ Some x) ⊎ ((m ≡ n) × (x ≡ l))
   put_cases m x at =
-      elim (tells m n) [
+      elim (cases_eq m n) [
         | inl e ↦ inr (e, same_Some x l (sym at ∙ ap (map.get new) e ∙ put_there))
         | inr ne ↦ inl (sym (put_other m ne) ∙ at)
       ]
 
   pub put_counts : map.len new ≡ map.len old + 1
-  put_counts = ap (λ (nodes : Nodes). map.len nodes) h.put ∙ len-insert nat_cmp_total old n l ∙ ap (λ (o : Option Lived). cond (is_some o) (map.len old) (map.len old + 1)) h.free
+  put_counts = ap (λ (nodes : pool.Nodes N). map.len nodes) h.put ∙ len-insert nat_cmp_total old n l ∙ ap (λ (o : Option (pool.Lived N)). cond (is_some o) (map.len old) (map.len old + 1)) h.free
 
--- ---- the vector
+-- ---- the nodes of the pool
 
-none_before : (i j : ℕ) (ks : List Kept) → i < j → map.find nat_cmp i (entries_from j ks) ≡ None
-none_before i j [] lt = refl
-none_before i j (k ∷ ks) lt =
-    ap (λ (b : Bool). cond b (Some (lived_as k)) (map.find nat_cmp i (entries_from (suc j) ks))) (apart i j (λ e. absurd (omega (arith, e, lt))))
-    ∙ none_before i (suc j) ks (omega (arith, lt))
+-- a node that lives has measures
+pub kept_at : (ns : KeptNodes) (n : ℕ) (s : Shape) → shape_at (nodes_of ns) n ≡ Some s → (k : pool.Lived Kept) × (map.get ns n ≡ Some k) × (shape_of k.node.node ≡ s)
+kept_at ns n s h =
+    let p = map_some (λ (l : Lived). l.node) (map.get (nodes_of ns) n) s h in
+    let q = found_seen lived_as ns n p.0 p.1 in
+    (q.0, q.1, ap (λ (l : Lived). l.node) q.2 ∙ p.2)
 
-find_at : (i n : ℕ) (ks : List Kept) → map.find nat_cmp (n + i) (entries_from i ks) ≡ option_map lived_as (slice_get ks n)
-find_at i n [] = refl
-find_at i zero (k ∷ ks) =
-    let same : zero + i ≡ i = omega arith in
-    let here : eq_by_cmp nat_cmp (zero + i) i ≡ true = ap (λ (m : ℕ). eq_by_cmp nat_cmp m i) same ∙ tied i in
-    ap (λ (b : Bool). cond b (Some (lived_as k)) (map.find nat_cmp (zero + i) (entries_from (suc i) ks))) here
-find_at i (suc n) (k ∷ ks) =
-    let skip : eq_by_cmp nat_cmp (suc n + i) i ≡ false = apart (suc n + i) i (λ e. absurd (omega (arith, e))) in
-    let later : suc n + i ≡ n + suc i = omega arith in
-    ap (λ (b : Bool). cond b (Some (lived_as k)) (map.find nat_cmp (suc n + i) (entries_from (suc i) ks))) skip
-    ∙ ap (λ (m : ℕ). map.find nat_cmp m (entries_from (suc i) ks)) later ∙ find_at (suc i) n ks
+pub lived_at : (ns : KeptNodes) (n : ℕ) (k : pool.Lived Kept) → map.get ns n ≡ Some k → map.get (nodes_of ns) n ≡ Some (lived_as n k)
+lived_at ns n k h = seen_at lived_as ns n k h
 
--- the node of a number is the one at this place
-pub get_kept : (ks : List Kept) (n : ℕ) → map.get (nodes_of ks) n ≡ option_map lived_as (slice_get ks n)
-get_kept ks n =
-    let from : n + 0 ≡ n = omega arith in
-    get-from_entries nat_cmp_total (entries_from 0 ks) n ∙ ap (λ (m : ℕ). map.find nat_cmp m (entries_from 0 ks)) (sym from) ∙ find_at 0 n ks
+pub is_kept : (ns : KeptNodes) (n : ℕ) → IsSome (map.get (nodes_of ns) n) → (k : pool.Lived Kept) × (map.get ns n ≡ Some k)
+is_kept ns n h =
+    let p = holds (map.get (nodes_of ns) n) h in
+    let q = found_seen lived_as ns n p.0 p.1 in
+    (q.0, q.1)
 
-pub kept_at : (ks : List Kept) (n : ℕ) (s : Shape) → shape_at (nodes_of ks) n ≡ Some s → (k : Kept) × (slice_get ks n ≡ Some k) × (shape_of k.node ≡ s)
-kept_at ks n s h =
-    let p = map_some (λ (l : Lived). l.shape) (map.get (nodes_of ks) n) s h in
-    let q = map_some lived_as (slice_get ks n) p.0 (sym (get_kept ks n) ∙ p.1) in
-    (q.0, q.1, ap (λ (l : Lived). l.shape) q.2 ∙ p.2)
+-- to put a node into the pool is to put it
+pub put_seen : (old new : KeptNodes) (n : ℕ) (k : pool.Lived Kept) → IsPut old new n k → IsPut (nodes_of old) (nodes_of new) n (lived_as n k)
+put_seen old new n k put = record {
+  free = get_seen lived_as old n ∙ ap (option_map (lived_as n)) put.free;
+  put = ap (λ (x : KeptNodes). nodes_of x) put.put ∙ seen_insert lived_as old n k;
+}
 
-count_from : (i : ℕ) (ks : List Kept) → map.len (map.from_entries {R = nat_cmp} (entries_from i ks)) ≡ length ks
-count_from i [] = map.len-empty nat_cmp Lived
-count_from i (k ∷ ks) =
-    let rest = map.from_entries {R = nat_cmp} (entries_from (suc i) ks) in
-    let new : map.get rest i ≡ None = get-from_entries nat_cmp_total (entries_from (suc i) ks) i ∙ none_before i (suc i) ks (omega arith) in
-    let one : map.len rest + 1 ≡ suc (length ks) = let e = count_from (suc i) ks in omega (arith, e) in
-    len-insert nat_cmp_total rest i (lived_as k) ∙ ap (λ (o : Option Lived). cond (is_some o) (map.len rest) (map.len rest + 1)) new ∙ one
+-- and where a region goes back, the same nodes go
+pub back_seen : (ns : KeptNodes) (r count : ℕ) → nodes_of (back_to ns r count) ≡ back_to (nodes_of ns) r count
+back_seen ns r count = same_finite (nodes_of (back_to ns r count)) (back_to (nodes_of ns) r count) (λ q. by_node q (map.get ns q) refl)
+  where
+    stay : (o : Option (pool.Lived Kept)) (q : ℕ) → pool.stays r count (option_map (lived_as q) o) ≡ pool.stays r count o
+    stay None q = refl
+    stay (Some k) q = refl
 
-pub count_kept : (ks : List Kept) → map.len (nodes_of ks) ≡ length ks
-count_kept ks = count_from 0 ks
+    kept : (b : Bool) (o : Option (pool.Lived Kept)) (q : ℕ) → option_map (lived_as q) (cond b o None) ≡ cond b (option_map (lived_as q) o) None
+    kept true o q = refl
+    kept false o q = refl
 
-entries_push : (i : ℕ) (ks : List Kept) (k : Kept) → entries_from i (ks ++ k ∷ []) ≡ entries_from i ks ++ (length ks + i, lived_as k) ∷ []
-entries_push i [] k = let e : i ≡ 0 + i = omega arith in λ j. (e j, lived_as k) ∷ []
-entries_push i (x ∷ ks) k =
-    let e : length ks + suc i ≡ suc (length ks) + i = omega arith in
-    ap (λ (es : List (ℕ × Lived)). (i, lived_as x) ∷ es) (entries_push (suc i) ks k) ∙ (λ j. (i, lived_as x) ∷ (entries_from (suc i) ks ++ (e j, lived_as k) ∷ []))
+    by_node : (q : ℕ) (o : Option (pool.Lived Kept)) → map.get ns q ≡ o → map.get (nodes_of (back_to ns r count)) q ≡ map.get (back_to (nodes_of ns) r count) q
+    by_node q o e =
+        let there : map.get (nodes_of ns) q ≡ option_map (lived_as q) o = get_seen lived_as ns q ∙ ap (option_map (lived_as q)) e in
+        get_seen lived_as (back_to ns r count) q
+        ∙ ap (option_map (lived_as q)) (get_back ns r count q ∙ ap (λ (x : Option (pool.Lived Kept)). cond (pool.stays r count x) x None) e)
+        ∙ kept (pool.stays r count o) o q
+        ∙ ap (λ (b : Bool). cond b (option_map (lived_as q) o) None) (sym (stay o q))
+        ∙ sym (get_back (nodes_of ns) r count q ∙ ap (λ (x : Option Lived). cond (pool.stays r count x) x None) there)
 
--- to push a node is to put it at the next number
-pub push_puts : (ks : List Kept) (k : Kept) → IsPut (nodes_of ks) (nodes_of (ks ++ k ∷ [])) (length ks) (lived_as k)
-push_puts ks k =
-    let at : length ks + 0 ≡ length ks = omega arith in
-    let free : map.get (nodes_of ks) (length ks) ≡ None = get_kept ks (length ks) ∙ ap (option_map lived_as) (slice_get_past ks (length ks) (omega arith)) in
-    record {
-      free = free;
-      put = ap (λ (es : List (ℕ × Lived)). map.from_entries es) (entries_push 0 ks k ∙ (λ j. entries_from 0 ks ++ (at j, lived_as k) ∷ []))
-          ∙ from_entries_push nat_cmp_total nat_cmp-IsAntisymmetric (entries_from 0 ks) (length ks) (lived_as k) (sym (get-from_entries nat_cmp_total (entries_from 0 ks) (length ks)) ∙ free);
-    }
+-- the nodes of a region have the ranks that they have in the pool
+pub ranks_seen : (ns : KeptNodes) (r count : ℕ) → HasRanks ns r count → HasRanks (nodes_of ns) r count
+ranks_seen ns r count has = record {
+  below = λ n l at e.
+      let q = found_seen lived_as ns n l at in
+      let lt = has.below n q.0 q.1 (ap (λ (x : Lived). x.region) q.2 ∙ e) in
+      subst (λ (x : Lived). x.rank < count) q.2 lt;
+  taken = λ rank lt.
+      let p = has.taken rank lt in
+      (p.0, lived_as p.0 p.1, lived_at ns p.0 p.1 p.2, p.3, p.4);
+  once = λ a b k l at_a at_b ea eb same.
+      let p = found_seen lived_as ns a k at_a in
+      let q = found_seen lived_as ns b l at_b in
+      has.once a b p.0 q.0 p.1 q.1 (ap (λ (x : Lived). x.region) p.2 ∙ ea) (ap (λ (x : Lived). x.region) q.2 ∙ eb)
+      (ap (λ (x : Lived). x.rank) p.2 ∙ same ∙ sym (ap (λ (x : Lived). x.rank) q.2));
+}
+
+pub count_seen : (ns : KeptNodes) → map.len (nodes_of ns) ≡ map.len ns
+count_seen ns = len_seen lived_as ns

@@ -1,5 +1,7 @@
 -- What numbers stand for: one tree at most, and the same tree as long as nodes and names stay.
 use Rattle.std.proofs.Common.{◌≡◌, ℕ, List, [], ◌∷◌, slice_get, Option, Some, None, refl, sym, ap, ◌∙◌, subst}
+use Rattle.std.specs.Prelude.{IsSome}
+use Rattle.std.specs.List.{AllByRecursion}
 use Rattle.std.specs.Option.{option_map}
 use Rattle.std.specs.FinMap as map
 use Rattle.std.proofs.lemmas.Option.{same_Some}
@@ -7,7 +9,7 @@ use Rattle.scheme_model.specs.declared.Occ.{Occ}
 use Rattle.scheme_model.specs.Trees.{Numeral, Quoted, Character, Boolean, Bytes, Tree, name, atom, list, vector, Trees, no_trees, tree, Tail, proper, dotted}
 use Rattle.scheme_model.specs.Ident.{Ident as Identifier}
 use Rattle.syntax_tree.specs.Names.{Names, KeepsNames}
-use Rattle.syntax_tree.specs.Nodes.{Shape, leaf_shape, list_shape, vector_shape, Lived, Nodes, shape_at, KeepsNodes}
+use Rattle.syntax_tree.specs.Nodes.{Shape, leaf_shape, list_shape, vector_shape, parts_of, Lived, Nodes, shape_at, KeepsNodes}
 use Rattle.syntax_tree.specs.Standing.{leaf_tree, LeafStands, Stands, AllStand, TailStands, IsNode}
 use Rattle.syntax_tree.specs.declared.trees.nodes.Leaf.{Leaf}
 use Rattle.syntax_tree.specs.declared.trees.nodes.Leaf.TheVariants as code
@@ -70,8 +72,8 @@ leaf_kept names names' keeps (code.Bytes k) o t h = map_kept (λ (s : List ℕ).
 
 pub shape_kept : (old new : Nodes) → KeepsNodes old new → (n : ℕ) (s : Shape) → shape_at old n ≡ Some s → shape_at new n ≡ Some s
 shape_kept old new keeps n s h =
-    let p = map_some (λ (l : Lived). l.shape) (map.get old n) s h in
-    ap (option_map (λ (l : Lived). l.shape)) (keeps n p.0 p.1) ∙ ap Some p.2
+    let p = map_some (λ (l : Lived). l.node) (map.get old n) s h in
+    ap (option_map (λ (l : Lived). l.node)) (keeps n p.0 p.1) ∙ ap Some p.2
 
 module _ (old new : Nodes) (names names' : Names) (stay : KeepsNodes old new) (keeps : KeepsNames names names') where
   mutual
@@ -97,6 +99,51 @@ module _ (old new : Nodes) (names names' : Names) (stay : KeepsNodes old new) (k
   node_kept (leaf_shape leaf o) t h = leaf_kept names names' keeps leaf o t h
   node_kept (list_shape items end o) t h = (h.0, h.1, h.2, all_kept h.0 items h.3, tail_kept h.1 end h.4)
   node_kept (vector_shape items o) t h = (h.0, h.1, all_kept h.0 items h.2)
+
+-- ---- what stood and is left still stands
+
+module _ (old new : Nodes) (names : Names) (was : (n : ℕ) (l : Lived) → map.get new n ≡ Some l → map.get old n ≡ Some l)
+    (left : (n : ℕ) (l : Lived) → map.get new n ≡ Some l → AllByRecursion (λ p. IsSome (map.get new p)) (parts_of l.node)) where
+  -- a node that is left, with its parts
+  shape_left : (n : ℕ) (s : Shape) → shape_at old n ≡ Some s → IsSome (map.get new n) → (shape_at new n ≡ Some s) × AllByRecursion (λ p. IsSome (map.get new p)) (parts_of s)
+  shape_left n s h live = by_node (map.get new n) refl live
+    where
+      by_node : (o : Option Lived) → map.get new n ≡ o → IsSome o → (shape_at new n ≡ Some s) × AllByRecursion (λ p. IsSome (map.get new p)) (parts_of s)
+      by_node None e is = absurd cc
+      by_node (Some l) e is =
+          let same : l.node ≡ s = same_Some l.node s (sym (ap (option_map (λ (x : Lived). x.node)) (was n l e)) ∙ h) in
+          (ap (option_map (λ (x : Lived). x.node)) e ∙ ap Some same, subst (λ (x : Shape). AllByRecursion (λ p. IsSome (map.get new p)) (parts_of x)) same (left n l e))
+
+  items_left : (items : List ℕ) (end : Option ℕ) (o : Option Occ) → AllByRecursion (λ p. IsSome (map.get new p)) (parts_of (list_shape items end o)) → AllByRecursion (λ p. IsSome (map.get new p)) items
+  items_left items None o h = h
+  items_left items (Some n) o h = h.1
+
+  end_left : (items : List ℕ) (end : Option ℕ) (o : Option Occ) → AllByRecursion (λ p. IsSome (map.get new p)) (parts_of (list_shape items end o)) → (n : ℕ) → end ≡ Some n → IsSome (map.get new n)
+  end_left items None o h n e = none_some n e
+  end_left items (Some m) o h n e = subst (λ (k : ℕ). IsSome (map.get new k)) (same_Some m n e) h.0
+
+  mutual
+    pub stands_left : (t : Tree Identifier) (n : ℕ) → Stands old names t n → IsSome (map.get new n) → Stands new names t n
+    stands_left (name i o) n h live = (h.0, h.1, (shape_left n (leaf_shape h.0 h.1) h.2 live).0, h.3)
+    stands_left (atom a o) n h live = (h.0, h.1, (shape_left n (leaf_shape h.0 h.1) h.2 live).0, h.3)
+    stands_left (list ts tail o) n h live =
+        let p = shape_left n (list_shape h.0 h.1 o) h.2 live in
+        (h.0, h.1, p.0, all_left ts h.0 h.3 (items_left h.0 h.1 o p.1), tail_left tail h.1 h.4 (end_left h.0 h.1 o p.1))
+    stands_left (vector ts o) n h live =
+        let p = shape_left n (vector_shape h.0 o) h.1 live in
+        (h.0, p.0, all_left ts h.0 h.2 p.1)
+
+    all_left : (ts : Trees Identifier) (ns : List ℕ) → AllStand old names ts ns → AllByRecursion (λ p. IsSome (map.get new p)) ns → AllStand new names ts ns
+    all_left no_trees [] h live = tt
+    all_left no_trees (n ∷ ns) h live = h
+    all_left (tree t ts) [] h live = h
+    all_left (tree t ts) (n ∷ ns) h live = (stands_left t n h.0 live.0, all_left ts ns h.1 live.1)
+
+    tail_left : (tail : Tail Identifier) (end : Option ℕ) → TailStands old names tail end → ((n : ℕ) → end ≡ Some n → IsSome (map.get new n)) → TailStands new names tail end
+    tail_left proper None h live = tt
+    tail_left proper (Some n) h live = h
+    tail_left (dotted t) None h live = h
+    tail_left (dotted t) (Some n) h live = (h.0, stands_left t n h.1 (live n refl))
 
 pub names_itself : (names : Names) → KeepsNames names names
 names_itself names = record { symbols = λ n s h. h; idents = λ n i h. h }

@@ -2,12 +2,14 @@
 use Rattle.std.specs.Prelude.{◌≡◌, ◌⊎◌, ℕ, Bool, List, Option, refl}
 use Rattle.std.proofs.Common.{inl, inr}
 use Rattle.std.specs.Coded.{Coded, code_by, coded×, coded⊎, coded_ℕ, coded_bool, coded_list, coded_option}
+use Rattle.std.specs.Ordering.{nat_cmp}
 use Rattle.std.specs.FinMap as map
 use Rattle.scheme_model.specs.declared.Occ.{Occ}
 use Rattle.syntax_tree.specs.declared.trees.nodes.Leaf.{Leaf}
 use Rattle.syntax_tree.specs.declared.trees.nodes.Leaf.TheVariants.{Name, Numeral, Quoted, Char, Bool as Truth, Bytes}
-use Rattle.syntax_tree.specs.Nodes.{Shape, leaf_shape, list_shape, vector_shape, Lived, Nodes}
-use Rattle.syntax_tree.specs.Regions.{Forest}
+use Rattle.node_pool.specs.NodePool.{lived_code}
+use Rattle.syntax_tree.specs.Nodes.{Shape, leaf_shape, list_shape, vector_shape, Nodes}
+use Rattle.syntax_tree.specs.Regions.{Forest, Regions}
 
 -- a place is stored as its three numbers, or as nothing
 abbrev occ_code : Coded (Option Occ)
@@ -68,10 +70,9 @@ abbrev shape_code : Coded Shape
 shape_code =
     code_by Shapes (coded⊎ (coded× leaf_code occ_code) (coded⊎ (coded× (coded_list coded_ℕ) (coded× (coded_option coded_ℕ) occ_code)) (coded× (coded_list coded_ℕ) occ_code))) split joined shape_back
 
-abbrev lived_code : Coded Lived
-lived_code = code_by (Shape × ℕ) (coded× shape_code coded_ℕ) (λ l. (l.shape, l.region)) (λ p. record { shape = p.0; region = p.1 }) (λ _. refl)
-
 abbrev pub forest_code : Coded Forest
 forest_code =
-    code_by (Nodes × (Option ℕ × List (List ℕ))) (coded× (map.code coded_ℕ lived_code) (coded× (coded_option coded_ℕ) (coded_list (coded_list coded_ℕ)))) (λ f. (f.nodes, (f.identity, f.regions)))
-    (λ p. record { nodes = p.0; identity = p.1.0; regions = p.1.1 }) (λ _. refl)
+    code_by (Nodes × (Option ℕ × (Regions × (map.FinMap nat_cmp ℕ × ℕ))))
+    (coded× (map.code coded_ℕ (lived_code shape_code)) (coded× (coded_option coded_ℕ) (coded× (map.code coded_ℕ (coded_list coded_ℕ)) (coded× (map.code coded_ℕ coded_ℕ) coded_ℕ))))
+    (λ f. (f.nodes, (f.identity, (f.regions, (f.counts, f.spare)))))
+    (λ p. record { nodes = p.0; identity = p.1.0; regions = p.1.1.0; counts = p.1.1.1.0; spare = p.1.1.1.1 }) (λ _. refl)

@@ -53,7 +53,7 @@ IsLook work (looks.Vector ns) t = (ts : Trees Identifier) × (o : Option Occ) ×
 
 -- all of these trees
 abbrev pub AllNamed : Work → Region → List number.Tree → Type 0
-AllNamed work region ns = AllByRecursion (MayName work.trees.nodes work.trees.regions region.number) (numbers ns)
+AllNamed work region ns = AllByRecursion (MayName work.trees.nodes work.trees.regions region.in_pool.number) (numbers ns)
 
 -- a tail, where there is one
 abbrev pub EndNamed : Work → Region → Option number.Tree → Type 0

@@ -1,10 +1,11 @@
--- The nodes that live, by number, each with the region that it lies in.
+-- The nodes that live, by number, each with the region that it lies in and its rank there.
 use Rattle.std.specs.Prelude.{◌≡◌, ℕ, List, [], ◌∷◌, Option, Some, None}
 use Rattle.std.specs.Option.{option_map}
-use Rattle.std.specs.Ordering.{nat_cmp}
 use Rattle.std.specs.FinMap as map
+use Rattle.node_pool.specs.NodePool as pool
 use Rattle.scheme_model.specs.declared.Occ.{Occ}
 use Rattle.syntax_tree.specs.declared.trees.nodes.Leaf.{Leaf}
+pub use Rattle.node_pool.specs.NodePool.{IsPut, back_to}
 
 -- a node: a leaf, a list with its tail, or a vector. The parts are numbers of nodes
 pub data Shape : Type 0 where
@@ -19,17 +20,16 @@ parts_of (list_shape items None o) = items
 parts_of (list_shape items (Some n) o) = n ∷ items
 parts_of (vector_shape items o) = items
 
--- a node that lives, and its region
-pub record Lived : Type 0 where
-  pub shape : Shape
-  pub region : ℕ
+-- a node that lives, with its region and its rank
+abbrev pub Lived : Type 0
+Lived = pool.Lived Shape
 
 -- a map from the numbers of the nodes that live
 abbrev pub Nodes : Type 0
-Nodes = map.FinMap nat_cmp Lived
+Nodes = pool.Nodes Shape
 
 abbrev pub shape_at : Nodes → ℕ → Option Shape
-shape_at nodes n = option_map (λ (l : Lived). l.shape) (map.get nodes n)
+shape_at nodes n = option_map (λ (l : Lived). l.node) (map.get nodes n)
 
 abbrev pub region_at : Nodes → ℕ → Option ℕ
 region_at nodes n = option_map (λ (l : Lived). l.region) (map.get nodes n)
@@ -37,8 +37,3 @@ region_at nodes n = option_map (λ (l : Lived). l.region) (map.get nodes n)
 -- each node that lives lives on at its number, as it is and where it lies
 abbrev pub KeepsNodes : Nodes → Nodes → Type 0
 KeepsNodes old new = (n : ℕ) (l : Lived) → map.get old n ≡ Some l → map.get new n ≡ Some l
-
--- a node is put at a number at which none lived, and the others stay
-pub record IsPut (old new : Nodes) (n : ℕ) (l : Lived) : Type 0 where
-  pub free : map.get old n ≡ None
-  pub put : new ≡ map.insert old n l

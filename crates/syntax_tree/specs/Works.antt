@@ -1,11 +1,11 @@
 -- What contracts say of the trees in a work.
-use Rattle.std.specs.Prelude.{◌≡◌, ◌⊎◌, ℕ, ◌<◌, length, Option, Some, None}
+use Rattle.std.specs.Prelude.{◌≡◌, ◌⊎◌, ℕ, ◌<◌, Option, Some, None}
 use Rattle.std.specs.FinMap as map
 use Rattle.scheme_model.specs.Trees.{Tree}
 use Rattle.scheme_model.specs.Ident.{Ident as Identifier}
 use Rattle.syntax_tree.specs.Names.{Names}
 use Rattle.syntax_tree.specs.Nodes.{Shape, Lived, shape_at, region_at}
-use Rattle.syntax_tree.specs.Regions.{Outlives, MayName, MayNameParts}
+use Rattle.syntax_tree.specs.Regions.{IsOpenIn, count_at, Outlives, MayName, MayNameParts}
 use Rattle.syntax_tree.specs.Standing.{Stands, IsNode}
 use Rattle.syntax_tree.specs.Kept.{shape_of}
 use Rattle.syntax_tree.specs.Added.{IsNodeOfSmall}
@@ -13,6 +13,7 @@ use Rattle.syntax_tree.specs.declared.trees.Work.{Work}
 use Rattle.syntax_tree.specs.declared.trees.nodes.Node.{Node}
 use Rattle.syntax_tree.specs.declared.trees.nodes.Tree as code
 use Rattle.syntax_tree.specs.declared.trees.table.Region.{Region}
+use Rattle.node_pool.specs.declared.pool.Mark.{Mark}
 
 -- the number stands for this tree
 abbrev pub StandsFor : Work → code.Tree → Tree Identifier → Type 0
@@ -40,29 +41,38 @@ node_at work n = shape_at work.trees.nodes n.number
 
 -- ---- regions
 
--- the work opened this region, and no other work did
+-- the work opened this region, no other work did, and it wasn't let go
 abbrev pub IsOpened : Work → Region → Type 0
-IsOpened work region = (work.trees.identity ≡ Some region.work.value.name) × (region.number < length work.trees.regions)
+IsOpened work region = IsOpenIn work.trees region.in_pool
 
 -- the tree's outermost node lies in the region
 abbrev pub LiesIn : Work → Region → code.Tree → Type 0
-LiesIn work region n = region_at work.trees.nodes n.number ≡ Some region.number
+LiesIn work region n = region_at work.trees.nodes n.number ≡ Some region.in_pool.number
 
 -- the first region is to be let go only after the second
 abbrev pub OutlivesIn : Work → Region → Region → Type 0
-OutlivesIn work outer inner = Outlives work.trees.regions outer.number inner.number
+OutlivesIn work outer inner = Outlives work.trees.regions outer.in_pool.number inner.in_pool.number
 
 -- nodes of the region may name the tree: it lies in this region or in one that outlives it
 abbrev pub CanName : Work → Region → code.Tree → Type 0
-CanName work region n = MayName work.trees.nodes work.trees.regions region.number n.number
+CanName work region n = MayName work.trees.nodes work.trees.regions region.in_pool.number n.number
 
 -- nodes of the region may name all parts of this node
 abbrev pub CanNameParts : Work → Region → Node → Type 0
-CanNameParts work region node = MayNameParts work.trees.nodes work.trees.regions region.number (shape_of node)
+CanNameParts work region node = MayNameParts work.trees.nodes work.trees.regions region.in_pool.number (shape_of node)
 
--- the node as it lives in the region
-abbrev pub lived_in : Region → Node → Lived
-lived_in region node = record { shape = shape_of node; region = region.number }
+-- how many nodes live in the region
+abbrev pub count_in : Work → Region → ℕ
+count_in work region = count_at work.trees region.in_pool.number
+
+-- the node as it lives in the region, behind those that lived there
+abbrev pub lived_in : Work → Region → Node → Lived
+lived_in work region node = record { node = shape_of node; region = region.in_pool.number; rank = count_in work region }
+
+-- the nodes that the mark counted live in the region
+abbrev pub Reaches : Work → Region → Mark → Type 0
+Reaches work region mark =
+    (rank : ℕ) → rank < mark.count → (n : ℕ) × (l : Lived) × (map.get work.trees.nodes n ≡ Some l) × (l.region ≡ region.in_pool.number) × (l.rank ≡ rank)
 
 -- ---- what a call leaves
 
@@ -81,7 +91,7 @@ pub record SameRegions (old new : Work) : Type 0 where
 -- each node that lives did so before, or was added in this region
 abbrev pub AddsIn : Work → Work → Region → Type 0
 AddsIn old new region =
-    (n : ℕ) (l : Lived) → map.get new.trees.nodes n ≡ Some l → (map.get old.trees.nodes n ≡ Some l) ⊎ ((map.get old.trees.nodes n ≡ None) × (l.region ≡ region.number))
+    (n : ℕ) (l : Lived) → map.get new.trees.nodes n ≡ Some l → (map.get old.trees.nodes n ≡ Some l) ⊎ ((map.get old.trees.nodes n ≡ None) × (l.region ≡ region.in_pool.number))
 
 -- the same nodes over other names
 abbrev pub with_names : Work → Names → Work

@@ -74,7 +74,7 @@ grows_on a b c region p q = record {
 -- ---- trees at work
 
 pub named_on : (a b : Work) (region : Region) (n : number.Tree) → KeepsTrees a b → CanName a region n → CanName b region n
-named_on a b region n keeps h = (h.0, keeps.places n h.0 h.1, keeps.outlives h.0 region.number h.2)
+named_on a b region n keeps h = (h.0, keeps.places n h.0 h.1, keeps.outlives h.0 region.in_pool.number h.2)
 
 pub works_on : (a b : Work) (region : Region) (n : number.Tree) (t : Tree Identifier) → KeepsTrees a b → WorksOn a region n t → WorksOn b region n t
 works_on a b region n t keeps h = (keeps.trees n t h.0, named_on a b region n keeps h.1)

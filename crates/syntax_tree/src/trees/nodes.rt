@@ -22,7 +22,7 @@ pub enum Leaf {
 
 /// A node. The tail of a list is never a list itself. The place is that of a name, or of the first token of anything
 /// else, and there is none where the node was built.
-#[derive(Debug, Drop)]
+#[derive(Drop)]
 pub enum Node {
     Atom {
         leaf: Leaf,

@@ -1,44 +1,39 @@
 //! The table of nodes, and its regions.
-ghost use Rattle.std.specs.Prelude.{◌≡◌, ℕ, ◌+◌, ◌^◌, ◌<◌, ◌≤◌, ◌↔◌, [], ◌∷◌, ◌++◌, Err, Some, None, length, slice_set, slice_index_or, IsSome, IfOk, OnOk, OnErr};
+ghost use Rattle.std.specs.Prelude.{◌≡◌, ◌≢◌, ℕ, ◌+◌, ◌^◌, ◌<◌, ◌≤◌, ◌↔◌, [], Err, Some, None, length, IsSome, IsOk, IfOk, OnOk, OnErr};
 ghost use Rattle.std.specs.FinMap as map;
 ghost use Rattle.scheme_model.specs.Trees.{Tree as ModelTree};
 ghost use Rattle.scheme_model.specs.Measures.{tree_size, tree_depth};
 ghost use Rattle.scheme_model.specs.Ident.{Ident as Identifier};
 ghost use Rattle.ls_base.specs.Limits.{max_tree_nodes, max_tree_depth};
+ghost use Rattle.node_pool.specs.Pools.{HasRanks};
 ghost use Rattle.syntax_tree.specs.Names.{Names};
-ghost use Rattle.syntax_tree.specs.Nodes.{Lived, IsPut, shape_at};
-ghost use Rattle.syntax_tree.specs.Regions.{MayName, MayNameParts, IsClosed};
+ghost use Rattle.syntax_tree.specs.Nodes.{IsPut, back_to, shape_at};
+ghost use Rattle.syntax_tree.specs.Regions.{IsOpenIn, count_at, with_outer, OutlivesNone, CanGoBack, MayName, MayNameParts, IsClosed, ArePartsFirst};
 ghost use Rattle.syntax_tree.specs.Standing.{Stands};
-ghost use Rattle.syntax_tree.specs.Kept.{shape_of};
+ghost use Rattle.syntax_tree.specs.Kept.{shape_of, outers_at};
 ghost use Rattle.syntax_tree.specs.Added.{FitsInto};
 
 use crate::trees::faults::PoolFault;
 use crate::trees::measures::{Kept, measure};
 use crate::trees::nodes::{Node, Tree};
 use ls_base::{Mem, Memory};
+use node_pool::{Mark, NodeId, Pool};
 use std::alloc::Global;
 use std::marker::Model;
-use std::rc::Rc;
-use std::sync::ledger::Blank;
 
-/// The most nodes that live.
-pub const MAX_LIVE: usize = 2_147_483_648;
-
-/// A part of the nodes of one table, which are to be let go together. Nothing is let go yet.
+/// Nodes of one table that are let go together.
 #[derive(Drop)]
 pub struct Region {
-    number: usize,
-    work: Rc<Blank>,
+    in_pool: node_pool::Region,
 }
 
-/// All nodes, by number. What tells them from those of other tables is made with the first region. For each region stand those
-/// that were said to outlive it.
+/// All nodes, by number. For the number of each open region stand the numbers of those that were said to outlive it; where the
+/// vector ends before it, none was.
 #[derive(Drop)]
 pub struct Trees {
     alloc: Global,
-    nodes: Vec<Kept>,
-    identity: Option<Rc<Blank>>,
-    regions: Vec<Vec<usize>>,
+    pool: Pool<Kept>,
+    outers: Vec<Vec<usize>>,
 }
 
 impl Model for Trees {
@@ -49,13 +44,32 @@ impl Model for Trees {
 
     ghost coded = { forest_code };
 
-    ghost use Rattle.std.specs.Prelude.{map};
-    ghost use Rattle.std.specs.Option.{option_map};
-    ghost use Rattle.syntax_tree.specs.Kept.{nodes_of, IsTable};
+    ghost use Rattle.syntax_tree.specs.Kept.{nodes_of, regions_of, IsTable};
 
-    ghost view = { λ t. record { nodes = nodes_of t.nodes.items; identity = option_map (λ rc. rc.value.name) t.identity; regions = map (λ outer. outer.items) t.regions.items } };
+    ghost view = { λ t. record { nodes = nodes_of t.pool.nodes; identity = t.pool.identity; regions = regions_of t.outers.items t.pool.regions; counts = t.pool.regions; spare = t.pool.spare } };
 
-    ghost invariant = { λ t. IsTable t.nodes.items (map (λ outer. outer.items) t.regions.items) };
+    ghost invariant = { λ t. IsTable t.pool.nodes (regions_of t.outers.items t.pool.regions) };
+}
+
+// There is a list of this number from now on, and all lists are as before.
+fn widen(alloc: Global, outers: &mut Vec<Vec<usize>>, number: usize) -> Mem<()>
+    ensures within { OnOk result (number < length outers.new.items) }
+    ensures same { (q : ℕ) → outers_at outers.new.items q ≡ outers_at outers.old.items q }
+{
+    while outers.len() <= number {
+        outers.push(Vec::new(alloc))?;
+    }
+    Ok(())
+}
+
+// The list of this number is empty from now on.
+fn forget(alloc: Global, outers: &mut Vec<Vec<usize>>, number: usize)
+    ensures here { outers_at outers.new.items number ≡ [] }
+    ensures others { (q : ℕ) → q ≢ number → outers_at outers.new.items q ≡ outers_at outers.old.items q }
+{
+    if number < outers.len() {
+        outers[number] = Vec::new(alloc);
+    }
 }
 
 impl Trees {
@@ -63,83 +77,87 @@ impl Trees {
     pub(crate) fn new(alloc: Global) -> Trees
         ensures nodes { result.nodes ≡ map.empty }
         ensures identity { result.identity ≡ None }
-        ensures regions { result.regions ≡ [] }
+        ensures regions { result.regions ≡ map.empty }
     {
         Trees {
             alloc,
-            nodes: Vec::new(alloc),
-            identity: None,
-            regions: Vec::new(alloc),
-        }
-    }
-
-    /// What tells these nodes from those of other tables.
-    fn owner(&self) -> Mem<Rc<Blank>>
-        ensures { IfOk result (λ work. (name : ℕ) → self.now.identity ≡ Some name → work.value.name ≡ name) }
-    {
-        match &self.identity {
-            Some(work) => Ok(work.clone()?),
-            None => Ok(Rc::new(self.alloc, Blank::new(1))?),
+            pool: Pool::new(alloc),
+            outers: Vec::new(alloc),
         }
     }
 
     /// Opens a region, which none outlives.
     pub(crate) fn open_region(&mut self) -> Mem<Region>
-        ensures number { IfOk result (λ region. region.number ≡ length self.old.regions) }
-        ensures identity { IfOk result (λ region. self.new.identity ≡ Some region.work.value.name) }
+        ensures opened { IfOk result (λ region. IsOpenIn self.new region.in_pool) }
+        ensures fresh { IfOk result (λ region. map.get self.old.regions region.in_pool.number ≡ None) }
         ensures same { (name : ℕ) → self.old.identity ≡ Some name → self.new.identity ≡ Some name }
-        ensures regions { OnOk result (self.new.regions ≡ self.old.regions ++ [] ∷ []) }
+        ensures regions { IfOk result (λ region. self.new.regions ≡ map.insert self.old.regions region.in_pool.number []) }
+        ensures counts { IfOk result (λ region. self.new.counts ≡ map.insert self.old.counts region.in_pool.number 0) }
         ensures nodes { self.new.nodes ≡ self.old.nodes }
+        ensures spare { self.new.spare ≡ self.old.spare }
         ensures err { OnErr result (self.new ≡ self.old) }
     {
-        let work = self.owner()?;
-        let identity = work.clone()?;
-        let number = self.regions.len();
-        self.regions.push(Vec::new(self.alloc))?;
-        self.identity = Some(identity);
-        Ok(Region { number, work })
+        let in_pool = match self.pool.open_region() {
+            Ok(in_pool) => in_pool,
+            Err(_) => return Err(Memory),
+        };
+        forget(self.alloc, &mut self.outers, in_pool.number());
+        Ok(Region { in_pool })
     }
 
     /// From now on the first region outlives the second.
     pub(crate) fn outlive(&mut self, outer: &Region, inner: &Region) -> Mem<()>
-        requires { inner.now.number < length self.old.regions }
-        ensures regions { OnOk result (self.new.regions ≡ slice_set self.old.regions inner.now.number
-            (slice_index_or self.old.regions inner.now.number [] ++ outer.now.number ∷ [])) }
+        requires { IsSome (map.get self.old.regions inner.now.in_pool.number) }
+        ensures regions { OnOk result (self.new.regions ≡ with_outer self.old.regions outer.now.in_pool.number inner.now.in_pool.number) }
         ensures identity { self.new.identity ≡ self.old.identity }
+        ensures counts { self.new.counts ≡ self.old.counts }
         ensures nodes { self.new.nodes ≡ self.old.nodes }
+        ensures spare { self.new.spare ≡ self.old.spare }
         ensures err { OnErr result (self.new ≡ self.old) }
     {
-        self.regions[inner.number].push(outer.number)?;
+        let number = inner.in_pool.number();
+        widen(self.alloc, &mut self.outers, number)?;
+        self.outers[number].push(outer.in_pool.number())?;
         Ok(())
     }
 
     /// Adds a node.
     pub(crate) fn add(&mut self, region: &Region, node: Node) -> Result<Tree, PoolFault>
+        requires region { IsOpenIn self.old region.now.in_pool }
         requires fits { FitsInto self.old.nodes (shape_of node) }
-        requires names { MayNameParts self.old.nodes self.old.regions region.now.number (shape_of node) }
+        requires names { MayNameParts self.old.nodes self.old.regions region.now.in_pool.number (shape_of node) }
         ensures put { IfOk result (λ tree. IsPut self.old.nodes self.new.nodes tree.number
-            (record { shape = shape_of node; region = region.now.number })) }
+            (record { node = shape_of node; region = region.now.in_pool.number; rank = count_at self.old region.now.in_pool.number })) }
         ensures identity { self.new.identity ≡ self.old.identity }
         ensures regions { self.new.regions ≡ self.old.regions }
+        ensures counts { OnOk result (self.new.counts ≡ map.insert self.old.counts region.now.in_pool.number (count_at self.old region.now.in_pool.number + 1)) }
+        ensures spare { OnOk result (self.old.spare ≤ self.new.spare + 1) }
         ensures full { (result ≡ Err PoolFault.Full) ↔ (map.len self.old.nodes ≡ 2 ^ 31) }
+        ensures memory { result ≡ Err PoolFault.Memory → self.old.spare ≡ 0 }
         ensures room { OnOk result (map.len self.new.nodes ≤ 2 ^ 31) }
         ensures err { OnErr result (self.new ≡ self.old) }
     {
-        let number = self.nodes.len();
-        if number == MAX_LIVE {
-            return Err(PoolFault::Full);
+        self.pool.ranked();
+        let (size, depth) = measure(&self.pool, &node);
+        let id = match self.pool.put(&region.in_pool, Kept { node, size, depth }) {
+            Ok(id) => id,
+            Err(node_pool::PoolFault::Full) => return Err(PoolFault::Full),
+            Err(node_pool::PoolFault::Memory) => return Err(PoolFault::Memory),
+        };
+        Ok(Tree { number: id.number })
+    }
+
+    /// From now on the next `n` nodes are added without memory.
+    pub(crate) fn reserve(&mut self, n: u32) -> Mem<()>
+        ensures spare { OnOk result (n ≤ self.new.spare) }
+        ensures more { self.old.spare ≤ self.new.spare }
+        ensures had_room { n ≤ self.old.spare → IsOk result }
+        ensures kept { self.new ≡ record self.old { spare = self.new.spare } }
+    {
+        if self.pool.reserve(n).is_err() {
+            return Err(Memory);
         }
-        let (size, depth) = measure(&self.nodes, &node);
-        let region = region.number;
-        self.nodes.push(Kept {
-            node,
-            size,
-            depth,
-            region,
-        })?;
-        Ok(Tree {
-            number: number as u32,
-        })
+        Ok(())
     }
 
     /// The node of a number.
@@ -150,7 +168,9 @@ impl Trees {
         ensures names { (r : ℕ) → MayName self.now.nodes self.now.regions r tree.number →
             MayNameParts self.now.nodes self.now.regions r (shape_of result.now) }
     {
-        let kept = &self.nodes[tree.number as usize];
+        let kept = self.pool.get(NodeId {
+            number: tree.number,
+        });
         &kept.node
     }
 
@@ -161,7 +181,10 @@ impl Trees {
         ensures { (names : Names) (t : ModelTree Identifier) → Stands self.now.nodes names t tree.number →
             result ≡ tree_size t }
     {
-        self.nodes[tree.number as usize].size
+        let kept = self.pool.get(NodeId {
+            number: tree.number,
+        });
+        kept.size
     }
 
     /// The depth of a tree.
@@ -171,14 +194,66 @@ impl Trees {
         ensures { (names : Names) (t : ModelTree Identifier) → Stands self.now.nodes names t tree.number →
             result ≡ tree_depth t }
     {
-        self.nodes[tree.number as usize].depth
+        let kept = self.pool.get(NodeId {
+            number: tree.number,
+        });
+        kept.depth
     }
 
-    /// Each node names only nodes of its region or of regions that outlive it.
-    pub(crate) fn closed(&self)
-        ensures { IsClosed self.now.nodes self.now.regions }
+    /// How many nodes live.
+    pub(crate) fn live(&self) -> u32
+        ensures live { result ≡ map.len self.now.nodes }
+        ensures few { result ≤ 2 ^ 31 }
     {
-        let _nodes = &self.nodes;
+        self.pool.live()
+    }
+
+    /// This moment of a region.
+    pub(crate) fn mark(&self, region: &Region) -> Mark
+        requires { IsOpenIn self.now region.now.in_pool }
+        ensures count { result.count ≡ count_at self.now region.now.in_pool.number }
+        ensures ranks { HasRanks self.now.nodes region.now.in_pool.number result.count }
+    {
+        self.pool.mark(&region.in_pool)
+    }
+
+    /// The nodes of a region go that were added since the mark.
+    pub(crate) fn back_to(&mut self, region: &Region, mark: Mark)
+        requires region { IsOpenIn self.old region.now.in_pool }
+        requires mark { mark.count ≤ count_at self.old region.now.in_pool.number }
+        requires unnamed { CanGoBack self.old.nodes region.now.in_pool.number mark.count }
+        ensures nodes { self.new.nodes ≡ back_to self.old.nodes region.now.in_pool.number mark.count }
+        ensures identity { self.new.identity ≡ self.old.identity }
+        ensures regions { self.new.regions ≡ self.old.regions }
+        ensures counts { self.new.counts ≡ map.insert self.old.counts region.now.in_pool.number mark.count }
+        ensures live { map.len self.new.nodes + count_at self.old region.now.in_pool.number ≡ map.len self.old.nodes + mark.count }
+        ensures room { map.len self.new.nodes + self.new.spare ≡ map.len self.old.nodes + self.old.spare }
+    {
+        self.pool.back_to(&region.in_pool, mark);
+    }
+
+    /// Ends a region: its nodes go.
+    pub(crate) fn release(&mut self, region: Region)
+        requires region { IsOpenIn self.old region.in_pool }
+        requires last { OutlivesNone self.old.regions region.in_pool.number }
+        ensures nodes { self.new.nodes ≡ back_to self.old.nodes region.in_pool.number 0 }
+        ensures identity { self.new.identity ≡ self.old.identity }
+        ensures regions { self.new.regions ≡ map.remove self.old.regions region.in_pool.number }
+        ensures counts { self.new.counts ≡ map.remove self.old.counts region.in_pool.number }
+        ensures live { map.len self.new.nodes + count_at self.old region.in_pool.number ≡ map.len self.old.nodes }
+        ensures room { map.len self.new.nodes + self.new.spare ≡ map.len self.old.nodes + self.old.spare }
+    {
+        self.pool.release(region.in_pool);
+    }
+
+    /// Each node names only nodes of its region or of regions that outlive it, and in its region only such as were added before it.
+    /// The nodes of an open region have the ranks below their count.
+    pub(crate) fn closed(&self)
+        ensures closed { IsClosed self.now.nodes self.now.regions }
+        ensures first { ArePartsFirst self.now.nodes }
+        ensures ranks { (r : ℕ) → IsSome (map.get self.now.regions r) → HasRanks self.now.nodes r (count_at self.now r) }
+    {
+        self.pool.ranked();
     }
 
     /// No tree is larger or deeper than one that may be added.
@@ -186,6 +261,6 @@ impl Trees {
         ensures nodes { (names : Names) (t : ModelTree Identifier) (n : ℕ) → Stands self.now.nodes names t n → tree_size t ≤ max_tree_nodes }
         ensures depth { (names : Names) (t : ModelTree Identifier) (n : ℕ) → Stands self.now.nodes names t n → tree_depth t ≤ max_tree_depth }
     {
-        let _nodes = &self.nodes;
+        let _pool = &self.pool;
     }
 }

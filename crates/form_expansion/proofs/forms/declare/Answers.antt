@@ -17,7 +17,7 @@ use Rattle.form_expansion.proofs.forms.declare.Goals as goal
 
 pub declare_tree-requires-clause-form : goal.declare_tree-requires-clause-form
 declare_tree-requires-clause-form g c =
-    ((taken c.args.unit c.args.number (form_of c.args.form.now), (subst (λ (h : Home). StandsFor c.seed_as.new.work c.in-Ok.tree (seeded_as c.args.unit h (datum_of c.args.form.now.datum))) c.home_in-home.ensures c.in-Ok.ensures.tree)), (c.args.bench.now.region.number, c.in-Ok.ensures.region, itself))
+    ((taken c.args.unit c.args.number (form_of c.args.form.now), (subst (λ (h : Home). StandsFor c.seed_as.new.work c.in-Ok.tree (seeded_as c.args.unit h (datum_of c.args.form.now.datum))) c.home_in-home.ensures c.in-Ok.ensures.tree)), (c.args.bench.now.region.in_pool.number, c.in-Ok.ensures.region, itself))
 
 pub declare_tree-requires-clause-stands : goal.declare_tree-requires-clause-stands
 declare_tree-requires-clause-stands g c =

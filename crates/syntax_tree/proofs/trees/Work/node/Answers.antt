@@ -10,4 +10,4 @@ returns-clause-tree c =
     node_of c.args.self.now.trees.nodes c.args.self.now.symbols c.args.tree.number (shape_of c.node.result.now) c.node.ensures.shape
 
 pub returns-clause-names : goal.returns-clause-names
-returns-clause-names c region h = c.node.ensures.names region.number h
+returns-clause-names c region h = c.node.ensures.names region.in_pool.number h

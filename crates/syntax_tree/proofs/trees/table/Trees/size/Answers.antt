@@ -1,15 +1,11 @@
-use Rattle.std.proofs.Common.{ap, sym, subst, arith}
-use Rattle.std.specs.Prelude.{IsSome}
-use Rattle.std.specs.FinMap as map
+use Rattle.std.proofs.Common.{ap}
 use Rattle.syntax_tree.specs.Regions.{Forest}
-use Rattle.syntax_tree.proofs.AddedLaws.{size_kept, is_place}
+use Rattle.syntax_tree.proofs.AddedLaws.{kept_lives, size_kept}
 use Rattle.syntax_tree.proofs.trees.table.Trees.size.Goals as goal
 
-pub index-requires : goal.index-requires
-index-requires c =
-    let place = is_place c.self.inside.nodes.items c.args.tree.number (subst (λ (f : Forest). IsSome (map.get f.nodes c.args.tree.number)) (sym c.self.view_is) c.requires) in
-    omega (arith, place, c.self.inside.nodes.ok.0)
+pub get-kept-requires : goal.get-kept-requires
+get-kept-requires c = kept_lives c.self.inside.pool.nodes c.args.self.now.nodes c.args.tree.number (ap (λ (f : Forest). f.nodes) c.self.view_is) c.requires
 
 pub returns : goal.returns
 returns c =
-    size_kept c.self.inside.nodes.items c.args.self.now.nodes c.args.tree.number c.index.result.now c.self.invariant.kept (ap (λ (f : Forest). f.nodes) c.self.view_is) c.requires c.index.ensures
+    size_kept c.self.inside.pool.nodes c.args.self.now.nodes c.args.tree.number c.get-kept.result.now c.self.invariant.kept (ap (λ (f : Forest). f.nodes) c.self.view_is) c.get-kept.ensures

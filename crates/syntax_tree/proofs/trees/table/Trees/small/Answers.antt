@@ -6,7 +6,7 @@ use Rattle.syntax_tree.proofs.KeptLaws.{tree_small}
 use Rattle.syntax_tree.proofs.trees.table.Trees.small.Goals as goal
 
 pub returns-clause-nodes : goal.returns-clause-nodes
-returns-clause-nodes c = λ names t n h. (tree_small c.self.inside.nodes.items c.self.invariant.kept names t n (subst (λ (x : Nodes). Stands x names t n) (sym (ap (λ (f : Forest). f.nodes) c.self.view_is)) h)).0
+returns-clause-nodes c = λ names t n h. (tree_small c.self.inside.pool.nodes c.self.invariant.kept names t n (subst (λ (x : Nodes). Stands x names t n) (sym (ap (λ (f : Forest). f.nodes) c.self.view_is)) h)).0
 
 pub returns-clause-depth : goal.returns-clause-depth
-returns-clause-depth c = λ names t n h. (tree_small c.self.inside.nodes.items c.self.invariant.kept names t n (subst (λ (x : Nodes). Stands x names t n) (sym (ap (λ (f : Forest). f.nodes) c.self.view_is)) h)).1
+returns-clause-depth c = λ names t n h. (tree_small c.self.inside.pool.nodes c.self.invariant.kept names t n (subst (λ (x : Nodes). Stands x names t n) (sym (ap (λ (f : Forest). f.nodes) c.self.view_is)) h)).1
