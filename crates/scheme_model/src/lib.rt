@@ -15,7 +15,7 @@ pub struct Occ {
 
 /// Where the text of a form stands: the unit and the form by which the occurrences in it are told, and the number of
 /// that form's first token in its text.
-#[derive(Clone, Copy, Debug, PartialEq, Eq)]
+#[derive(Clone, Copy)]
 pub struct Home {
     pub unit: u32,
     pub form: u32,
