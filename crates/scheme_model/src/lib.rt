@@ -2,8 +2,6 @@
 //! of the protocol. There are no loops, tables or caches of the product here; see `specs/`.
 #![tactic(auto)]
 
-pub mod laws;
-
 /// A token's place: the unit's place in the list of units, the form in the unit, the token in the form. Each
 /// begins at 0.
 #[derive(Clone, Copy, Debug, PartialEq, Eq, PartialOrd, Ord, Hash)]
