@@ -15,7 +15,7 @@ use Rattle.program_answers.proofs.TextLists.{some_row}
 use Rattle.program_expansion.specs.UsesInTurn.{uses_in}
 use Rattle.workspace_state.specs.Events.{leaves}
 use Rattle.rename_conditions.specs.Readers.{IsReader, Reader}
-use Rattle.rename_planner.specs.ToldRenames.{rename_uses, text_uses, texts_of}
+use Rattle.rename_planner.specs.ToldRenames.{rename_uses, text_uses, texts_of, uris_of}
 use Rattle.rename_planner.specs.declared.faults.RenameFault.{RenameFault}
 use Rattle.rename_planner.specs.declared.faults.RenameFault.TheVariants as faults
 use Rattle.rename_planner.proofs.ReadingLaws.{uses_one}
@@ -33,10 +33,10 @@ module _ (e : Encoding) (old : Texts) (uri text content : List ℕ) (none : old 
 
   pub text_counted : (name : List ℕ) (now : Texts) → entries now ≡ one_document name content → (was then : ℕ) →
       (leaves (Added uri (pos 0) text) (after e old (Added uri (pos 0) text)).1 ≡ false → (rs : List Read) → AreReadAs (entries now) rs → then ≡ was + uses_in rs) →
-      (r : Reader) → IsReader r → then ≡ was + text_uses r (content ∷ [])
+      (r : Reader) → IsReader r → then ≡ was + text_uses r (name ∷ []) (content ∷ [])
   text_counted name now one was then h r is =
       let row = some_row (entries now) in
-      h not_left row.0 row.1 ∙ ap (λ (n : ℕ). was + n) (sym (uses_one r is (entries now) row.0 row.1) ∙ ap (λ (ds : List (List ℕ × Document)). text_uses r (texts_of ds)) one)
+      h not_left row.0 row.1 ∙ ap (λ (n : ℕ). was + n) (sym (uses_one r is (entries now) row.0 row.1) ∙ ap (λ (ds : List (List ℕ × Document)). text_uses r (uris_of ds) (texts_of ds)) one)
 
 -- ---- where it is renamed in
 
@@ -63,7 +63,7 @@ if_no_text uses content was bad =
 
 module _ (r : Reader) (name content : List ℕ) (position : Pos) (new : List ℕ) where
   abbrev uses : List ℕ → ℕ
-  uses t = text_uses r (t ∷ []) + rename_uses r Utf16 (one_document name t) name position new
+  uses t = text_uses r (name ∷ []) (t ∷ []) + rename_uses r Utf16 (one_document name t) name position new
 
   pub of_text_counted : (text : List ℕ) (was then : ℕ) → IsUtf8 content → text ≡ content → then ≡ was + uses text → then ≡ was + renaming_uses r name content position new
   of_text_counted text was then utf8 same h = if_text uses content text was then utf8 same h

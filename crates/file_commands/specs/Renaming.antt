@@ -33,4 +33,4 @@ renamed_in r name content position new =
 -- the macro uses that are counted: those of the text, and those of the edited text, once that is expanded. A content that isn't UTF-8 has none
 abbrev pub renaming_uses : Reader → (name content : List ℕ) → Pos → (new : List ℕ) → ℕ
 renaming_uses r name content position new =
-    if is_utf8 content then text_uses r (content ∷ []) + rename_uses r Utf16 (one_document name content) name position new else 0
+    if is_utf8 content then text_uses r (name ∷ []) (content ∷ []) + rename_uses r Utf16 (one_document name content) name position new else 0

@@ -73,7 +73,7 @@ fn rename_in_text<L: Ledger>(
     requires { length text.now ≤ max_text }
     ensures renamed { (r : Reader) → IsReader r → IfOk result (λ renamed. renamed ≡ printed (rename_in_text r name.now text.now position new_name.now)) }
     ensures steps { (r : Reader) → IsReader r
-        → OnOk result (steps.new ≡ steps.old + (text_uses r (text.now ∷ []) + rename_uses r Utf16 (one_document name.now text.now) name.now position new_name.now)) }
+        → OnOk result (steps.new ≡ steps.old + (text_uses r (name.now ∷ []) (text.now ∷ []) + rename_uses r Utf16 (one_document name.now text.now) name.now position new_name.now)) }
 {
     let mut workspace = Workspace::new(alloc)?;
     rename_alone(alloc, &mut workspace, name, text, position, new_name, steps)
@@ -94,7 +94,7 @@ fn rename_alone<L: Ledger>(
     requires short { length text.now ≤ max_text }
     ensures renamed { (r : Reader) → IsReader r → IfOk result (λ renamed. renamed ≡ printed (rename_in_text r name.now text.now position new_name.now)) }
     ensures steps { (r : Reader) → IsReader r
-        → OnOk result (steps.new ≡ steps.old + (text_uses r (text.now ∷ []) + rename_uses r Utf16 (one_document name.now text.now) name.now position new_name.now)) }
+        → OnOk result (steps.new ≡ steps.old + (text_uses r (name.now ∷ []) (text.now ∷ []) + rename_uses r Utf16 (one_document name.now text.now) name.now position new_name.now)) }
 {
     open(alloc, workspace, name, text, steps)?;
     Ok(rename_opened(alloc, workspace, name, position, new_name, steps)?)
@@ -113,7 +113,7 @@ fn open<L: Ledger>(
     requires short { length text.now ≤ max_text }
     ensures texts { OnOk result (entries workspace.new.texts ≡ one_document name.now text.now) }
     ensures encoding { OnOk result (workspace.new.encoding ≡ Utf16) }
-    ensures steps { (r : Reader) → IsReader r → OnOk result (steps.new ≡ steps.old + text_uses r (text.now ∷ [])) }
+    ensures steps { (r : Reader) → IsReader r → OnOk result (steps.new ≡ steps.old + text_uses r (name.now ∷ []) (text.now ∷ [])) }
 {
     let event = DocEvent::Added {
         uri: name.clone()?,

@@ -15,7 +15,7 @@ use Rattle.document_units.specs.Readings.{Read}
 use Rattle.program_answers.specs.ToldAnswers.{answer_of}
 use Rattle.scheme_model.specs.Session as model
 use Rattle.rename_conditions.specs.Readers.{Reader}
-use Rattle.rename_planner.specs.ToldRenames.{rename_told, rename_uses, text_uses, texts_of}
+use Rattle.rename_planner.specs.ToldRenames.{rename_told, rename_uses, text_uses, texts_of, uris_of}
 use Rattle.command_lines.specs.Counts.{count_lines}
 use Rattle.command_lines.specs.declared.counts.Counts.{Counts}
 use Rattle.generated_workspace.specs.Generated.{libraries, library_uri, selfrun_texts}
@@ -66,7 +66,7 @@ selfrun_lines r rs n = count_lines (counts_of r (entries (selfrun_texts n)) rs)
 -- ---- the macro uses that are counted
 
 unfoldable pub uses_of : Reader → Texts → ℕ
-uses_of r texts = text_uses r (texts_of (entries texts))
+uses_of r texts = text_uses r (uris_of (entries texts)) (texts_of (entries texts))
 
 -- each library that is opened, all that are open are expanded
 abbrev pub opening_uses : Reader → (libraries : ℕ) → ℕ

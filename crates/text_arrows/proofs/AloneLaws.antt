@@ -163,7 +163,7 @@ counted_alone w old uri text copy before now none utf16 short at same documents 
 
 picked : (text : List ℕ) (rs : List Read) → AreReadAs (alone text) rs → (r : Read) × IsReadAlone text r
 picked text [] h = absurd h
-picked text (r ∷ rs) h = (r, h.0, h.2)
+picked text (r ∷ rs) h = (r, (h.0, h.2))
 
 pub read_alone : (text : List ℕ) → (r : Read) × IsReadAlone text r
 read_alone text = let row = some_row (alone text) in picked text row.0 row.1

@@ -15,5 +15,5 @@ returns-clause-renamed g c = λ r is. c.in_ok-rename_opened.ensures.renamed r c.
 pub returns-clause-steps : goal.returns-clause-steps
 returns-clause-steps g c = λ r is.
     let a = c.args in
-    both_counted a.steps.now (text_uses r (a.text.now ∷ [])) c.open.new.steps (rename_uses r Utf16 (one_document a.name.now a.text.now) a.name.now a.position a.new_name.now) c.rename_opened.new.steps
+    both_counted a.steps.now (text_uses r (a.name.now ∷ []) (a.text.now ∷ [])) c.open.new.steps (rename_uses r Utf16 (one_document a.name.now a.text.now) a.name.now a.position a.new_name.now) c.rename_opened.new.steps
     (c.in_ok-open.ensures.steps r is) (c.in_ok-rename_opened.ensures.steps r a.text.now is c.in_ok-open.ensures.texts)
