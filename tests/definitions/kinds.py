@@ -13,7 +13,7 @@ import terms
 class Kind:
     """A kind of rows."""
 
-    crate = "scheme_model"
+    crate = "model_laws"
     module = ""
     says = ""
     head = ""
@@ -324,7 +324,7 @@ def parts_of(items):
 class Cores(Kind):
     """Programs with the cores, counts and faults of their forms."""
 
-    crate = "scheme_model"
+    crate = "model_laws"
     module = "CoreRows"
     says = "Programs, and what their forms expand to, from outside."
     unfolding = "base_names"

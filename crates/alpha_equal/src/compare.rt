@@ -26,7 +26,7 @@ use syntax_tree::symbols::SymNo;
 use syntax_tree::trees::Work;
 
 /// A local of the old program and one of the new, whose binders stand at the same place.
-#[derive(Clone, Copy, Debug, PartialEq, Eq, PartialOrd, Ord)]
+#[derive(Clone, Copy, PartialEq, Eq, PartialOrd, Ord)]
 pub struct Partners {
     pub old: u64,
     pub new: u64,

@@ -20,7 +20,7 @@ use syntax_tree::symbols::IdNo;
 use syntax_tree::trees::{Leaf, Tree, Work};
 
 /// A node of a datum: a name, a hole, another atom, a list by the number of its parts and whether it has a tail, or a vector.
-#[derive(Clone, Copy, Debug)]
+#[derive(Clone, Copy)]
 pub enum DatumNode {
     Name { ident: IdNo, occ: Option<Occ> },
     Hole,

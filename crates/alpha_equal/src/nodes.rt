@@ -3,7 +3,7 @@ ghost use Rattle.std.specs.Prelude.{◌≡◌};
 ghost use Rattle.rename_model.specs.Walks.{node_number};
 
 /// A kind of node: of cores, of parts of bodies and units, of binders, of data, of rules, and of what names mean.
-#[derive(Clone, Copy, Debug)]
+#[derive(Clone, Copy)]
 pub enum Node {
     Reference,
     Constant,

@@ -7,7 +7,7 @@ use syntax_tree::symbols::SymNo;
 
 /// Where a point stands: at a use of an identifier, at a quoted symbol, in the rules of a macro, there at an identifier of a
 /// template, in an export, at the Errors of a unit, or elsewhere.
-#[derive(Clone, Copy, Debug)]
+#[derive(Clone, Copy)]
 pub enum Spot {
     Use,
     Quoted,
@@ -20,7 +20,7 @@ pub enum Spot {
 
 /// What is seen at a point: a node, a number, a name of a kind, a definition of a unit by its number there, a local of the form,
 /// or binders of a kind that bind locals.
-#[derive(Clone, Copy, Debug)]
+#[derive(Clone, Copy)]
 pub enum Seen<'a> {
     Node(Node),
     Number(u64),
@@ -31,7 +31,7 @@ pub enum Seen<'a> {
 }
 
 /// What is shown of a point: a symbol, a text, what binds a meaning, or the place of a pattern variable.
-#[derive(Clone, Copy, Debug)]
+#[derive(Clone, Copy)]
 pub enum Shown<'a> {
     Nothing,
     Symbol(SymNo),
@@ -41,7 +41,7 @@ pub enum Shown<'a> {
 }
 
 /// What is told of a point where programs differ.
-#[derive(Clone, Copy, Debug)]
+#[derive(Clone, Copy)]
 pub struct Told<'a> {
     pub spot: Spot,
     pub occ: Option<Occ>,
@@ -49,14 +49,14 @@ pub struct Told<'a> {
 }
 
 /// A point.
-#[derive(Clone, Copy, Debug)]
+#[derive(Clone, Copy)]
 pub struct Point<'a> {
     pub told: Told<'a>,
     pub seen: Seen<'a>,
 }
 
 /// Two points that don't agree, of the old program and the new.
-#[derive(Clone, Copy, Debug)]
+#[derive(Clone, Copy)]
 pub struct Pair<'a> {
     pub old: Told<'a>,
     pub new: Told<'a>,

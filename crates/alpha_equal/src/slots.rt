@@ -18,7 +18,7 @@ use ls_base::Mem;
 use syntax_tree::trees::Work;
 
 /// A point, or a leaf of a kind.
-#[derive(Clone, Copy, Debug)]
+#[derive(Clone, Copy)]
 pub enum Slot<'a> {
     Fixed(Point<'a>),
     Leaf(Node),

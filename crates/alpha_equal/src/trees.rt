@@ -22,7 +22,7 @@ use syntax_tree::trees::{Leaf, Tree, Work};
 
 /// A node of a tree: a name, which may act as an ellipsis, another atom, a list by the number of its parts and whether it has a
 /// tail, a vector, or an escape.
-#[derive(Clone, Copy, Debug)]
+#[derive(Clone, Copy)]
 pub enum TreeNode {
     Name {
         ident: IdNo,

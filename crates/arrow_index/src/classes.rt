@@ -24,7 +24,7 @@ use std::alloc::Global;
 use std::collections::BTreeSet;
 
 /// A member of a class, and a prefix behind which it takes its characters.
-#[derive(Debug, Drop, PartialEq, Eq, PartialOrd, Ord)]
+#[derive(Drop, PartialEq, Eq, PartialOrd, Ord)]
 pub struct ClassPart {
     pub occ: Occ,
     pub prefix: Text,

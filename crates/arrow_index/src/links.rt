@@ -17,14 +17,14 @@ use syntax_tree::trees::Work;
 use syntax_tree::units::Origin;
 
 /// What an occurrence takes its characters from: an occurrence, or a standard name.
-#[derive(Debug, Drop, PartialEq, Eq, PartialOrd, Ord)]
+#[derive(Drop, PartialEq, Eq, PartialOrd, Ord)]
 pub enum LinkOrigin {
     Place(Occ),
     Standard(Text),
 }
 
 /// An occurrence takes its characters, behind a prefix, from an origin.
-#[derive(Debug, Drop, PartialEq, Eq, PartialOrd, Ord)]
+#[derive(Drop, PartialEq, Eq, PartialOrd, Ord)]
 pub struct Link {
     pub origin: LinkOrigin,
     pub target: Occ,

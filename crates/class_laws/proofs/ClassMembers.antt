@@ -5,7 +5,7 @@ use Rattle.std.proofs.lemmas.Bool.{lt-ltb, or_cases}
 use Rattle.scheme_model.specs.declared.Occ.{Occ}
 use Rattle.scheme_model.specs.Entries.{Source, At, StandardName, same_occ}
 use Rattle.scheme_model.specs.Spelling.{Link, is_place, is_end, is_joined, is_member, with_member, across, joined, closed, class_of, has_prefix, prefixes_of}
-use Rattle.scheme_model.proofs.FrameAsks.{AllOf}
+use Rattle.model_laws.proofs.FrameAsks.{AllOf}
 use Rattle.program_leaves.specs.Members.{IsIn}
 use Rattle.program_leaves.proofs.KeyLaws.{one_occ}
 use Rattle.arrow_index.specs.Classes.{HasBothOrNone, IsClosed}

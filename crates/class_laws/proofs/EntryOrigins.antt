@@ -15,8 +15,8 @@ use Rattle.scheme_model.specs.Program.{ImportSpec, ExportSpec, unit_named, Prepa
 use Rattle.scheme_model.specs.Live.{NameUse, entry_use, listed_uses, second_use, pair_uses, if_given, set_uses, meaning_or, origins_or, export_uses, all_export_uses}
 use Rattle.scheme_model.specs.ProgramArrows.{uses_given, uses_in_set, import_uses}
 use Rattle.scheme_model.specs.Spelling.{entry_origins, second_names}
-use Rattle.scheme_model.proofs.FrameAsks.{AllOf, all_of_more}
-use Rattle.scheme_model.proofs.FrameHeld.{all_append}
+use Rattle.model_laws.proofs.FrameAsks.{AllOf, all_of_more}
+use Rattle.model_laws.proofs.FrameHeld.{all_append}
 
 all_left : {X : Type 0} (P : X → Type 0) (xs ys : List X) → AllOf P (xs ++ ys) → AllOf P xs
 all_left P [] ys h = tt

@@ -15,8 +15,8 @@ use Rattle.scheme_model.specs.Program.{ImportSpec, ExportSpec, WholeFault, UnitR
 use Rattle.scheme_model.specs.Live.{CoreLeaf, Binds, Uses, Assigns, Quotes, Defines, NameUse, export_uses, all_export_uses}
 use Rattle.scheme_model.specs.ProgramArrows.{Arrow, program_leaves, program_keywords, import_uses, unit_names, program_names, is_whole, program_table, local_at, bound_here, arrow_of, is_live_at, core_targets, ident_names, variable_arrow, template_arrows, template_arrows_all, template_arrows_tail, rule_arrows, places_at, variable_places, rule_binders, leaf_binders, table_binders, binders_in}
 use Rattle.scheme_model.specs.Spelling.{Link, entries_at, imported_origins, defined_or, ident_origins, target_origins, links_at, target_links, name_links, arrow_links, links_to_themselves, leaf_targets, macro_links, second_places, second_places_in, links_of}
-use Rattle.scheme_model.proofs.FrameAsks.{AllOf}
-use Rattle.scheme_model.proofs.FrameHeld.{all_append}
+use Rattle.model_laws.proofs.FrameAsks.{AllOf}
+use Rattle.model_laws.proofs.FrameHeld.{all_append}
 use Rattle.program_leaves.specs.Members.{IsIn}
 use Rattle.program_leaves.proofs.MemberLaws.{in_left, in_right, in_flat_map}
 use Rattle.class_laws.proofs.EntryOrigins.{SourceHas, OriginHas, OccHas, EntriesHave, UseHas, DefinedHas, SpecHas, UnitsExport, outer_use, entries_more, place_has, at_has, origins_have, names_have, import_uses_have, export_uses_have}

@@ -2,7 +2,7 @@
 use Rattle.std.proofs.Common.{◌≡◌, ℕ, List, [], true, false, sym, subst}
 use Rattle.scheme_model.specs.declared.Occ.{Occ}
 use Rattle.scheme_model.specs.Spelling.{is_joined, is_member, class_of}
-use Rattle.scheme_model.proofs.FrameAsks.{AllOf}
+use Rattle.model_laws.proofs.FrameAsks.{AllOf}
 use Rattle.arrow_index.proofs.ClassLaws.{member_in}
 use Rattle.text_edits.specs.Members.{is_part}
 use Rattle.rename_conditions.specs.Readers.{Reader}

@@ -17,7 +17,7 @@ use Rattle.scheme_model.specs.IncludedUnits.{Placed}
 use Rattle.scheme_model.specs.Program.{Prepared, WholeFault, ImportSpec, ExportSpec, SetResult, UnitResult, result_at, names_of_unit, broken_result, unit_result, unit_entries}
 use Rattle.scheme_model.specs.ProgramArrows.{places_at}
 use Rattle.scheme_model.specs.Spelling.{second_names, second_places}
-use Rattle.scheme_model.proofs.FrameAsks.{AllOf}
+use Rattle.model_laws.proofs.FrameAsks.{AllOf}
 use Rattle.program_leaves.specs.Members.{IsIn}
 use Rattle.program_leaves.proofs.MemberLaws.{in_left, in_right}
 use Rattle.class_laws.proofs.EntryOrigins.{OccHas, EntriesHave, SpecHas, OuterHas, DefinedHas, UnitsExport, entries_more, names_have, exports_have, unit_entries_have}

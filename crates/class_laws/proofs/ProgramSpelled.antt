@@ -15,7 +15,7 @@ use Rattle.scheme_model.specs.Includes.{Document}
 use Rattle.scheme_model.specs.IncludedUnits.{Placed}
 use Rattle.scheme_model.specs.Program.{known_in, units_of, Prepared, prepare, WholeFault, UnitResult, Program, result_at, fault_before, is_ready, first_ready, all_done, in_order, program_of}
 use Rattle.scheme_model.specs.ScopedProgram.{ScopedProgress, scoped_start_after, scoped_unit_over, scoped_by_fault, scoped_worked, scoped_work, scoped_before, scoped_program_of}
-use Rattle.scheme_model.proofs.FramePrograms.{program_law}
+use Rattle.model_laws.proofs.FramePrograms.{program_law}
 use Rattle.program_leaves.specs.Members.{IsIn}
 use Rattle.program_leaves.proofs.MemberLaws.{in_right}
 use Rattle.unit_scopes.specs.Others.{InFront}

@@ -6,7 +6,7 @@ ghost use Rattle.command_lines.specs.Counts as spec;
 use std::alloc::{AllocError, Global};
 
 /// How much there is of what a workspace answers.
-#[derive(Clone, Copy, Debug, PartialEq, Eq)]
+#[derive(Clone, Copy)]
 pub struct Counts {
     /// Open documents.
     pub documents: usize,

@@ -4,7 +4,7 @@ ghost use Rattle.command_output.specs.Prints.{PrintingEndsAs, sink_seen};
 use ls_outside::{Put, Sink};
 
 /// A write failed.
-#[derive(Clone, Copy, Debug, PartialEq, Eq)]
+#[derive(Clone, Copy)]
 pub struct SinkFailed;
 
 /// Prints bytes, in as many writes as the sink wants.

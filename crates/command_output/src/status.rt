@@ -5,7 +5,7 @@ ghost use Rattle.command_output.specs.Statuses.{code_of, fetch_status};
 use file_fetching::FetchStop;
 
 /// How a run ends. Each but `NoMemory` has a cause, which the contract of `run` states.
-#[derive(Clone, Copy, Debug, PartialEq, Eq)]
+#[derive(Clone, Copy)]
 pub enum Status {
     /// The command did its work.
     Done,

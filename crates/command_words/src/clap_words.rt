@@ -73,7 +73,7 @@ fn all_found(alloc: Global, found: &Option<ArgMatches<'_>>) -> Mem<Option<Items<
 }
 
 /// The words of `rename`.
-#[derive(Debug, Drop)]
+#[derive(Drop)]
 pub struct FourWords {
     pub file: Text,
     pub line: Text,

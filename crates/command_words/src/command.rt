@@ -2,7 +2,7 @@
 use ls_base::{Items, Pos, Text};
 
 /// What the program can be asked to do.
-#[derive(Debug, Drop)]
+#[derive(Drop)]
 pub enum Command {
     /// `arrows`: the arrows of the text of the standard input.
     Arrows,

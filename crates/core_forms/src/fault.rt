@@ -4,7 +4,7 @@ use ls_base::Memory;
 use std::alloc::{AllocError, AllocFailed};
 
 /// Why a core form is refused. The lowest that holds is told.
-#[derive(Clone, Copy, Debug, PartialEq, Eq)]
+#[derive(Clone, Copy)]
 pub enum CoreFault {
     /// It fits none of its shapes.
     BadForm,

@@ -27,7 +27,7 @@ use syntax_tree::symbols::IdNo;
 use syntax_tree::trees::{Tree, Work};
 
 /// What an identifier marks.
-#[derive(Clone, Copy, Debug, PartialEq, Eq)]
+#[derive(Clone, Copy)]
 pub enum MarkKind {
     Nested,
     Unquoted,
@@ -35,7 +35,7 @@ pub enum MarkKind {
 }
 
 /// What a part of a list asks for: to be gone into, another level behind it, a hole behind it, or a refusal.
-#[derive(Clone, Copy, Debug, PartialEq, Eq)]
+#[derive(Clone, Copy)]
 pub enum Step {
     Into,
     Level(u32),

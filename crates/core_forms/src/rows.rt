@@ -15,7 +15,7 @@ use std::alloc::Global;
 use syntax_tree::trees::{Tree, Work};
 
 /// Trees in a row: none, or a first and those behind it.
-#[derive(Clone, Copy, Debug)]
+#[derive(Clone, Copy)]
 pub enum Row<'a> {
     Empty,
     Parts(Tree, &'a [Tree]),

@@ -4,7 +4,7 @@ use syntax_tree::symbols::{IdNo, SymNo};
 use syntax_tree::trees::Tree;
 
 /// The keywords of core forms, and the marks of a quasiquoted datum.
-#[derive(Clone, Copy, Debug, PartialEq, Eq)]
+#[derive(Clone, Copy, PartialEq, Eq)]
 pub enum CoreKeyword {
     Quote,
     Quasiquote,
@@ -28,14 +28,14 @@ pub enum CoreKeyword {
 }
 
 /// An identifier of a quasiquoted datum that means one of the three marks.
-#[derive(Clone, Copy, Debug, PartialEq, Eq)]
+#[derive(Clone, Copy)]
 pub struct QuasiMark {
     pub ident: IdNo,
     pub keyword: CoreKeyword,
 }
 
 /// An identifier with its place.
-#[derive(Clone, Copy, Debug, PartialEq, Eq)]
+#[derive(Clone, Copy)]
 pub struct NamePart {
     pub ident: IdNo,
     pub occ: Option<Occ>,
@@ -56,7 +56,7 @@ pub struct ClauseShape {
 }
 
 /// The name of a local macro and its rules.
-#[derive(Clone, Copy, Debug, PartialEq, Eq)]
+#[derive(Clone, Copy)]
 pub struct LocalMacro {
     pub name: NamePart,
     pub rules: Tree,
@@ -70,7 +70,7 @@ pub struct Choice {
 }
 
 /// A field of a record with its accessor, and its modifier, where it has one.
-#[derive(Clone, Copy, Debug, PartialEq, Eq)]
+#[derive(Clone, Copy)]
 pub struct FieldShape {
     pub name: NamePart,
     pub accessor: NamePart,

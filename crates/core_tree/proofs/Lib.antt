@@ -1,0 +1,1 @@
+pub mod Matched  -- Lists whose items are matched, place by place

@@ -6,7 +6,7 @@ use syntax_tree::symbols::IdNo;
 use syntax_tree::trees::Tree;
 
 /// An identifier where it is bound: by a local of its form with this number, or by the unit's definition with this number.
-#[derive(Clone, Copy, Debug, PartialEq, Eq)]
+#[derive(Clone, Copy)]
 pub struct Binder {
     pub number: u64,
     pub ident: IdNo,
@@ -14,7 +14,7 @@ pub struct Binder {
 }
 
 /// An identifier where it is used, and what it means there.
-#[derive(Clone, Copy, Debug, PartialEq, Eq)]
+#[derive(Clone, Copy)]
 pub struct Target {
     pub meaning: Meaning,
     pub ident: IdNo,
@@ -23,7 +23,7 @@ pub struct Target {
 
 /// A leaf of a macro's rules, and what it means where the macro is defined: a literal in its list or in a pattern, or an
 /// identifier of a template that is no pattern variable.
-#[derive(Clone, Copy, Debug, PartialEq, Eq)]
+#[derive(Clone, Copy)]
 pub struct RuleLeaf {
     pub target: Target,
     pub literal: bool,
@@ -38,7 +38,7 @@ pub struct MacroDef {
 }
 
 /// A field that a record's constructor uses, by its place among the fields, and where the constructor names it.
-#[derive(Clone, Copy, Debug, PartialEq, Eq)]
+#[derive(Clone, Copy)]
 pub struct FieldUse {
     pub field: u32,
     pub occ: Option<Occ>,

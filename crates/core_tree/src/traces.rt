@@ -21,7 +21,7 @@ pub struct Trace {
 
 /// The fault of a form that is broken: its code, the identifier that it names, with that identifier's place, the place of the form
 /// that was read where it was found, and the text of a `syntax-error`.
-#[derive(Debug, Drop)]
+#[derive(Drop)]
 pub struct FormFault {
     pub code: u32,
     pub name: Option<IdNo>,

@@ -28,14 +28,14 @@ pub struct NameUse {
 }
 
 /// An Error of a unit, by its code, and its form.
-#[derive(Clone, Copy, Debug, PartialEq, Eq)]
+#[derive(Clone, Copy)]
 pub struct UnitError {
     pub code: u32,
     pub form: u32,
 }
 
 /// The tokens of a form: the home of its text, and the numbers of its first and its last token in that text.
-#[derive(Clone, Copy, Debug)]
+#[derive(Clone, Copy)]
 pub struct TokenRange {
     pub home: Home,
     pub first: u32,

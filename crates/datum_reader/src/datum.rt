@@ -3,7 +3,7 @@ use ls_base::{Span, Text};
 
 /// A datum with the numbers of its first and last token in the text, which begin at 0, and its bytes.
 #[cycle(datum)]
-#[derive(Debug, Drop)]
+#[derive(Drop)]
 pub struct Datum {
     pub shape: Shape,
     pub first: u32,
@@ -12,7 +12,7 @@ pub struct Datum {
 }
 
 #[cycle(datum)]
-#[derive(Debug, Drop)]
+#[derive(Drop)]
 pub enum Shape {
     Atom(Atom),
     /// The identifier that the mark in front of an abbreviated datum implies, by the mark's token.
@@ -25,7 +25,7 @@ pub enum Shape {
 }
 
 /// What one token spells by itself. The `name` of an identifier is its symbol; `bars` tells that it stands between bars.
-#[derive(Debug, Drop)]
+#[derive(Drop)]
 pub enum Atom {
     Name { name: Text, bars: bool },
     Numeral(Text),
@@ -35,7 +35,7 @@ pub enum Atom {
 }
 
 /// The mark of an abbreviation: `'`, `` ` ``, `,` or `,@`.
-#[derive(Clone, Copy, Debug, PartialEq, Eq)]
+#[derive(Clone, Copy)]
 pub enum Mark {
     Quote,
     Quasi,

@@ -26,14 +26,14 @@ pub const TOO_DEEP: u8 = 11;
 pub const MISSING_DATUM: u8 = 12;
 
 /// A token's number in its text, and its bytes.
-#[derive(Clone, Copy, Debug, PartialEq, Eq)]
+#[derive(Clone, Copy)]
 pub struct Spot {
     pub number: u32,
     pub span: Span,
 }
 
 /// What is open.
-#[derive(Debug, Drop)]
+#[derive(Drop)]
 pub enum Opener {
     /// A list, before its dot.
     List,
@@ -51,7 +51,7 @@ pub enum Opener {
 }
 
 /// What is open, its token, the data before it on its level, and how many are open with it; bytevectors aren't counted.
-#[derive(Debug, Drop)]
+#[derive(Drop)]
 pub struct Frame {
     pub opener: Opener,
     pub spot: Spot,
@@ -60,7 +60,7 @@ pub struct Frame {
 }
 
 /// All that is open, outermost first, and the data so far on the innermost level.
-#[derive(Debug, Drop)]
+#[derive(Drop)]
 pub struct State {
     pub stack: Vec<Frame>,
     pub items: Vec<Datum>,

@@ -86,7 +86,7 @@ pub fn seed_as(
 }
 
 /// A form as a unit takes it: the unit in which its names are written, and the home of its text.
-#[derive(Clone, Copy, Debug)]
+#[derive(Clone, Copy)]
 struct Taken {
     into: u32,
     home: Home,

@@ -6,7 +6,7 @@ use ls_base::Memory;
 use std::alloc::{AllocError, AllocFailed};
 
 /// Why a part of a declaration isn't read.
-#[derive(Clone, Copy, Debug, PartialEq, Eq)]
+#[derive(Clone, Copy)]
 pub enum ShapeFault {
     /// Memory ran out.
     Memory,

@@ -11,14 +11,14 @@ use ls_base::{Mem, Span};
 use std::alloc::Global;
 
 /// What stands behind a list's parts: runs of more parts, the last run first, and its tail, which is no list.
-#[derive(Debug, Drop)]
+#[derive(Drop)]
 pub struct Rest {
     pub runs: Vec<Vec<Datum>>,
     pub end: Option<Box<Datum>>,
 }
 
 /// A list whose parts aren't joined yet, with the numbers of its first and last token, and its bytes.
-#[derive(Debug, Drop)]
+#[derive(Drop)]
 pub struct Chain {
     pub parts: Vec<Datum>,
     pub rest: Rest,
@@ -28,7 +28,7 @@ pub struct Chain {
 }
 
 /// A datum that was read, which may become a tail.
-#[derive(Debug, Drop)]
+#[derive(Drop)]
 pub enum Tail {
     /// A datum as it is kept.
     Datum(Datum),

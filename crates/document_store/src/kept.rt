@@ -5,7 +5,7 @@ ghost use Rattle.ls_base.specs.Limits.{max_text};
 use ls_base::Text;
 
 /// The version of an open document, and its text, which isn't longer than the limit.
-#[derive(Debug, Drop)]
+#[derive(Drop)]
 pub struct Kept {
     pub version: i64,
     pub text: Text,

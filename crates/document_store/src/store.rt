@@ -18,7 +18,7 @@ use std::marker::Model;
 
 /// The open documents, at most 64, each with a text of at most 1,048,576 bytes. Contracts see them as a finite map
 /// from uris to versions and texts.
-#[derive(Debug, Drop)]
+#[derive(Drop)]
 pub struct Store {
     docs: BTreeMap<String, Kept>,
     alloc: Global,

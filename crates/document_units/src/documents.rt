@@ -22,7 +22,7 @@ use std::alloc::Global;
 use text_positions::Lines;
 
 /// Where a text can't be read on, and why, by number.
-#[derive(Clone, Copy, Debug)]
+#[derive(Clone, Copy)]
 pub struct Unread {
     pub number: u8,
     pub span: Span,

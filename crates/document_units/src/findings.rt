@@ -13,7 +13,7 @@ use std::alloc::Global;
 use std::collections::BTreeMap;
 
 /// A document, by its place, and bytes in it.
-#[derive(Clone, Copy, Debug)]
+#[derive(Clone, Copy)]
 pub struct At {
     pub document: usize,
     pub span: Span,
@@ -29,7 +29,7 @@ impl At {
 }
 
 /// What is wrong in a form, and where, unless what it names has no place.
-#[derive(Debug, Drop)]
+#[derive(Drop)]
 pub struct Finding {
     pub at: Option<At>,
     pub form: u32,

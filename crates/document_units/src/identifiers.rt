@@ -15,7 +15,7 @@ use scheme_model::Occ;
 use std::alloc::Global;
 
 /// A form's unit and number, and the number of its first token in the text.
-#[derive(Clone, Copy, Debug)]
+#[derive(Clone, Copy)]
 struct FormAt {
     unit: u32,
     form: u32,

@@ -37,7 +37,7 @@ use syntax_tree::units::UnitKind;
 use text_parts::{TextPart, text_parts};
 
 /// Why a unit is broken as a whole.
-#[derive(Clone, Copy, Debug, PartialEq, Eq)]
+#[derive(Clone, Copy)]
 pub enum WholeFault {
     TooMany,
     IncludeCycle,

@@ -12,7 +12,7 @@ use ls_base::{Place, Span};
 use scheme_model::Occ;
 
 /// An Error of a unit, with its place.
-#[derive(Debug, Drop)]
+#[derive(Drop)]
 pub struct PlacedError {
     pub place: Place,
     pub code: u32,

@@ -44,7 +44,7 @@ use unit_scopes::scope::UnitScope;
 use unit_scopes::uses::{Instance, Use, held};
 
 /// Where an expression stands: its scope, the innermost form read from a text around it, and how much depth is left.
-#[derive(Clone, Copy, Debug)]
+#[derive(Clone, Copy)]
 pub struct At {
     pub scope: ScopeNo,
     pub here: Option<Occ>,
@@ -63,7 +63,7 @@ pub enum Ready {
 }
 
 /// What stands at the head of a form: the keyword of a macro, that of a core form, or neither.
-#[derive(Clone, Copy, Debug)]
+#[derive(Clone, Copy)]
 pub enum Headed {
     Macro(Target),
     Core(CoreKeyword, Target),

@@ -8,10 +8,10 @@ use Rattle.scheme_model.specs.Cores.{Bound}
 use Rattle.scheme_model.specs.Steps.{Broken}
 use Rattle.scheme_model.specs.Order.{Here, Item, Note, LookedUp, Compared, Left, Pending, Renamed, Pass, Transformer, Asked, Meant, Headed, RulesOf, Alike as AlikeAsked, Assigns, Library, Ops, head_of, run}
 use Rattle.scheme_model.specs.Expression.{Task, meaning_of, expand, item_part}
-use Rattle.scheme_model.proofs.FrameAsks.{AllOf}
-use Rattle.scheme_model.proofs.FrameHeads.{IfMacro}
-use Rattle.scheme_model.proofs.FrameHeld.{NoteAll, notes_more}
-use Rattle.scheme_model.proofs.CountedForms.{OkAll}
+use Rattle.model_laws.proofs.FrameAsks.{AllOf}
+use Rattle.model_laws.proofs.FrameHeads.{IfMacro}
+use Rattle.model_laws.proofs.FrameHeld.{NoteAll, notes_more}
+use Rattle.model_laws.proofs.CountedForms.{OkAll}
 use Rattle.form_laws.proofs.Sides.{Results, NoteLike, ItemLike, PendingLike, RenamedLike, LeftLike, PartLike, TransformerLike, Answer, Sides}
 use Rattle.form_laws.proofs.SideRuns.{both_itself, item_itself, run_runs}
 use Rattle.form_laws.proofs.SideExpressions.{items_equal, part_equal, expand_goes, item_goes}

@@ -9,10 +9,10 @@ use Rattle.scheme_model.specs.Meaning.{Meaning}
 use Rattle.scheme_model.specs.RulesShape.{Rules}
 use Rattle.scheme_model.specs.Cores.{Target, MacroUse}
 use Rattle.scheme_model.specs.Order.{Note, WaitingUse, Pending, Renamed, Transformer, Ops, target_of, meet_waiting, meet_all}
-use Rattle.scheme_model.proofs.FrameAsks.{AllOf}
-use Rattle.scheme_model.proofs.FrameHeads.{IfMacro}
-use Rattle.scheme_model.proofs.FrameHeld.{NoteAll, notes_more}
-use Rattle.scheme_model.proofs.CountedForms.{OkAll}
+use Rattle.model_laws.proofs.FrameAsks.{AllOf}
+use Rattle.model_laws.proofs.FrameHeads.{IfMacro}
+use Rattle.model_laws.proofs.FrameHeld.{NoteAll, notes_more}
+use Rattle.model_laws.proofs.CountedForms.{OkAll}
 
 -- What holds of the states of an expansion and of what stands in them, and goes on to hold of those after them; where definitions are
 -- made; and another way to define, which there is the same.

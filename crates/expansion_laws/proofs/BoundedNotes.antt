@@ -17,10 +17,10 @@ use Rattle.unit_scopes.specs.Asks.{is_inside}
 use Rattle.scheme_model.proofs.OpenBodies.{NotYet}
 use Rattle.scheme_model.proofs.IdentLaws.{same_turned}
 use Rattle.scheme_model.proofs.Clocks.{next_not_yet}
-use Rattle.scheme_model.proofs.FrameEras.{Era}
-use Rattle.scheme_model.proofs.FrameAsks.{AllOf, MeansCounted, GivenCounted, BindersCounted, DefinitionsCounted, not_next, inside_counted, outside_counted}
-use Rattle.scheme_model.proofs.FrameHeld.{NoteAll}
-use Rattle.scheme_model.proofs.EntryLaws.{GivenSo}
+use Rattle.model_laws.proofs.FrameEras.{Era}
+use Rattle.model_laws.proofs.FrameAsks.{AllOf, MeansCounted, GivenCounted, BindersCounted, DefinitionsCounted, not_next, inside_counted, outside_counted}
+use Rattle.model_laws.proofs.FrameHeld.{NoteAll}
+use Rattle.model_laws.proofs.EntryLaws.{GivenSo}
 
 -- no local, and no definition of this unit
 abbrev pub Foreign : ℕ → Meaning → Type 0

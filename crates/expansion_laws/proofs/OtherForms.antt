@@ -17,10 +17,10 @@ use Rattle.scheme_model.specs.Program.{enough_turns}
 use Rattle.scheme_model.specs.Substitution.{at_form, any, unchanged}
 use Rattle.scheme_model.specs.ScopedExpansion.{Frames, FramedIdent, ScopedState, next_number, macro_added, body_around, definition_added, meaning_next, is_defined}
 use Rattle.scheme_model.specs.CountedExpansion.{refused_here}
-use Rattle.scheme_model.proofs.FrameAsks.{AllOf}
-use Rattle.scheme_model.proofs.FrameHeads.{IfMacro}
-use Rattle.scheme_model.proofs.FrameHeld.{NoteAll}
-use Rattle.scheme_model.proofs.CountedForms.{OkAll}
+use Rattle.model_laws.proofs.FrameAsks.{AllOf}
+use Rattle.model_laws.proofs.FrameHeads.{IfMacro}
+use Rattle.model_laws.proofs.FrameHeld.{NoteAll}
+use Rattle.model_laws.proofs.CountedForms.{OkAll}
 use Rattle.unit_scopes.specs.Others.{Each, InFront, CountsStay, IsOf, IsOwn, IsOwnMacro, OthersStay}
 use Rattle.unit_scopes.specs.Searched.{speaks_of, define_searched, searched}
 use Rattle.unit_scopes.specs.Stepped.{turned}

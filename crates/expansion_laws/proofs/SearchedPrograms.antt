@@ -15,15 +15,15 @@ use Rattle.scheme_model.specs.IncludedUnits.{Placed}
 use Rattle.scheme_model.specs.Program.{Prepared, WholeFault, fault_before, UnitResult, result_at, unit_entries, enough_turns, broken_result, unit_result, is_ready, first_ready, is_standard, prelude_unit}
 use Rattle.scheme_model.specs.ScopedProgram.{ScopedProgress, scoped_unit_over, scoped_start_after, scoped_by_fault, scoped_worked, scoped_work, scoped_before}
 use Rattle.unit_scopes.specs.Searched.{searched, forms_of, searched_unit_over, numbers_of, all_passed, front_passed, front_finished}
-use Rattle.scheme_model.proofs.FrameEras.{Era}
-use Rattle.scheme_model.proofs.FrameAsks.{AllOf, all_of_more, BindersCounted}
-use Rattle.scheme_model.proofs.FrameStates.{MacroFine}
-use Rattle.scheme_model.proofs.FrameBetween.{none_yet}
-use Rattle.scheme_model.proofs.FrameUnit.{UnitState}
-use Rattle.scheme_model.proofs.FrameUnits.{FormHeld}
-use Rattle.scheme_model.proofs.EntryLaws.{NoLocal, GivenSo, Fits, Exports, unit_entries_fit, with_entries_fit, exports_all_fit}
-use Rattle.scheme_model.proofs.CountedStates.{LocalsKept}
-use Rattle.scheme_model.proofs.FramePrograms.{done, coming, Between, locals_none, start_unit, forms_held, not_done, work_gone, between_before}
+use Rattle.model_laws.proofs.FrameEras.{Era}
+use Rattle.model_laws.proofs.FrameAsks.{AllOf, all_of_more, BindersCounted}
+use Rattle.model_laws.proofs.FrameStates.{MacroFine}
+use Rattle.model_laws.proofs.FrameBetween.{none_yet}
+use Rattle.model_laws.proofs.FrameUnit.{UnitState}
+use Rattle.model_laws.proofs.FrameUnits.{FormHeld}
+use Rattle.model_laws.proofs.EntryLaws.{NoLocal, GivenSo, Fits, Exports, unit_entries_fit, with_entries_fit, exports_all_fit}
+use Rattle.model_laws.proofs.CountedStates.{LocalsKept}
+use Rattle.model_laws.proofs.FramePrograms.{done, coming, Between, locals_none, start_unit, forms_held, not_done, work_gone, between_before}
 use Rattle.expansion_laws.proofs.BoundedNotes.{Foreign, Bounded}
 use Rattle.expansion_laws.proofs.SearchedUnits.{unit_searched, all_passed as units_passed, front_passed as units_front_passed, front_finished as units_front_finished}
 

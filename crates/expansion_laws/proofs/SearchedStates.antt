@@ -13,12 +13,12 @@ use Rattle.scheme_model.specs.ScopedExpansion.{Frames, BodyDefinition, FramedIde
 use Rattle.unit_scopes.specs.Searched.{speaks_of}
 use Rattle.scheme_model.proofs.OpenBodies.{Leq, Before as Counted}
 use Rattle.scheme_model.proofs.Clocks.{leq_itself, leq_then, leq_counted, next_counted}
-use Rattle.scheme_model.proofs.FrameEras.{Era, Before, before_more, unit_worked}
-use Rattle.scheme_model.proofs.FrameAsks.{AllOf, all_of_more, BindersCounted}
-use Rattle.scheme_model.proofs.FrameHeads.{IfMacro}
-use Rattle.scheme_model.proofs.FrameStates.{binders_more}
-use Rattle.scheme_model.proofs.CountedForms.{OkAll}
-use Rattle.scheme_model.proofs.CountedUnits.{defined_unless, refused_by_number}
+use Rattle.model_laws.proofs.FrameEras.{Era, Before, before_more, unit_worked}
+use Rattle.model_laws.proofs.FrameAsks.{AllOf, all_of_more, BindersCounted}
+use Rattle.model_laws.proofs.FrameHeads.{IfMacro}
+use Rattle.model_laws.proofs.FrameStates.{binders_more}
+use Rattle.model_laws.proofs.CountedForms.{OkAll}
+use Rattle.model_laws.proofs.CountedUnits.{defined_unless, refused_by_number}
 use Rattle.expansion_laws.proofs.AlikeSteps.{Likeness}
 use Rattle.expansion_laws.proofs.BoundedNotes.{Bounded, any_spoken}
 

@@ -12,17 +12,17 @@ use Rattle.scheme_model.specs.UnitExpansion.{Formed as FormResult, Work, ◌then
 use Rattle.scheme_model.specs.ScopedExpansion.{FramedIdent, ScopedState, scoped}
 use Rattle.scheme_model.specs.CountedExpansion.{counted}
 use Rattle.unit_scopes.specs.Searched.{speaks_of, searched}
-use Rattle.scheme_model.proofs.FrameEras.{Era}
-use Rattle.scheme_model.proofs.FrameAsks.{AllOf, BindersCounted}
-use Rattle.scheme_model.proofs.EntryLaws.{GivenNoLocal}
-use Rattle.scheme_model.proofs.FrameStates.{FineState, Grows, grows_itself}
-use Rattle.scheme_model.proofs.FrameHeld.{NoteAll, notes_more}
-use Rattle.scheme_model.proofs.FrameForms.{forms_law}
-use Rattle.scheme_model.proofs.FrameUnit.{UnitLeaf, UnitPlace, UnitRule, UnitState, UnitInside, Noted, unit_facts}
-use Rattle.scheme_model.proofs.UnitEnds.{Both, both_end, both_go}
-use Rattle.scheme_model.proofs.FrameUnits.{Aside, FormHeld, passed, turned, forms_later}
-use Rattle.scheme_model.proofs.CountedStates.{Formed, LocalsKept, Holds, locals_later, form_begins}
-use Rattle.scheme_model.proofs.CountedUnits.{every, run_same, left_same, SetStands, sets_later, EndedSame, SetsSame, passes_same, KeptSame, aside_same}
+use Rattle.model_laws.proofs.FrameEras.{Era}
+use Rattle.model_laws.proofs.FrameAsks.{AllOf, BindersCounted}
+use Rattle.model_laws.proofs.EntryLaws.{GivenNoLocal}
+use Rattle.model_laws.proofs.FrameStates.{FineState, Grows, grows_itself}
+use Rattle.model_laws.proofs.FrameHeld.{NoteAll, notes_more}
+use Rattle.model_laws.proofs.FrameForms.{forms_law}
+use Rattle.model_laws.proofs.FrameUnit.{UnitLeaf, UnitPlace, UnitRule, UnitState, UnitInside, Noted, unit_facts}
+use Rattle.model_laws.proofs.UnitEnds.{Both, both_end, both_go}
+use Rattle.model_laws.proofs.FrameUnits.{Aside, FormHeld, passed, turned, forms_later}
+use Rattle.model_laws.proofs.CountedStates.{Formed, LocalsKept, Holds, locals_later, form_begins}
+use Rattle.model_laws.proofs.CountedUnits.{every, run_same, left_same, SetStands, sets_later, EndedSame, SetsSame, passes_same, KeptSame, aside_same}
 use Rattle.expansion_laws.proofs.AlikeSides.{run_alike}
 use Rattle.expansion_laws.proofs.AlikeUnits.{form_work}
 use Rattle.expansion_laws.proofs.BoundedNotes.{Bounded}

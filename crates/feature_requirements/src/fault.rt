@@ -8,7 +8,7 @@ use scheme_model::Occ;
 use std::alloc::{AllocError, AllocFailed};
 
 /// Why an expansion ends early.
-#[derive(Debug, Drop)]
+#[derive(Drop)]
 pub enum ExpandFault {
     /// The form is broken.
     At(FormFault),

@@ -26,7 +26,7 @@ use syntax_tree::symbols::IdNo;
 use syntax_tree::trees::{Tree, Work};
 
 /// Why a requirement is refused.
-#[derive(Clone, Copy, Debug, PartialEq, Eq)]
+#[derive(Clone, Copy)]
 pub enum ShapeFault {
     /// It has no shape.
     BadForm,
@@ -68,7 +68,7 @@ impl<T: Drop> From<AllocFailed<T>> for ShapeFault {
 }
 
 /// What a requirement that is a list says by its word.
-#[derive(Clone, Copy, Debug, PartialEq, Eq)]
+#[derive(Clone, Copy)]
 pub enum Connective {
     And,
     Or,

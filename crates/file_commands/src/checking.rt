@@ -26,7 +26,7 @@ use syntax_tree::trees::Work;
 const VERSION: i64 = 0;
 
 /// What is printed of files, and whether an Error is.
-#[derive(Debug, Drop)]
+#[derive(Drop)]
 pub struct Checked {
     pub lines: Text,
     pub has_error: bool,

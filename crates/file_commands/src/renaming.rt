@@ -24,7 +24,7 @@ use workspace_state::{DocEvent, Workspace};
 const VERSION: i64 = 0;
 
 /// What is printed of a rename.
-#[derive(Debug, Drop)]
+#[derive(Drop)]
 pub enum Renamed {
     /// The edits.
     Edits(Text),

@@ -15,7 +15,7 @@ const MAX_TEXT: u32 = 1_048_576;
 const MAX_RECORDING: u32 = 67_108_864;
 
 /// Why a file wasn't fetched.
-#[derive(Clone, Copy, Debug, PartialEq, Eq)]
+#[derive(Clone, Copy)]
 pub enum FetchStop {
     /// It has more bytes than it may.
     Long,

@@ -53,7 +53,7 @@ use Rattle.form_expansion.proofs.BenchLaws.{stays_by, stays_on}
 use Rattle.form_expansion.proofs.FormAtWork.{item_form, met_form, same_turned, unit_turned}
 use Rattle.form_expansion.proofs.FormSteps.{others_kept}
 use Rattle.form_expansion.proofs.Live.{live_on}
-use Rattle.unit_imports.proofs.Matched.{matched_at}
+use Rattle.core_tree.proofs.Matched.{matched_at}
 use Rattle.form_expansion.proofs.UnitForms.{same_counted, step_counted}
 use Rattle.form_expansion.proofs.UnitWalk.{before, before_twice, with_parts, item_over, item_fault, item_on}
 

@@ -19,7 +19,7 @@ use Rattle.base_library.specs.Texts.{name_text, names_of}
 use Rattle.unit_scopes.specs.Preluded.{standard_names}
 use Rattle.unit_scopes.specs.declared.scope.Imported.{Imported}
 use Rattle.unit_scopes.proofs.CoreStandLaws.{every_on}
-use Rattle.unit_imports.proofs.Matched.{matched_at, matched_back, all_append}
+use Rattle.core_tree.proofs.Matched.{matched_at, matched_back, all_append}
 use Rattle.form_expansion.specs.Begun.{IsStandardName, AddsStandard, AreStandard}
 
 -- ---- names of libraries

@@ -8,7 +8,7 @@ use Rattle.scheme_model.specs.ExpansionFaults.{Fault, BadForm, ◌>>◌}
 use Rattle.scheme_model.specs.Shapes.{first_of, some_of, one_of, list_of}
 use Rattle.scheme_model.specs.Requirements.{LibraryName, Known, library_name_of, holds, all_hold, some_holds, none_holds, is_else, clause_holds, or_chosen, choices, chosen_of, name_asked, libraries_of, libraries_among, clause_libraries, all_libraries, libraries_in}
 use Rattle.scheme_model.specs.Quasiquote.{Mark, Nested, Unquoted, Spliced, Pieces, RowPieces, pieces, row_pieces, before, listed, mark_in, level_behind, hole_behind, pair_by, is_splice, element_by, datum_at, pair_at, tail_at, elements_at, quasi_of, first_name, marks_by, marks_at, pair_marks, tail_marks, element_marks, datum_marks, marks_in}
-use Rattle.scheme_model.proofs.FrameAsks.{AllOf}
+use Rattle.model_laws.proofs.FrameAsks.{AllOf}
 
 parted : {X : Type 0} (P : X → Type 0) (xs ys : List X) → AllOf P (xs ++ ys) → AllOf P xs × AllOf P ys
 parted P [] ys h = (tt, h)

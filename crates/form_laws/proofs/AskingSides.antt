@@ -17,10 +17,10 @@ use Rattle.scheme_model.specs.ScopedExpansion.{Bind, Enter, Frames, FramedIdent,
 use Rattle.scheme_model.specs.OwnAnswers.{Own, own_local, root_means, own_means, own_macro, unit_refused, body_refused}
 use Rattle.scheme_model.specs.Questions.{Moment, Around, at_moment, own_at, number_in, Outcome, Stands, Redefines, StoodBefore, found, outcome_by, outcome, Question, LooksUp, Compares, IsAssigned, Requires, Defines, Answer, Means, Expands, Says, Ends, bare, bare_macro, SameAnswer, unless_own, unless_local, in_unit, left_to_ask, dated, all_left, Asking, bound_at, ended, asking}
 use Rattle.scheme_model.specs.FormsAlike.{moved_by, bare_ident, bare_note, Leaves}
-use Rattle.scheme_model.proofs.FrameAsks.{AllOf}
-use Rattle.scheme_model.proofs.EntryLaws.{NoLocal, GivenNoLocal}
-use Rattle.scheme_model.proofs.FrameUnit.{means_no}
-use Rattle.scheme_model.proofs.FrameRoots.{AtRoot}
+use Rattle.model_laws.proofs.FrameAsks.{AllOf}
+use Rattle.model_laws.proofs.EntryLaws.{NoLocal, GivenNoLocal}
+use Rattle.model_laws.proofs.FrameUnit.{means_no}
+use Rattle.model_laws.proofs.FrameRoots.{AtRoot}
 use Rattle.form_laws.proofs.Sides.{Results, PendingLike, RenamedLike, Answer as Answered, Sides}
 use Rattle.form_laws.proofs.Answering.{own_since, ended_as, define_own, answering}
 use Rattle.form_laws.proofs.Bare.{SameFrames, body_same, bare_twice, some_frames, like_of, own_bare, any_bare, note_bare}

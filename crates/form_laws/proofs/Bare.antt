@@ -11,7 +11,7 @@ use Rattle.scheme_model.specs.ScopedExpansion.{Bind, Enter, Frames, BodyDefiniti
 use Rattle.scheme_model.specs.OwnAnswers.{Own, found_or, local_inside, unless, local_outside, own_local}
 use Rattle.scheme_model.specs.Questions.{bare, bare_macro}
 use Rattle.scheme_model.specs.FormsAlike.{bare_place, bare_kept, bare_ident, bare_note}
-use Rattle.scheme_model.proofs.FrameHeads.{IfMacro}
+use Rattle.model_laws.proofs.FrameHeads.{IfMacro}
 use Rattle.form_laws.proofs.Sides.{NoteLike, TransformerLike}
 
 -- the same frames but for these times

@@ -12,11 +12,11 @@ use Rattle.scheme_model.specs.FrameImages.{is_before}
 use Rattle.scheme_model.specs.ScopedExpansion.{BodyDefinition, BodyDefinitions, Frames, ScopedMacro, ScopedState, around, find, macro_at}
 use Rattle.scheme_model.proofs.Clocks.{apart}
 use Rattle.scheme_model.proofs.ScopeLaws.{map_map}
-use Rattle.scheme_model.proofs.FrameEras.{Era, Before, Below}
-use Rattle.scheme_model.proofs.FrameAsks.{AllOf, not_next}
-use Rattle.scheme_model.proofs.EntryLaws.{GivenNoLocal}
-use Rattle.scheme_model.proofs.FrameRoots.{rules_more, Rooted, RootMacro, MacroStands as StandsInUnit, UnitMacro}
-use Rattle.scheme_model.proofs.FrameStates.{MacroFine, FineState}
+use Rattle.model_laws.proofs.FrameEras.{Era, Before, Below}
+use Rattle.model_laws.proofs.FrameAsks.{AllOf, not_next}
+use Rattle.model_laws.proofs.EntryLaws.{GivenNoLocal}
+use Rattle.model_laws.proofs.FrameRoots.{rules_more, Rooted, RootMacro, MacroStands as StandsInUnit, UnitMacro}
+use Rattle.model_laws.proofs.FrameStates.{MacroFine, FineState}
 use Rattle.form_laws.specs.Begins.{Each, With, plain_of, TreeWith, RulesWith, IsCounted, IsToCome, IsMade, IsRooted, IsEntry, MacroStands, Begins}
 
 -- ---- forms as they are written

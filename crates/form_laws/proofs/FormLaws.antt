@@ -12,7 +12,7 @@ use Rattle.scheme_model.specs.Substitution.{definition_count}
 use Rattle.scheme_model.specs.ScopedExpansion.{FramedIdent, ScopedState}
 use Rattle.scheme_model.specs.Questions.{Moment, Around, Question, SameAnswer, Asking, asking}
 use Rattle.scheme_model.specs.FormsAlike.{bound_moved, binder_with, binders_with, record_with, item_with, left_with, part_with, parts_with, or_fault, moved_by, set_aside, finish_by, finish, start, no_questions, set_aside_asking, finish_asking, questions_of_pass, questions_of_left, bare_note, Leaves, IsSetAside, IsFinished, SameAside, SameFinish}
-use Rattle.scheme_model.proofs.FrameAsks.{AllOf}
+use Rattle.model_laws.proofs.FrameAsks.{AllOf}
 use Rattle.form_laws.specs.Begins.{Each, Begins, FormBegins, LeftBegins, SameForm}
 use Rattle.form_laws.proofs.Sides.{Both, Results, BinderLike, BindersLike, RecordLike, ItemLike, PartLike, PartsLike, LeftLike}
 use Rattle.form_laws.proofs.SideRuns.{both_itself, item_itself, run_runs}

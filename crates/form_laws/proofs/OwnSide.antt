@@ -18,18 +18,18 @@ use Rattle.scheme_model.specs.Scopes.{local_or}
 use Rattle.scheme_model.specs.ScopedExpansion.{Frames, Bind, Enter, FramedIdent, ScopedState, means_at, macro_at, body_around, definition_added, meaning_next, is_defined, refused_now, find}
 use Rattle.scheme_model.specs.CountedExpansion.{means_here, refused_here, counted}
 use Rattle.scheme_model.specs.OwnAnswers.{own_local, root_means, own_means, own_macro, unit_refused, body_refused}
-use Rattle.scheme_model.proofs.IdentKinds.{Kind, tree_kind, rules_kind, item_kind, use_kind}
-use Rattle.scheme_model.proofs.FrameAsks.{AllOf}
-use Rattle.scheme_model.proofs.EntryLaws.{NoLocal}
-use Rattle.scheme_model.proofs.FrameHeads.{IfMacro}
-use Rattle.scheme_model.proofs.FrameLeaves.{Held}
-use Rattle.scheme_model.proofs.CountedOps.{Setting, ToldBound, Side, B, D, T, M, ident, at, over, side, goes, define_cases, defined_seen, maybe_held, then_, then_holds}
-use Rattle.scheme_model.proofs.CountedUses.{meet_all_goes}
-use Rattle.scheme_model.proofs.CountedForms.{ToldItem, left_seen, Ran, ran}
-use Rattle.scheme_model.proofs.CountedRuns.{run_goes}
-use Rattle.scheme_model.proofs.CountedExpressions.{Same, parts_goes, expand_goes}
-use Rattle.scheme_model.proofs.CountedStates.{told_by}
-use Rattle.scheme_model.proofs.CountedUnits.{of_form_told}
+use Rattle.model_laws.proofs.IdentKinds.{Kind, tree_kind, rules_kind, item_kind, use_kind}
+use Rattle.model_laws.proofs.FrameAsks.{AllOf}
+use Rattle.model_laws.proofs.EntryLaws.{NoLocal}
+use Rattle.model_laws.proofs.FrameHeads.{IfMacro}
+use Rattle.model_laws.proofs.FrameLeaves.{Held}
+use Rattle.model_laws.proofs.CountedOps.{Setting, ToldBound, Side, B, D, T, M, ident, at, over, side, goes, define_cases, defined_seen, maybe_held, then_, then_holds}
+use Rattle.model_laws.proofs.CountedUses.{meet_all_goes}
+use Rattle.model_laws.proofs.CountedForms.{ToldItem, left_seen, Ran, ran}
+use Rattle.model_laws.proofs.CountedRuns.{run_goes}
+use Rattle.model_laws.proofs.CountedExpressions.{Same, parts_goes, expand_goes}
+use Rattle.model_laws.proofs.CountedStates.{told_by}
+use Rattle.model_laws.proofs.CountedUnits.{of_form_told}
 use Rattle.form_laws.specs.Begins.{Each, With, TreeWith, ItemWith, UseWith, IsRooted, Begins, PlaceStands, NoteStands, BindsInUnit, MacroInUnit}
 use Rattle.form_laws.proofs.Answering.{own_since, ended_as, define_own, answering}
 use Rattle.form_laws.proofs.AskingSides.{apart_left, apart_right}

@@ -18,15 +18,15 @@ use Rattle.scheme_model.specs.ScopedExpansion.{Bind, Enter, Frames, BodyDefiniti
 use Rattle.scheme_model.specs.OwnAnswers.{Own, found_or, local_inside, unless, local_outside, own_local, root_means, own_means, own_macro}
 use Rattle.scheme_model.proofs.OpenBodies.{Leq}
 use Rattle.scheme_model.proofs.IdentLaws.{number_told}
-use Rattle.scheme_model.proofs.IdentKinds.{rules_kind}
+use Rattle.model_laws.proofs.IdentKinds.{rules_kind}
 use Rattle.scheme_model.proofs.Clocks.{leq_itself, leq_then, leq_counted}
-use Rattle.scheme_model.proofs.FrameAsks.{AllOf}
-use Rattle.scheme_model.proofs.EntryLaws.{NoLocal, GivenNoLocal}
-use Rattle.scheme_model.proofs.FrameLeaves.{Held, held_more}
-use Rattle.scheme_model.proofs.FrameHeads.{IfMacro}
-use Rattle.scheme_model.proofs.CountedOps.{Setting}
-use Rattle.scheme_model.proofs.CountedStates.{is_of, is_same}
-use Rattle.scheme_model.proofs.CountedUnits.{every}
+use Rattle.model_laws.proofs.FrameAsks.{AllOf}
+use Rattle.model_laws.proofs.EntryLaws.{NoLocal, GivenNoLocal}
+use Rattle.model_laws.proofs.FrameLeaves.{Held, held_more}
+use Rattle.model_laws.proofs.FrameHeads.{IfMacro}
+use Rattle.model_laws.proofs.CountedOps.{Setting}
+use Rattle.model_laws.proofs.CountedStates.{is_of, is_same}
+use Rattle.model_laws.proofs.CountedUnits.{every}
 use Rattle.form_laws.specs.Begins.{Each, RulesWith, IsCounted, IsMade, IsRooted, IsEntry, MacroStands, Begins}
 use Rattle.form_laws.proofs.Answering.{new_of, own_since, new_front}
 use Rattle.form_laws.proofs.AskingSides.{root_no}

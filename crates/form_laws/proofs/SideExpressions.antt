@@ -17,8 +17,8 @@ use Rattle.scheme_model.specs.Cores.{Target, Bound, LocalNumber, Binder, Binders
 use Rattle.scheme_model.specs.Steps.{Broken, Step, ◌>>=◌, done, fails}
 use Rattle.scheme_model.specs.Order.{Here, Item, Expression, Value, Function, Assigned, AssignedFunction, ValuesOf, Record, Macro, Left, Pending, Pass, Region, Transformer, Asked, Meant, Headed, RulesOf, Library, Ops, target_of, head_of, here_at, forms_at, given, meet_waiting, meet_all, RulesParts, rules_parts_of, max_nodes}
 use Rattle.scheme_model.specs.Expression.{Task, whole, body, Expander, node, each, each_of, bound, procedure, lambda, clauses, meaning_of, macro_with, macro_def, leaves_asked, macro_asked, assignment, item_part, parts, left_of, body_in, body_core, expressions, sequence, heads, keep_all, numbers, local_defs, locals_asked, local_macros, recursive, let_syntax, letrec_syntax, mark_of, symbol_or_hole, quasi, quote, unless_keyword, set, reference, call, chosen_sequence, core_form, macro_use, by_head, expression, expand}
-use Rattle.scheme_model.proofs.FrameAsks.{AllOf}
-use Rattle.scheme_model.proofs.FrameHeads.{IfMacro}
+use Rattle.model_laws.proofs.FrameAsks.{AllOf}
+use Rattle.model_laws.proofs.FrameHeads.{IfMacro}
 use Rattle.form_laws.proofs.Sides.{Both, Equal, BinderLike, MacroLike, ItemLike, PartLike, PartsLike, LeftLike, TransformerLike, Answer, Sides}
 use Rattle.form_laws.proofs.SideSteps.{other, Goes, Same, comes_into, comes_after, comes_read, comes_asked, asked_fits, goes_done, goes_same, goes_fails, bind_like, bind_same, counting_goes, given_goes, meet_goes, meet_later, meet_all_goes, meet_all_later, use_goes, parts_goes, rules_goes, Runs}
 use Rattle.form_laws.proofs.SideRuns.{run_runs}

@@ -13,8 +13,8 @@ use Rattle.scheme_model.specs.Requirements.{LibraryName, chosen_of, libraries_in
 use Rattle.scheme_model.specs.Cores.{Target, Bound, Binder, Binders}
 use Rattle.scheme_model.specs.Steps.{Broken, Step, ◌>>=◌, done, fails}
 use Rattle.scheme_model.specs.Order.{Here, Form, Item, Expression, Value, Function, Assigned, AssignedFunction, ValuesOf, Record, Macro, Note, LookedUp, Compared, WaitingUse, Pending, Renamed, Pass, Going, Transformer, Instance, Asked, Headed, RulesOf, Assigns, Library, Counted, Ops, head_of, target_of, here_at, forms_at, told, has_use, used, binder_at, put, waiting, noted, first, define_all, define_names, record_names, record_part, caught, run_variable, run_function, run_define, run_values, run_record, RulesParts, rules_parts_of, rules_parts, rules_note, rules_at, run_syntax, splice, or_none, read_then, run_core, run_use, run_head, run_form, run_next, run}
-use Rattle.scheme_model.proofs.FrameAsks.{AllOf}
-use Rattle.scheme_model.proofs.FrameHeads.{IfMacro}
+use Rattle.model_laws.proofs.FrameAsks.{AllOf}
+use Rattle.model_laws.proofs.FrameHeads.{IfMacro}
 use Rattle.form_laws.proofs.Sides.{Both, Results, BinderLike, ItemLike, PendingLike, RenamedLike, TransformerLike, Answer, Sides}
 use Rattle.form_laws.proofs.SideSteps.{other, Comes, Goes, comes_into, comes_after, comes_read, comes_asked, asked_fits, goes_done, goes_fails, bind_like, bind_same, counting_goes, given_goes, pairs, held, held_first, questions, use_begun, use_read, use_from, compared_there, compared_read, compared_noted, parts_there, parts_from, rules_goes, fields_goes, Runs, caught_like, caught_same}
 use Rattle.form_laws.proofs.AskedReaders.{chosen_same}

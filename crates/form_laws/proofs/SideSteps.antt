@@ -13,7 +13,7 @@ use Rattle.scheme_model.specs.Building.{Built, build}
 use Rattle.scheme_model.specs.Cores.{Target, LocalNumber, Binder, MacroUse}
 use Rattle.scheme_model.specs.Steps.{Broken, Step, ◌>>=◌, done, fails}
 use Rattle.scheme_model.specs.Order.{Here, Note, Compared, Pass, Transformer, WaitingUse, Instance, Asked, Meant, Headed, Alike, Counted, Ops, head_of, target_of, counting, given, has_use, compared_asked, used, use_of, meet_waiting, meet_all, caught, is_rules, RulesParts, rules_parts, rules_at, max_nodes, fields_bound}
-use Rattle.scheme_model.proofs.FrameAsks.{AllOf}
+use Rattle.model_laws.proofs.FrameAsks.{AllOf}
 use Rattle.scheme_model.proofs.MatchedLaws.{Agree, first_match_same}
 use Rattle.form_laws.proofs.Sides.{Results, Equal, LeftLike, second, Answer, Sides}
 

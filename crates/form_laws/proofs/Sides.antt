@@ -10,8 +10,8 @@ use Rattle.scheme_model.specs.RulesShape.{Rules}
 use Rattle.scheme_model.specs.Cores.{Target, Bound, Binder, Binders, RecordType, MacroUse, MacroDef, Parts, no_parts, part, Part, Expression as expression_part, Define as define_part, Values as values_part, Fields as fields_part, Syntax as syntax_part}
 use Rattle.scheme_model.specs.Order.{Item, Expression, Value, Function, Assigned, AssignedFunction, ValuesOf, Record, Macro, Note, LookedUp, Compared, Left, Pending, Renamed, Transformer, Asked, Meant, Headed, RulesOf, Alike, Assigns, Library, Ops, head_of}
 use Rattle.scheme_model.specs.Expression.{meaning_of}
-use Rattle.scheme_model.proofs.FrameAsks.{AllOf}
-use Rattle.scheme_model.proofs.FrameHeads.{IfMacro}
+use Rattle.model_laws.proofs.FrameAsks.{AllOf}
+use Rattle.model_laws.proofs.FrameHeads.{IfMacro}
 
 -- ---- alike
 

@@ -20,7 +20,7 @@ use syntax_tree::texts::same_text;
 use syntax_tree::trees::{Tree, Work};
 
 /// A keyword that stands within other forms alone.
-#[derive(Clone, Copy, Debug, PartialEq, Eq)]
+#[derive(Clone, Copy)]
 pub enum Auxiliary {
     SyntaxRules,
     Unquote,
@@ -29,7 +29,7 @@ pub enum Auxiliary {
 }
 
 /// What the head of a form is: the keyword of a core form, an auxiliary keyword, a macro, or no keyword.
-#[derive(Clone, Copy, Debug, PartialEq, Eq)]
+#[derive(Clone, Copy)]
 pub enum Head {
     Core(CoreKeyword),
     Auxiliary(Auxiliary),

@@ -12,7 +12,7 @@ use syntax_tree::meaning::Meaning;
 use syntax_tree::trees::Tree;
 
 /// A form with the place that a fault in it has, where it has none itself.
-#[derive(Clone, Copy, Debug)]
+#[derive(Clone, Copy)]
 pub struct Form {
     pub here: Option<Occ>,
     pub tree: Tree,
@@ -63,7 +63,7 @@ pub struct Left {
 }
 
 /// Where forms are gone through: a unit's own scope, or that of a body.
-#[derive(Clone, Copy, Debug)]
+#[derive(Clone, Copy)]
 pub struct Spot {
     pub scope: ScopeNo,
     pub in_body: bool,

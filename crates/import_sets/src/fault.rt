@@ -7,7 +7,7 @@ use ls_base::{Memory, Text};
 use std::alloc::{AllocError, AllocFailed};
 
 /// Why an import set gives nothing.
-#[derive(Debug, Drop)]
+#[derive(Drop)]
 pub enum ImportFault {
     /// Memory ran out.
     Memory,

@@ -11,7 +11,7 @@ use std::collections::HashMap;
 use syntax_tree::units::{Entry, Origin};
 
 /// An entry, and what spells the later ones of its name.
-#[derive(Debug, Drop)]
+#[derive(Drop)]
 pub struct Group {
     pub entry: Entry,
     pub more: Items<Origin>,

@@ -6,14 +6,14 @@ use ls_base::{Items, Text};
 use scheme_model::Occ;
 
 /// An identifier of a set, with the place where it stands.
-#[derive(Debug, Drop)]
+#[derive(Drop)]
 pub struct SetName {
     pub name: Text,
     pub occ: Option<Occ>,
 }
 
 /// An identifier of a set, and the one under which `rename` gives it.
-#[derive(Debug, Drop)]
+#[derive(Drop)]
 pub struct NamePair {
     pub from: SetName,
     pub to: SetName,
@@ -21,7 +21,7 @@ pub struct NamePair {
 
 /// A library's name as a text, and what modifiers do to what it exports, the innermost first. `Bad` stands for a set, or an
 /// inner set, without the shape of one.
-#[derive(Debug, Drop)]
+#[derive(Drop)]
 pub enum ImportSet {
     Library(Text),
     Only {

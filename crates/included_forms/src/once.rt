@@ -9,7 +9,7 @@ use std::alloc::Global;
 use std::collections::BTreeSet;
 
 /// Where a string stands: its document, and its first byte there.
-#[derive(Clone, Copy, Debug, PartialEq, Eq, PartialOrd, Ord)]
+#[derive(Clone, Copy, PartialEq, Eq, PartialOrd, Ord)]
 pub struct Spot {
     pub document: u32,
     pub start: u32,

@@ -7,7 +7,7 @@ use datum_reader::Datum;
 use scheme_model::Home;
 
 /// Where a datum is written: the document by its place, and the home of the text, where that is included.
-#[derive(Clone, Copy, Debug)]
+#[derive(Clone, Copy)]
 pub struct Origin {
     pub document: u32,
     pub home: Option<Home>,

@@ -16,7 +16,7 @@ use Rattle.scheme_model.specs.ScopedExpansion.{Bind, Enter, Frames, UsePlace, Fr
 use Rattle.scheme_model.specs.OwnAnswers.{root_means, own_means}
 use Rattle.scheme_model.specs.Questions.{Moment, Around, at_moment, own_at, found, outcome_by, unit_outcome, Question, LooksUp, UsesRules, Compares, IsAssigned, Requires, Defines, Means, Expands, Ends, bare, bare_macro, answer, SameAnswer}
 use Rattle.scheme_model.specs.FormsAlike.{start, again, bare_place, bare_kept, bare_ident, bare_note, bare_state}
-use Rattle.scheme_model.proofs.IdentKinds.{Kind, tree_kind, rules_kind, item_kind, use_kind}
+use Rattle.model_laws.proofs.IdentKinds.{Kind, tree_kind, rules_kind, item_kind, use_kind}
 use Rattle.form_laws.specs.Begins.{Each, With, RulesWith, ItemWith, UseWith, IsCounted, IsMade, IsRooted, IsEntry, MacroStands, Begins, PlaceStands, NoteStands, FormBegins, LeftBegins, RestBegins, SameForm}
 use Rattle.form_laws.proofs.Bare.{bare_twice, macro_bare, some_mapped, own_bare, any_bare}
 

@@ -13,17 +13,17 @@ use Rattle.scheme_model.specs.FrameImages.{is_before}
 use Rattle.scheme_model.specs.ScopedExpansion.{UsePlace, FramedIdent, ScopedState, around}
 use Rattle.scheme_model.specs.CountedExpansion.{counted}
 use Rattle.scheme_model.proofs.Clocks.{apart}
-use Rattle.scheme_model.proofs.IdentKinds.{tree_kind, item_kind, use_kind}
-use Rattle.scheme_model.proofs.FrameEras.{Era, Before}
-use Rattle.scheme_model.proofs.FrameAsks.{AllOf}
-use Rattle.scheme_model.proofs.EntryLaws.{GivenNoLocal}
-use Rattle.scheme_model.proofs.FrameStates.{FineState, Grows}
-use Rattle.scheme_model.proofs.FrameLeaves.{TreeAll, lift_tree, lifted_tree, Held}
-use Rattle.scheme_model.proofs.FrameHeld.{NoteAll, ItemHeld}
-use Rattle.scheme_model.proofs.FrameUnit.{UnitLeaf, UnitPlace, UnitState}
-use Rattle.scheme_model.proofs.UnitEnds.{Both, both_end, both_go, OnWork}
-use Rattle.scheme_model.proofs.CountedStates.{Formed, LocalsKept, locals_later, form_begins}
-use Rattle.scheme_model.proofs.CountedUnits.{SetStands, sets_later, pass_same, aside_same}
+use Rattle.model_laws.proofs.IdentKinds.{tree_kind, item_kind, use_kind}
+use Rattle.model_laws.proofs.FrameEras.{Era, Before}
+use Rattle.model_laws.proofs.FrameAsks.{AllOf}
+use Rattle.model_laws.proofs.EntryLaws.{GivenNoLocal}
+use Rattle.model_laws.proofs.FrameStates.{FineState, Grows}
+use Rattle.model_laws.proofs.FrameLeaves.{TreeAll, lift_tree, lifted_tree, Held}
+use Rattle.model_laws.proofs.FrameHeld.{NoteAll, ItemHeld}
+use Rattle.model_laws.proofs.FrameUnit.{UnitLeaf, UnitPlace, UnitState}
+use Rattle.model_laws.proofs.UnitEnds.{Both, both_end, both_go, OnWork}
+use Rattle.model_laws.proofs.CountedStates.{Formed, LocalsKept, locals_later, form_begins}
+use Rattle.model_laws.proofs.CountedUnits.{SetStands, sets_later, pass_same, aside_same}
 use Rattle.form_laws.specs.Begins.{Each, ItemWith, UseWith, IsRooted, Begins, NoteStands, FormBegins, RestBegins}
 use Rattle.form_laws.proofs.Beginnings.{fine_begins}
 use Rattle.kept_forms.specs.KeptForms.{around_form}

@@ -13,7 +13,7 @@ use Rattle.scheme_model.specs.ScopedExpansion.{ScopedState}
 use Rattle.scheme_model.specs.CountedExpansion.{counted}
 use Rattle.scheme_model.specs.Questions.{Moment, Around, Asking}
 use Rattle.scheme_model.specs.FormsAlike.{item_with, part_with, parts_with, or_fault, again, bare_state, Leaves}
-use Rattle.scheme_model.proofs.UnitEnds.{Both, both_end, both_go, both_at, both_then}
+use Rattle.model_laws.proofs.UnitEnds.{Both, both_end, both_go, both_at, both_then}
 use Rattle.form_laws.proofs.Answering.{first_of}
 use Rattle.kept_forms.specs.KeptForms.{KeptItem, item_moved, put_items}
 use Rattle.kept_forms.specs.Carried.{unless_broken, kept_items}

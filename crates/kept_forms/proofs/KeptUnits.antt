@@ -13,12 +13,12 @@ use Rattle.scheme_model.specs.UnitExpansion.{unless_over, passes, finished, unit
 use Rattle.scheme_model.specs.ScopedExpansion.{FramedIdent, ScopedState}
 use Rattle.scheme_model.specs.CountedExpansion.{counted}
 use Rattle.scheme_model.specs.FormsAlike.{set_aside, bare_note, bare_state}
-use Rattle.scheme_model.proofs.FrameEras.{Era}
-use Rattle.scheme_model.proofs.FrameAsks.{AllOf, all_of_more}
-use Rattle.scheme_model.proofs.FrameStates.{Grows, grows_itself, grows_then}
-use Rattle.scheme_model.proofs.FrameLeaves.{TreeAll, tree_more}
-use Rattle.scheme_model.proofs.FrameUnit.{UnitLeaf, leaf_later}
-use Rattle.scheme_model.proofs.UnitEnds.{Both, both_end, both_go, both_at, both_then, both_over, OnWork}
+use Rattle.model_laws.proofs.FrameEras.{Era}
+use Rattle.model_laws.proofs.FrameAsks.{AllOf, all_of_more}
+use Rattle.model_laws.proofs.FrameStates.{Grows, grows_itself, grows_then}
+use Rattle.model_laws.proofs.FrameLeaves.{TreeAll, tree_more}
+use Rattle.model_laws.proofs.FrameUnit.{UnitLeaf, leaf_later}
+use Rattle.model_laws.proofs.UnitEnds.{Both, both_end, both_go, both_at, both_then, both_over, OnWork}
 use Rattle.form_laws.specs.Begins.{Each}
 use Rattle.kept_forms.specs.KeptForms.{FormOrKept, form_of, around_form, goes_through, LeftOrKept, passes_keeping, finished_keeping, numbers_of, unit_keeping, comes_to, counts_at, KeptParts, rest_kept}
 use Rattle.kept_forms.specs.Carried.{Onwards, PassesKept, RestsKept, UnitKept, PassesBegin, RestsBegin, UnitBegins, SameWork, FormFits}

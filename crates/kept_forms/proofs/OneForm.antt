@@ -12,8 +12,8 @@ use Rattle.scheme_model.specs.ScopedExpansion.{FramedIdent, ScopedState}
 use Rattle.scheme_model.specs.CountedExpansion.{counted}
 use Rattle.scheme_model.specs.Questions.{Around, SameAnswer, Asking, asking, Moment}
 use Rattle.scheme_model.specs.FormsAlike.{bound_moved, binder_with, item_with, left_with, or_fault, set_aside, no_questions, set_aside_asking, questions_of_pass, questions_of_left, again, bare_note, bare_state, start}
-use Rattle.scheme_model.proofs.FrameAsks.{AllOf}
-use Rattle.scheme_model.proofs.UnitEnds.{Both, both_go, both_at}
+use Rattle.model_laws.proofs.FrameAsks.{AllOf}
+use Rattle.model_laws.proofs.UnitEnds.{Both, both_go, both_at}
 use Rattle.form_laws.specs.Begins.{Each, ItemWith, IsRooted, MacroInUnit, Begins, FormBegins, LeftBegins, RestBegins, SameForm}
 use Rattle.form_laws.proofs.Sides.{ItemLike}
 use Rattle.form_laws.proofs.SideRuns.{both_itself, item_itself}

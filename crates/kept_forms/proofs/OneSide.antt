@@ -18,9 +18,9 @@ use Rattle.scheme_model.specs.UnitExpansion.{max_depth, max_total, Work, ◌then
 use Rattle.scheme_model.specs.Substitution.{any, unchanged, at_form, definition_count}
 use Rattle.scheme_model.specs.ScopedExpansion.{Frames, FramedIdent, ScopedState, body_around, definition_added, meaning_next, is_defined, bound_next}
 use Rattle.scheme_model.specs.CountedExpansion.{refused_here, counted}
-use Rattle.scheme_model.proofs.FrameAsks.{AllOf}
-use Rattle.scheme_model.proofs.FrameHeads.{IfMacro}
-use Rattle.scheme_model.proofs.CountedForms.{OkAll}
+use Rattle.model_laws.proofs.FrameAsks.{AllOf}
+use Rattle.model_laws.proofs.FrameHeads.{IfMacro}
+use Rattle.model_laws.proofs.CountedForms.{OkAll}
 use Rattle.kept_forms.specs.KeptForms.{counts_at}
 use Rattle.form_laws.specs.Begins.{Each, BindsInUnit, MacroInUnit}
 use Rattle.form_laws.proofs.Sides.{Both, Results, NoteLike, ItemLike, PendingLike, RenamedLike, LeftLike, TransformerLike, Answer, Sides, BinderLike}

@@ -20,15 +20,15 @@ use Rattle.scheme_model.specs.Entries.{Entry}
 use Rattle.scheme_model.specs.IncludedUnits.{Placed}
 use Rattle.scheme_model.specs.Program.{Prepared, WholeFault, fault_before, SetResult, UnitResult, result_at, unit_entries, with_entries, enough_turns, broken_result, unit_result, is_ready, first_ready, is_program, forms_at_work}
 use Rattle.scheme_model.specs.ScopedProgram.{ScopedProgress, forms_over, scoped_start_of, scoped_unit_over, scoped_start_after, scoped_by_fault, scoped_worked, scoped_work, scoped_before}
-use Rattle.scheme_model.proofs.FrameEras.{Era, Worked, Before}
-use Rattle.scheme_model.proofs.FrameAsks.{AllOf, all_of_more}
-use Rattle.scheme_model.proofs.EntryLaws.{NoLocal, unit_entries_fit}
-use Rattle.scheme_model.proofs.FrameLeaves.{TreeAll}
-use Rattle.scheme_model.proofs.UnitEnds.{OnWork}
-use Rattle.scheme_model.proofs.FrameUnit.{UnitLeaf}
-use Rattle.scheme_model.proofs.FrameUnits.{FormHeld}
-use Rattle.scheme_model.proofs.FrameBetween.{none_yet}
-use Rattle.scheme_model.proofs.FramePrograms.{done, coming, locals_none, start_unit, forms_held, not_done, work_gone, between_before, Between as BetweenUnits}
+use Rattle.model_laws.proofs.FrameEras.{Era, Worked, Before}
+use Rattle.model_laws.proofs.FrameAsks.{AllOf, all_of_more}
+use Rattle.model_laws.proofs.EntryLaws.{NoLocal, unit_entries_fit}
+use Rattle.model_laws.proofs.FrameLeaves.{TreeAll}
+use Rattle.model_laws.proofs.UnitEnds.{OnWork}
+use Rattle.model_laws.proofs.FrameUnit.{UnitLeaf}
+use Rattle.model_laws.proofs.FrameUnits.{FormHeld}
+use Rattle.model_laws.proofs.FrameBetween.{none_yet}
+use Rattle.model_laws.proofs.FramePrograms.{done, coming, locals_none, start_unit, forms_held, not_done, work_gone, between_before, Between as BetweenUnits}
 use Rattle.kept_forms.specs.KeptForms.{FormOrKept, form_of, unit_keeping, counts_at}
 use Rattle.form_laws.specs.Begins.{Each}
 use Rattle.kept_forms.specs.Carried.{Onwards, UnitKept, UnitBegins, SameWork, no_counts}

@@ -7,8 +7,8 @@ use Rattle.scheme_model.specs.UnitExpansion.{◌then◌, going, unless_over}
 use Rattle.scheme_model.specs.ScopedExpansion.{FramedIdent, ScopedState}
 use Rattle.scheme_model.specs.CountedExpansion.{counted}
 use Rattle.scheme_model.specs.Questions.{Around}
-use Rattle.scheme_model.proofs.FrameAsks.{AllOf}
-use Rattle.scheme_model.proofs.UnitEnds.{OnWork}
+use Rattle.model_laws.proofs.FrameAsks.{AllOf}
+use Rattle.model_laws.proofs.UnitEnds.{OnWork}
 use Rattle.form_laws.specs.Begins.{Each}
 use Rattle.kept_forms.specs.KeptForms.{KeptParts, KeptForm, FormOrKept, around_form, goes_through, counts_at, LeftOrKept, rest_kept, passes_keeping}
 use Rattle.kept_forms.specs.Carried.{no_counts, RestFits, FormFits}

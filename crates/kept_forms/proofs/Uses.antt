@@ -12,9 +12,9 @@ use Rattle.scheme_model.specs.Substitution.{at_form, Clock}
 use Rattle.scheme_model.specs.ScopedExpansion.{Frames, FramedIdent, UsePlace, ScopedState, next_number}
 use Rattle.scheme_model.specs.CountedExpansion.{counted}
 use Rattle.scheme_model.proofs.Clocks.{leq_counted, next_counted}
-use Rattle.scheme_model.proofs.FrameEras.{Era, Before, before_more, unit_worked}
-use Rattle.scheme_model.proofs.FrameAsks.{AllOf, all_of_more}
-use Rattle.scheme_model.proofs.UnitEnds.{OnWork}
+use Rattle.model_laws.proofs.FrameEras.{Era, Before, before_more, unit_worked}
+use Rattle.model_laws.proofs.FrameAsks.{AllOf, all_of_more}
+use Rattle.model_laws.proofs.UnitEnds.{OnWork}
 use Rattle.form_laws.specs.Begins.{BindsInUnit}
 use Rattle.kept_forms.proofs.OneSide.{MacrosOfUnit, OthersStay, over_keeps, then_keeps, run_keeps, parts_keep, DefinesMore, left_of_unit}
 

@@ -14,7 +14,7 @@ use Rattle.scheme_model.specs.Questions.{Moment, Around}
 use Rattle.scheme_model.specs.FormsAlike.{again}
 use Rattle.scheme_model.proofs.OpenBodies.{Leq}
 use Rattle.scheme_model.proofs.Clocks.{leq_itself, leq_then, leq_counted}
-use Rattle.scheme_model.proofs.FrameAsks.{AllOf}
+use Rattle.model_laws.proofs.FrameAsks.{AllOf}
 use Rattle.form_laws.proofs.Leaving.{at_here}
 use Rattle.kept_forms.specs.KeptForms.{KeptItem, KeptParts, KeptForm, FormOrKept, around_form, goes_through, LeftOrKept, rest_kept, passes_keeping, put_items, comes_to, finished_keeping, counts_at}
 use Rattle.kept_forms.specs.Carried.{only_counted}

@@ -6,7 +6,7 @@ use Rattle.scheme_model.specs.Includes.{Document}
 use Rattle.scheme_model.specs.IncludedUnits.{Placed}
 use Rattle.scheme_model.specs.Program.{known_in, units_of, Prepared, prepare, WholeFault, fault_before, broken_result, unit_result, unit_entries, with_entries, enough_turns, is_ready, first_ready, in_order, program_of}
 use Rattle.scheme_model.specs.ScopedProgram.{ScopedProgress, scoped_unit_over, scoped_start_after, scoped_by_fault, scoped_worked, scoped_work, scoped_before, scoped_program_of}
-use Rattle.scheme_model.proofs.FramePrograms.{work_gone, between_before, program_law, Between as BetweenUnits}
+use Rattle.model_laws.proofs.FramePrograms.{work_gone, between_before, program_law, Between as BetweenUnits}
 use Rattle.kept_forms.specs.KeptForms.{unit_keeping}
 use Rattle.kept_forms.specs.Carried.{SameWork}
 use Rattle.kept_forms.specs.KeptPrograms.{Keeping, kept_by_fault, kept_worked, kept_work, kept_program_of, UnitKeeps, WorkKeeps, ProgramKeeps, SameProgress, unit_uses, work_uses, program_worked, unit_not_kept, work_not_kept, program_not_kept}

@@ -10,8 +10,8 @@ use Rattle.scheme_model.specs.UnitExpansion.{Formed, max_total, ◌then◌, goin
 use Rattle.scheme_model.specs.ScopedExpansion.{FramedIdent, ScopedState}
 use Rattle.scheme_model.specs.CountedExpansion.{counted}
 use Rattle.scheme_model.specs.Questions.{Around}
-use Rattle.scheme_model.proofs.FrameAsks.{AllOf, all_of_more}
-use Rattle.scheme_model.proofs.UnitEnds.{OnWork}
+use Rattle.model_laws.proofs.FrameAsks.{AllOf, all_of_more}
+use Rattle.model_laws.proofs.UnitEnds.{OnWork}
 use Rattle.form_laws.proofs.Leaving.{at_here}
 use Rattle.kept_forms.specs.KeptForms.{KeptParts, KeptForm, FormOrKept, around_form, goes_through, LeftOrKept, rest_kept, passes_keeping, comes_to, finished_keeping, numbers_of, unit_keeping, counts_at}
 use Rattle.kept_forms.specs.Worked.{begun_by, unless_kept, worked_then, passes_worked, rests_worked, unit_worked, rest_of, not_kept, uses_not_kept, UsesTold}

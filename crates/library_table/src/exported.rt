@@ -14,7 +14,7 @@ use std::alloc::Global;
 use syntax_tree::units::Entry;
 
 /// What an export gives: an entry, or nothing by its fault.
-#[derive(Debug, Drop)]
+#[derive(Drop)]
 pub enum Export {
     Given(Entry),
     Refused(LibraryFault),

@@ -20,14 +20,14 @@ use std::collections::{BTreeMap, BTreeSet};
 use syntax_tree::units::Entry;
 
 /// Why an export gives nothing, by its place among the exports.
-#[derive(Debug, Drop)]
+#[derive(Drop)]
 pub struct ExportFault {
     pub place: u32,
     pub fault: LibraryFault,
 }
 
 /// What a unit exports, and the faults of exports that give nothing.
-#[derive(Debug, Drop)]
+#[derive(Drop)]
 pub struct Exports {
     pub entries: Items<Entry>,
     pub faults: Items<ExportFault>,

@@ -6,7 +6,7 @@ use ls_base::{Items, Memory, Span, Text};
 use std::alloc::{AllocError, AllocFailed};
 
 /// Why a library is broken, or an export of it gives nothing.
-#[derive(Debug, Drop)]
+#[derive(Drop)]
 pub enum LibraryFault {
     /// Memory ran out.
     Memory,

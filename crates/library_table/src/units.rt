@@ -11,7 +11,7 @@ use syntax_tree::units::UnitKind;
 
 /// An import set, with a unit of the document where it stands, and the bytes of the set, of the set inside its outermost modifier,
 /// and of its library's name. Without a modifier `inner` is the set itself, and for `Bad` all three are.
-#[derive(Debug, Drop)]
+#[derive(Drop)]
 pub struct ImportSpec {
     pub unit: u32,
     pub set: ImportSet,
@@ -22,7 +22,7 @@ pub struct ImportSpec {
 
 /// An export: the form that it stands in, the identifier inside, and the one under which the library gives it. An identifier
 /// that is exported as it is stands for both, so the two have one place.
-#[derive(Debug, Drop)]
+#[derive(Drop)]
 pub struct ExportSpec {
     pub form: u32,
     pub inner: SetName,
@@ -30,7 +30,7 @@ pub struct ExportSpec {
 }
 
 /// A form of a unit, whether it is a library's declaration, and the home of its text where that is included.
-#[derive(Debug, Drop)]
+#[derive(Drop)]
 pub struct UnitForm {
     pub datum: Datum,
     pub declared: bool,
@@ -54,7 +54,7 @@ impl UnitForm {
 }
 
 /// A string that means no text that can be included: the document in which it is written, its bytes there, and its characters.
-#[derive(Debug, Drop)]
+#[derive(Drop)]
 pub struct LostString {
     pub document: u32,
     pub span: Span,
@@ -63,7 +63,7 @@ pub struct LostString {
 
 /// A library or a program: its library's name as a text, its first token's bytes, what it imports, exports and holds, and the strings
 /// that give it nothing.
-#[derive(Debug, Drop)]
+#[derive(Drop)]
 pub struct UnitSource {
     pub kind: UnitKind,
     pub name: Option<Text>,

@@ -7,7 +7,7 @@ use lsp_messages::{Call, Id, Message, Note, Reject, read_message};
 use std::alloc::Global;
 
 /// What a body is to those that stand before it.
-#[derive(Debug, Drop)]
+#[derive(Drop)]
 pub enum Role {
     /// A request that can be cancelled: each but `initialize` and `shutdown`.
     Request(Id),

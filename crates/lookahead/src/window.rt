@@ -16,7 +16,7 @@ use std::marker::Model;
 pub(crate) const CAPACITY: usize = 64;
 
 /// Why a window doesn't take a body, which it hands back.
-#[derive(Debug, Drop)]
+#[derive(Drop)]
 pub enum WindowFault {
     /// It holds as many bodies as it may.
     Full(Vec<u8>),
@@ -25,7 +25,7 @@ pub enum WindowFault {
 }
 
 /// The oldest body of a window.
-#[derive(Debug, Drop)]
+#[derive(Drop)]
 pub struct Next {
     /// The body.
     pub body: Vec<u8>,

@@ -2,7 +2,7 @@
 use crate::{Items, Place, Range, Text};
 
 /// From a binder to one of its uses.
-#[derive(Debug, Drop)]
+#[derive(Drop)]
 pub struct Arrow {
     pub from: Place,
     pub to: Place,
@@ -11,28 +11,28 @@ pub struct Arrow {
 }
 
 /// A range to light up, and the kind of its use (LSP 3.17, DocumentHighlightKind).
-#[derive(Clone, Copy, Debug)]
+#[derive(Clone, Copy)]
 pub struct Highlight {
     pub range: Range,
     pub kind: u8,
 }
 
 /// New text for a range.
-#[derive(Debug, Drop)]
+#[derive(Drop)]
 pub struct TextEdit {
     pub range: Range,
     pub new_text: Text,
 }
 
 /// The edits of one document.
-#[derive(Debug, Drop)]
+#[derive(Drop)]
 pub struct DocEdits {
     pub uri: Text,
     pub edits: Items<TextEdit>,
 }
 
 /// What is wrong at a range. A severity of 1 is an error, of 2 a warning (LSP 3.17, Diagnostic).
-#[derive(Debug, Drop)]
+#[derive(Drop)]
 pub struct Diagnostic {
     pub range: Range,
     pub code: u32,
@@ -41,14 +41,14 @@ pub struct Diagnostic {
 }
 
 /// New text for a range of a document, or for all of it.
-#[derive(Debug, Drop)]
+#[derive(Drop)]
 pub struct Change {
     pub range: Option<Range>,
     pub text: Text,
 }
 
 /// What is asked at a position.
-#[derive(Clone, Copy, Debug)]
+#[derive(Clone, Copy)]
 pub enum Query {
     Definition,
     References { declaration: bool },
@@ -58,7 +58,7 @@ pub enum Query {
 }
 
 /// What is answered.
-#[derive(Debug, Drop)]
+#[derive(Drop)]
 pub enum Answer {
     Nothing,
     Places(Items<Place>),

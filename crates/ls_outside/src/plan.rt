@@ -2,7 +2,7 @@
 ghost use Rattle.std.specs.Prelude.{◌↔◌, ◌≡◌, IsTrue};
 
 /// Which calls are to fail, by their numbers: the first call is number 1.
-#[derive(Debug, Drop)]
+#[derive(Drop)]
 pub struct Plan {
     failing: Vec<u64>,
     calls: u64,

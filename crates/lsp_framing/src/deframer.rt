@@ -11,7 +11,7 @@ use std::alloc::Global;
 use std::marker::Model;
 
 /// Why a piece of a stream was not taken whole (LSP 3.17, base protocol).
-#[derive(Debug, Drop)]
+#[derive(Drop)]
 pub enum FrameFault {
     /// Memory ran out. Bodies that the piece completed are lost.
     Memory,

@@ -5,7 +5,7 @@ ghost use Rattle.lsp_messages.specs.declared.fault.ReadError.TheVariants as erro
 use ls_base::Memory;
 
 /// What is wrong with a method or its parameters.
-#[derive(Clone, Copy, Debug)]
+#[derive(Clone, Copy)]
 pub enum Fault {
     /// No such method.
     Unknown,
@@ -14,7 +14,7 @@ pub enum Fault {
 }
 
 /// Why a method or its parameters can't be taken.
-#[derive(Debug, Drop)]
+#[derive(Drop)]
 pub enum ReadError {
     /// Memory ran out.
     Memory,

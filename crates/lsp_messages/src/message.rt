@@ -5,21 +5,21 @@ ghost use Rattle.lsp_messages.specs.declared.message.Reject.TheVariants.{Memory 
 use ls_base::{Change, Encoding, Items, Memory, Pos, Query, Text};
 
 /// What a request goes by: a whole number that fits an `i64`, or a string.
-#[derive(Debug, Drop)]
+#[derive(Drop)]
 pub enum Id {
     Number(i64),
     Name(Text),
 }
 
 /// A position in a document (LSP 3.17, TextDocumentPositionParams).
-#[derive(Debug, Drop)]
+#[derive(Drop)]
 pub struct At {
     pub uri: Text,
     pub pos: Pos,
 }
 
 /// What a request asks (LSP 3.17).
-#[derive(Debug, Drop)]
+#[derive(Drop)]
 pub enum Call {
     /// `initialize`. `prepare` says that the client states prepare support for renames, `encoding` in what positions
     /// are to count.
@@ -33,7 +33,7 @@ pub enum Call {
 }
 
 /// What a notification tells (LSP 3.17).
-#[derive(Debug, Drop)]
+#[derive(Drop)]
 pub enum Note {
     /// `exit`.
     Exit,
@@ -66,7 +66,7 @@ pub enum Note {
 }
 
 /// A message of the client.
-#[derive(Debug, Drop)]
+#[derive(Drop)]
 pub enum Message {
     /// A request with a known method and its parameters.
     Request { id: Id, call: Call },
@@ -78,7 +78,7 @@ pub enum Message {
 
 /// Why a body is no message, or a request that can't be answered (JSON-RPC 2.0 section 5.1). The id is that of
 /// the body, where it has a valid one.
-#[derive(Debug, Drop)]
+#[derive(Drop)]
 pub enum Reject {
     /// Memory ran out.
     Memory,

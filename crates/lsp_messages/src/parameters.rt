@@ -23,12 +23,12 @@ pub(crate) fn call(alloc: Global, method: &str, message: &Value) -> Result<Call,
             encoding: agreed_encoding(message),
         }),
         "shutdown" => Ok(Call::Shutdown),
-        "textDocument/definition" => Ok(asked(alloc, message, Query::Definition)?),
-        "textDocument/references" => Ok(references(alloc, message)?),
-        "textDocument/documentHighlight" => Ok(asked(alloc, message, Query::Highlights)?),
-        "textDocument/prepareRename" => Ok(asked(alloc, message, Query::Prepare)?),
-        "textDocument/rename" => Ok(rename(alloc, message)?),
-        "scheme/arrows" => Ok(arrows(alloc, message)?),
+        "textDocument/definition" => asked(alloc, message, Query::Definition),
+        "textDocument/references" => references(alloc, message),
+        "textDocument/documentHighlight" => asked(alloc, message, Query::Highlights),
+        "textDocument/prepareRename" => asked(alloc, message, Query::Prepare),
+        "textDocument/rename" => rename(alloc, message),
+        "scheme/arrows" => arrows(alloc, message),
         _ => Err(ReadError::Fault(Fault::Unknown)),
     }
 }
@@ -39,10 +39,10 @@ pub(crate) fn note(alloc: Global, method: &str, message: &Value) -> Result<Note,
 {
     match method {
         "exit" => Ok(Note::Exit),
-        "textDocument/didOpen" => Ok(opened(alloc, message)?),
-        "textDocument/didChange" => Ok(changed(alloc, message)?),
-        "textDocument/didClose" => Ok(closed(alloc, message)?),
-        "$/cancelRequest" => Ok(cancellation(alloc, message)?),
+        "textDocument/didOpen" => opened(alloc, message),
+        "textDocument/didChange" => changed(alloc, message),
+        "textDocument/didClose" => closed(alloc, message),
+        "$/cancelRequest" => cancellation(alloc, message),
         _ => Err(ReadError::Fault(Fault::Unknown)),
     }
 }

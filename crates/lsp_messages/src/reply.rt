@@ -3,7 +3,7 @@ use crate::Id;
 use ls_base::{Answer, Diagnostic, Encoding, Items, Text};
 
 /// A message to the client (JSON-RPC 2.0 section 5; LSP 3.17).
-#[derive(Debug, Drop)]
+#[derive(Drop)]
 pub enum Reply {
     /// What the server can do, in reply to `initialize`. `prepare` says that the client states prepare
     /// support for renames, `encoding` in what positions count.

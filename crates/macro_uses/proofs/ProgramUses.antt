@@ -6,8 +6,8 @@ use Rattle.scheme_model.specs.Includes.{Document}
 use Rattle.scheme_model.specs.IncludedUnits.{Placed}
 use Rattle.scheme_model.specs.Program.{Prepared, Progress, WholeFault, units_of, prepare, known_in, unit_entries, is_ready, first_ready, fault_before, worked, progress_before}
 use Rattle.scheme_model.specs.ScopedProgram.{ScopedProgress, scoped_worked, scoped_before, imaged}
-use Rattle.scheme_model.proofs.EntryLaws.{NoLocal, unit_entries_fit}
-use Rattle.scheme_model.proofs.FramePrograms.{done, Between, between_before, not_done, work_gone, progress_law}
+use Rattle.model_laws.proofs.EntryLaws.{NoLocal, unit_entries_fit}
+use Rattle.model_laws.proofs.FramePrograms.{done, Between, between_before, not_done, work_gone, progress_law}
 use Rattle.macro_uses.specs.MacroUses.{uses_by_fault, worked_uses, work_uses, program_uses}
 use Rattle.macro_uses.specs.ScopedUses.{scoped_uses_by_fault, scoped_worked_uses, scoped_work_uses, scoped_program_uses}
 use Rattle.macro_uses.proofs.UnitUses.{unit_counts}

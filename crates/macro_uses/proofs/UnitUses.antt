@@ -9,9 +9,9 @@ use Rattle.scheme_model.specs.UnitExpansion.{Formed, unit}
 use Rattle.scheme_model.specs.Entries.{Entry}
 use Rattle.scheme_model.specs.Program.{Prepared, SetResult, form_trees, start_of, enough_turns, unit_over, with_entries, forms_at_work}
 use Rattle.scheme_model.specs.ScopedProgram.{ScopedProgress, forms_over, scoped_start_of, scoped_unit_over, imaged_macro}
-use Rattle.scheme_model.proofs.FrameStates.{names}
-use Rattle.scheme_model.proofs.EntryLaws.{NoLocal, Fits}
-use Rattle.scheme_model.proofs.FramePrograms.{done, Between, form_mapped, forms_seen, unit_same}
+use Rattle.model_laws.proofs.FrameStates.{names}
+use Rattle.model_laws.proofs.EntryLaws.{NoLocal, Fits}
+use Rattle.model_laws.proofs.FramePrograms.{done, Between, form_mapped, forms_seen, unit_same}
 use Rattle.macro_uses.specs.MacroUses.{total_of, unit_uses}
 use Rattle.macro_uses.specs.ScopedUses.{form_numbers, scoped_unit_uses}
 

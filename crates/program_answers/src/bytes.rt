@@ -8,7 +8,7 @@ use document_units::findings::At;
 use ls_base::{Items, Mem, Span};
 
 /// Bytes of a document, by its place.
-#[derive(Clone, Copy, Debug, PartialEq, Eq, PartialOrd, Ord)]
+#[derive(Clone, Copy, PartialEq, Eq, PartialOrd, Ord)]
 pub struct Bytes {
     pub document: usize,
     pub start: u32,
@@ -16,14 +16,14 @@ pub struct Bytes {
 }
 
 /// Bytes to light up, and the kind of the use there (LSP 3.17, DocumentHighlightKind).
-#[derive(Clone, Copy, Debug, PartialEq, Eq, PartialOrd, Ord)]
+#[derive(Clone, Copy, PartialEq, Eq, PartialOrd, Ord)]
 pub struct Lit {
     pub bytes: Bytes,
     pub kind: u8,
 }
 
 /// An arrow, from the bytes of a binder to those of a use.
-#[derive(Clone, Copy, Debug, PartialEq, Eq, PartialOrd, Ord)]
+#[derive(Clone, Copy, PartialEq, Eq, PartialOrd, Ord)]
 pub struct Drawn {
     pub from: Bytes,
     pub to: Bytes,

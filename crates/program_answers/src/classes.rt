@@ -16,7 +16,7 @@ use ls_base::{Items, Mem, Pos, Text};
 use scheme_model::Occ;
 
 /// A member of a class, a prefix behind which it takes its characters, and whether it stands between bars.
-#[derive(Debug, Drop)]
+#[derive(Drop)]
 pub struct ClassPart {
     pub occ: Occ,
     pub prefix: Text,
@@ -25,7 +25,7 @@ pub struct ClassPart {
 
 /// The class of an occurrence: the longest of its own prefixes, of those of one length the last in byte order, the first in byte order
 /// of the standard names that spell it, and each prefix of each member.
-#[derive(Debug, Drop)]
+#[derive(Drop)]
 pub struct Class {
     pub at: Occ,
     pub prefix: Text,

@@ -3,7 +3,7 @@
 use ls_base::{Diagnostic, Items, Text};
 
 /// The diagnostics of a document. One that is closed has none, and no version.
-#[derive(Debug, Drop)]
+#[derive(Drop)]
 pub struct Published {
     pub uri: Text,
     pub version: Option<i64>,

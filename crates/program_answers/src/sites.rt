@@ -13,7 +13,7 @@ use ls_base::Span;
 use scheme_model::Occ;
 
 /// How an identifier stands at an offset: it begins there, or the offset is inside of it or at one of its ends.
-#[derive(Clone, Copy, Debug)]
+#[derive(Clone, Copy)]
 pub enum Standing {
     Begins,
     Touches,

@@ -18,7 +18,7 @@ use syntax_tree::texts::same_text;
 use syntax_tree::units::UnitKind;
 
 /// Two points that don't agree, with the form of a unit that they stand in.
-#[derive(Clone, Copy, Debug)]
+#[derive(Clone, Copy)]
 pub struct Apart<'a> {
     pub unit: usize,
     pub form: usize,

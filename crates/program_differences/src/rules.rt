@@ -33,7 +33,7 @@ use syntax_tree::symbols::IdNo;
 use syntax_tree::trees::{Leaf, Work};
 
 /// A variable of a pattern: its place among those of its rule, and where it stands.
-#[derive(Clone, Copy, Debug)]
+#[derive(Clone, Copy)]
 pub struct Variable {
     pub place: usize,
     pub occ: Option<Occ>,

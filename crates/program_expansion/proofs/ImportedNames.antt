@@ -18,7 +18,7 @@ use Rattle.unit_scopes.specs.Opened.{AreNumbered, ImportsFor}
 use Rattle.unit_scopes.specs.declared.scope.Imported.{Imported}
 use Rattle.form_expansion.specs.Begun.{IsImport}
 use Rattle.unit_imports.specs.EntriesMeant.{EachOnce}
-use Rattle.unit_imports.proofs.Matched.{matched_at, all_append}
+use Rattle.core_tree.proofs.Matched.{matched_at, all_append}
 
 -- what a name means among entries
 abbrev pub meaning_in : List model.Entry → List ℕ → Option Meaning

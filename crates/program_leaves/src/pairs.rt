@@ -9,7 +9,7 @@ use ls_base::{Items, Mem};
 use scheme_model::Occ;
 
 /// A binder and a use.
-#[derive(Clone, Copy, Debug, PartialEq, Eq, PartialOrd, Ord)]
+#[derive(Clone, Copy, PartialEq, Eq, PartialOrd, Ord)]
 pub struct Pair {
     pub binder: Occ,
     pub target: Occ,

@@ -29,21 +29,21 @@ use syntax_tree::symbols::IdNo;
 use syntax_tree::trees::Work;
 
 /// A form of a unit, by the places of both in their lists.
-#[derive(Clone, Copy, Debug, PartialEq, Eq, PartialOrd, Ord)]
+#[derive(Clone, Copy, PartialEq, Eq, PartialOrd, Ord)]
 pub struct FormNo {
     pub unit: usize,
     pub form: usize,
 }
 
 /// A local of a form.
-#[derive(Clone, Copy, Debug, PartialEq, Eq, PartialOrd, Ord)]
+#[derive(Clone, Copy, PartialEq, Eq, PartialOrd, Ord)]
 pub struct LocalNo {
     pub at: FormNo,
     pub count: u64,
 }
 
 /// What a unit, by its place in the list, defines under an identifier.
-#[derive(Clone, Copy, Debug, PartialEq, Eq, PartialOrd, Ord)]
+#[derive(Clone, Copy, PartialEq, Eq, PartialOrd, Ord)]
 pub struct GlobalNo {
     pub unit: usize,
     pub ident: IdNo,

@@ -43,12 +43,12 @@ fn answer<L: Ledger>(alloc: Global, blank: Blank, line: &String) -> Row<String>
     let argument = argument::json(alloc, call.argument)?;
     let mut out = Shown::new(alloc);
     differences::answer(&mut out, call.name, &argument, &mut steps)?;
-    Ok(out.into_text()?)
+    out.into_text()
 }
 
 /// The same, with a counter of its own.
 fn counted(alloc: Global, line: &String) -> Row<String> {
-    Ok(answer::<Brand>(alloc, Blank::new(1), line)?)
+    answer::<Brand>(alloc, Blank::new(1), line)
 }
 
 fn main(rt: HostRuntime) -> io::Result<()> {

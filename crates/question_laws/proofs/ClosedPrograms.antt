@@ -16,7 +16,7 @@ use Rattle.scheme_model.specs.IncludedUnits.{Placed}
 use Rattle.scheme_model.specs.Program.{ExportSpec, Prepared, SetResult, UnitResult, WholeFault, fault_before, unit_entries, with_entries, own_entry, names_of_unit, Exported, has_name, exported, SameExport, export_one, export_all, unit_result, is_ready, first_ready, is_standard, prelude_unit, prelude_entry, prelude_definitions, enough_turns, forms_at_work}
 use Rattle.scheme_model.specs.ScopedProgram.{ScopedProgress, forms_over, scoped_start_after, scoped_unit_over, scoped_by_fault, scoped_worked, scoped_work, scoped_prelude_macro, scoped_before}
 use Rattle.scheme_model.proofs.IdentLaws.{ident_told}
-use Rattle.scheme_model.proofs.EntryLaws.{GivenSo, Fit, Fits, Exports, with_entries_fit, unit_entries_fit}
+use Rattle.model_laws.proofs.EntryLaws.{GivenSo, Fit, Fits, Exports, with_entries_fit, unit_entries_fit}
 use Rattle.question_laws.specs.Noted.{is_defined_in, AllStand, IsClosed}
 use Rattle.question_laws.proofs.Roots.{StandsThere, same_one}
 use Rattle.question_laws.proofs.ClosedSteps.{defined_more, defined_first, unit_later}

@@ -18,7 +18,7 @@ use Rattle.scheme_model.specs.Substitution.{Table, Defined, defined_in, any, unc
 use Rattle.scheme_model.specs.ScopedExpansion.{Frames, FramedIdent, ScopedState, macro_at, body_around, definition_added, meaning_next, is_defined}
 use Rattle.scheme_model.specs.CountedExpansion.{refused_here, counted}
 use Rattle.scheme_model.proofs.IdentLaws.{ident_itself}
-use Rattle.scheme_model.proofs.FrameHeads.{IfMacro}
+use Rattle.model_laws.proofs.FrameHeads.{IfMacro}
 use Rattle.form_laws.proofs.Sides.{Results, ItemLike, PendingLike, RenamedLike, Sides}
 use Rattle.form_laws.proofs.SideSteps.{meet_all_later}
 use Rattle.form_laws.proofs.SideRuns.{both_itself, item_itself, run_runs}

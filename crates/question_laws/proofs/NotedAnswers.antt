@@ -12,7 +12,7 @@ use Rattle.scheme_model.specs.ScopedExpansion.{Frames, FramedIdent, macro_at, is
 use Rattle.scheme_model.specs.OwnAnswers.{root_means, unit_refused}
 use Rattle.scheme_model.specs.Questions.{Moment, Around, at_moment, own_at, found, Outcome, Stands, Redefines, StoodBefore, outcome_by, unit_outcome, Question, LooksUp, UsesRules, Compares, IsAssigned, Requires, Defines, Answer, Means, Expands, Says, Ends, bare_macro, answer, SameAnswer}
 use Rattle.scheme_model.specs.FormsAlike.{start}
-use Rattle.scheme_model.proofs.EntryLaws.{NoLocal}
+use Rattle.model_laws.proofs.EntryLaws.{NoLocal}
 use Rattle.form_laws.specs.Begins.{Each, Begins}
 use Rattle.form_laws.proofs.AskingSides.{NoLocals, root_no}
 use Rattle.question_laws.specs.Noted.{before_uses, is_defined_in, defines_within, answers_alone, compares_alone, noted_as, noted, all_noted, AreNotes, IsClosed, SameUnit}

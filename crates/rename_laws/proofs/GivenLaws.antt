@@ -15,7 +15,7 @@ use Rattle.scheme_model.specs.Includes.{Document}
 use Rattle.scheme_model.specs.IncludedUnits.{Placed}
 use Rattle.scheme_model.specs.Program.{known_in, units_of, Prepared, prepare, WholeFault, SetResult, ExportSpec, UnitResult, result_at, own_entry, names_of_unit, SameExport, has_name, exported, Exported, export_one, export_all, broken_result, unit_result, unit_entries, fault_before, is_ready, first_ready, all_done, in_order, program_of}
 use Rattle.scheme_model.specs.ScopedProgram.{ScopedProgress, scoped_start_after, scoped_unit_over, scoped_by_fault, scoped_worked, scoped_work, scoped_before, scoped_program_of}
-use Rattle.scheme_model.proofs.FramePrograms.{program_law}
+use Rattle.model_laws.proofs.FramePrograms.{program_law}
 use Rattle.core_tree.specs.Names.{AllMatch}
 use Rattle.core_tree.specs.Units.{externals, given_exports, unless_broken}
 use Rattle.unit_scopes.specs.Others.{InFront}

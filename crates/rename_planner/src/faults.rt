@@ -4,7 +4,7 @@ use program_differences::plan::Difference;
 use std::alloc::AllocError;
 
 /// Why a rename is refused. Tested in this order, but for want of memory, which may come at any point.
-#[derive(Debug, Drop)]
+#[derive(Drop)]
 pub enum RenameFault {
     /// Memory ran out.
     Memory,

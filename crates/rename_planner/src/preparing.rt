@@ -12,7 +12,7 @@ use ls_base::{Answer, Mem, Pos, Query, Range, Text};
 use workspace_state::Workspace;
 
 /// The range of an identifier, and its token as it is written.
-#[derive(Debug, Drop)]
+#[derive(Drop)]
 pub struct Prepared {
     pub range: Range,
     pub placeholder: Text,

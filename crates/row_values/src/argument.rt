@@ -102,11 +102,11 @@ fn push_part(bytes: &mut Vec<u8>, part: &Value) -> Row<()> {
         return Ok(());
     }
     if let Some(numbers) = part.get("bytes") {
-        return Ok(push_bytes(bytes, list(numbers)?)?);
+        return push_bytes(bytes, list(numbers)?);
     }
     let repeat = part.get("repeat").ok_or(RowFault::BadArgument)?;
     let times = number(item(repeat, 1)?)?;
-    Ok(push_times(bytes, text(item(repeat, 0)?)?, times)?)
+    push_times(bytes, text(item(repeat, 0)?)?, times)
 }
 
 /// Bytes: a text, or a list of parts.

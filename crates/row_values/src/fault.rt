@@ -5,7 +5,7 @@ use std::alloc::{AllocError, AllocFailed};
 use std::str::Utf8Error;
 
 /// Why a row has no answer.
-#[derive(Clone, Copy, Debug, PartialEq, Eq)]
+#[derive(Clone, Copy)]
 pub enum RowFault {
     /// The line has no tab behind its call.
     NoTab,

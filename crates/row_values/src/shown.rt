@@ -149,7 +149,7 @@ fn json_text(alloc: Global, text: &str) -> Row<String> {
 fn json_letter(alloc: Global, c: char) -> Row<String> {
     let mut text = String::new(alloc);
     text.push(c)?;
-    Ok(json_text(alloc, text.as_str())?)
+    json_text(alloc, text.as_str())
 }
 
 fn digits(alloc: Global, number: u64) -> Row<String> {

@@ -120,13 +120,13 @@ use std::io::{BufRead, BufReader, BufWriter, Write};
 /// Writes the answer to a call.
 fn answer_to(out: &mut Shown, store: &mut Store, call: &Call<'_>, argument: &Value) -> Row<()> {
     match call.group {
-        "tokens" => Ok(tokens::answer(out, call.name, argument)?),
-        "data" => Ok(data::answer(out, call.name, argument)?),
-        "scopes" => Ok(scopes::answer(out, call.name, argument)?),
-        "units" => Ok(units::answer(out, call.name, argument)?),
-        "nodes" => Ok(nodes::answer(out, call.name, argument)?),
-        "positions" => Ok(positions::answer(out, call.name, argument)?),
-        "store" => Ok(store::answer(out, store, call.name, argument)?),
+        "tokens" => tokens::answer(out, call.name, argument),
+        "data" => data::answer(out, call.name, argument),
+        "scopes" => scopes::answer(out, call.name, argument),
+        "units" => units::answer(out, call.name, argument),
+        "nodes" => nodes::answer(out, call.name, argument),
+        "positions" => positions::answer(out, call.name, argument),
+        "store" => store::answer(out, store, call.name, argument),
         _ => Err(RowFault::NoCall),
     }
 }
@@ -137,7 +137,7 @@ fn answer(alloc: Global, store: &mut Store, line: &str) -> Row<String> {
     let argument = argument::json(alloc, call.argument)?;
     let mut out = Shown::new(alloc);
     answer_to(&mut out, store, &call, &argument)?;
-    Ok(out.into_text()?)
+    out.into_text()
 }
 
 fn main(rt: HostRuntime) -> io::Result<()> {

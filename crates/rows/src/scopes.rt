@@ -13,7 +13,7 @@ use syntax_tree::symbols::{IdNo, Ident, Symbols, UseNo};
 
 pub fn answer(out: &mut Shown, call: &str, argument: &Value) -> Row<()> {
     match call {
-        "of" => Ok(scopes(out, list(argument)?)?),
+        "of" => scopes(out, list(argument)?),
         _ => Err(RowFault::NoCall),
     }
 }
@@ -57,11 +57,11 @@ impl Script {
         ensures { OnOk result (self.new.scopes ≡ length self.new.env.scopes) }
     {
         match text(item(step, 0)?)? {
-            "child" => Ok(self.child(item(step, 1)?)?),
-            "bind" => Ok(self.bind(item(step, 1)?, item(step, 2)?, item(step, 3)?)?),
-            "use" => Ok(self.note_use(item(step, 1)?, item(step, 2)?)?),
-            "resolve" => Ok(self.resolve(out, item(step, 1)?, item(step, 2)?)?),
-            "noted" => Ok(self.resolve_noted(out, step)?),
+            "child" => self.child(item(step, 1)?),
+            "bind" => self.bind(item(step, 1)?, item(step, 2)?, item(step, 3)?),
+            "use" => self.note_use(item(step, 1)?, item(step, 2)?),
+            "resolve" => self.resolve(out, item(step, 1)?, item(step, 2)?),
+            "noted" => self.resolve_noted(out, step),
             _ => Err(RowFault::NoCall),
         }
     }

@@ -30,9 +30,9 @@ const MANY: usize = 1_000;
 
 pub fn answer(out: &mut Shown, call: &str, argument: &Value) -> Row<()> {
     match call {
-        "read" => Ok(read(out, argument)?),
-        "imports" | "exports" => Ok(given(out, call, argument)?),
-        "repeated" | "order" => Ok(among(out, call, list(argument)?)?),
+        "read" => read(out, argument),
+        "imports" | "exports" => given(out, call, argument),
+        "repeated" | "order" => among(out, call, list(argument)?),
         _ => Err(RowFault::NoCall),
     }
 }
@@ -131,11 +131,16 @@ fn given(out: &mut Shown, call: &str, argument: &Value) -> Row<()> {
     let alloc = out.alloc();
     let unit = good_unit(alloc, item(argument, 0)?)?;
     let entries = entries(alloc, list(item(argument, 1)?)?)?;
-    if call == "exports" {
-        return Ok(exported(out, &unit, entries.as_slice())?);
+    match call {
+        "exports" => exported(out, &unit, entries.as_slice()),
+        _ => imported(out, &unit, entries.as_slice()),
     }
+}
+
+/// `[ENTRY, ..]`.
+fn imported(out: &mut Shown, unit: &UnitSource, entries: &[Entry]) -> Row<()> {
     let import = unit.imports.as_slice().first().ok_or(RowFault::NotShown)?;
-    match entries_of(alloc, &import.set, entries.as_slice()) {
+    match entries_of(out.alloc(), &import.set, entries) {
         Ok(entries) => show_entries(out, entries.as_slice()),
         Err(fault) => show_import_fault(out, &fault),
     }

@@ -5,7 +5,7 @@ use syntax_tree::trees::PoolFault;
 use thiserror::Error;
 
 /// Why a template is not built.
-#[derive(Clone, Copy, Debug, PartialEq, Eq, Error)]
+#[derive(Clone, Copy, Debug, Error)]
 pub enum BuildFault {
     /// Variables that drive one ellipsis stand for different numbers of values.
     #[error("the lengths of an ellipsis differ")]

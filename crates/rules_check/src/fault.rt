@@ -4,7 +4,7 @@ use std::alloc::{AllocError, AllocFailed};
 use syntax_tree::rules::Named;
 
 /// Why rules are refused.
-#[derive(Clone, Copy, Debug, PartialEq, Eq)]
+#[derive(Clone, Copy)]
 pub enum RulesFault {
     /// They don't have the shape of rules, or an ellipsis has nothing before it.
     BadShape,

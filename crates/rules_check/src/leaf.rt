@@ -26,7 +26,7 @@ use syntax_tree::symbols::IdNo;
 use syntax_tree::trees::{Tree, Work};
 
 /// A leaf of rules with its place, and whether it is a literal.
-#[derive(Clone, Copy, Debug, PartialEq, Eq)]
+#[derive(Clone, Copy)]
 pub struct RuleLeaf {
     pub name: Named,
     pub literal: bool,

@@ -19,7 +19,7 @@ use syntax_tree::rules::{Named, Role, Roles};
 use syntax_tree::trees::{Tree, Work};
 
 /// A variable of a pattern with its place, and under how many ellipses it stands.
-#[derive(Clone, Copy, Debug, PartialEq, Eq)]
+#[derive(Clone, Copy)]
 pub struct Variable {
     pub name: Named,
     pub depth: u32,

@@ -19,7 +19,7 @@ use syntax_tree::trees::{Tree, Work};
 
 /// What was seen of a template: whether an ellipsis has nothing before it or is a tail, whether no variable drives one, the most
 /// ellipses under which a variable of it stands in the pattern, and the first variable that stands under too few.
-#[derive(Clone, Copy, Debug, PartialEq, Eq)]
+#[derive(Clone, Copy)]
 pub struct Seen {
     pub misplaced: bool,
     pub idle: bool,

@@ -2,8 +2,6 @@
 //! of the protocol. There are no loops, tables or caches of the product here; see `specs/`.
 #![tactic(auto)]
 
-pub mod laws;
-
 /// A token's place: the unit's place in the list of units, the form in the unit, the token in the form. Each
 /// begins at 0.
 #[derive(Clone, Copy, Debug, PartialEq, Eq, PartialOrd, Ord, Hash)]
@@ -15,7 +13,7 @@ pub struct Occ {
 
 /// Where the text of a form stands: the unit and the form by which the occurrences in it are told, and the number of
 /// that form's first token in its text.
-#[derive(Clone, Copy, Debug, PartialEq, Eq)]
+#[derive(Clone, Copy)]
 pub struct Home {
     pub unit: u32,
     pub form: u32,

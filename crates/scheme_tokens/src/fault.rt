@@ -9,7 +9,7 @@ use ls_base::{Memory, Span};
 use std::alloc::{AllocError, AllocFailed};
 
 /// Why no token goes on at a place.
-#[derive(Clone, Copy, Debug, PartialEq, Eq)]
+#[derive(Clone, Copy)]
 pub enum Fault {
     /// No rule takes what stands there.
     BadToken,
@@ -42,7 +42,7 @@ impl Fault {
 }
 
 /// Why a scan gives nothing.
-#[derive(Clone, Copy, Debug, PartialEq, Eq)]
+#[derive(Clone, Copy)]
 pub enum ScanFault {
     Memory,
     Fault(Fault),
@@ -73,7 +73,7 @@ impl From<Memory> for ScanFault {
 }
 
 /// Why a text is not read.
-#[derive(Clone, Copy, Debug, PartialEq, Eq)]
+#[derive(Clone, Copy)]
 pub enum ReadFault {
     /// Memory ran out.
     Memory,

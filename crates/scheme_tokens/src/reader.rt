@@ -110,7 +110,7 @@ fn behind_mark(text: &str) -> &str
 }
 
 /// What is read of a text: its tokens, and the fault that it stops at, if it stops at one.
-#[derive(Debug, Drop)]
+#[derive(Drop)]
 pub struct Front {
     pub tokens: Items<Token>,
     pub fault: Option<ReadFault>,

@@ -2,7 +2,7 @@
 use ls_base::{Span, Text};
 
 /// What a token is. Symbols, strings and characters are as they are meant, without escapes.
-#[derive(Debug, Drop)]
+#[derive(Drop)]
 pub enum TokenKind {
     /// `(`
     Paren,
@@ -37,7 +37,7 @@ pub enum TokenKind {
 }
 
 /// A token and its bytes in the text.
-#[derive(Debug, Drop)]
+#[derive(Drop)]
 pub struct Token {
     pub kind: TokenKind,
     pub span: Span,

@@ -46,7 +46,7 @@ impl Clone for Scope {
 }
 
 /// A binding that may be made: what a scope would bind an identifier to.
-#[derive(Clone, Copy, Debug, PartialEq, Eq)]
+#[derive(Clone, Copy)]
 pub struct Bound {
     pub scope: ScopeNo,
     pub ident: IdNo,

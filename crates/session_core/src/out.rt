@@ -6,7 +6,7 @@ use lsp_messages::Reply;
 use std::alloc::Global;
 
 /// What a body leads to.
-#[derive(Debug, Drop)]
+#[derive(Drop)]
 pub struct Out {
     /// The messages to the client, in order.
     pub replies: Items<Reply>,

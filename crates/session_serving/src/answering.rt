@@ -16,7 +16,7 @@ use std::alloc::Global;
 use std::sync::ledger::Ledger;
 
 /// How `exit` ends a session.
-#[derive(Clone, Copy, Debug, PartialEq, Eq)]
+#[derive(Clone, Copy)]
 pub enum Exit {
     /// After `shutdown`.
     Clean,
@@ -37,7 +37,7 @@ impl Exit {
 }
 
 /// How answering bodies ends.
-#[derive(Clone, Copy, Debug, PartialEq, Eq)]
+#[derive(Clone, Copy)]
 pub enum BodiesEnd {
     /// All are answered, and the session goes on.
     Answered,

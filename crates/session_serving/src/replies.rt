@@ -11,7 +11,7 @@ use lsp_messages::{Reply, reply_bytes};
 use std::alloc::{AllocError, Global};
 
 /// Why replies weren't written whole.
-#[derive(Clone, Copy, Debug, PartialEq, Eq)]
+#[derive(Clone, Copy)]
 pub enum WriteStop {
     /// A write failed.
     Failed,

@@ -30,7 +30,7 @@ const BUFFER: usize = 65_536;
 const MAX_STREAM: u64 = 1 << 40;
 
 /// How a session ends.
-#[derive(Clone, Copy, Debug, PartialEq, Eq)]
+#[derive(Clone, Copy)]
 pub enum SessionEnd {
     /// By an `exit`.
     Exited(Exit),

@@ -19,21 +19,21 @@ use std::alloc::Global;
 use std::sync::ledger::Ledger;
 
 /// A fault of frames: its number, and its offset in the stream.
-#[derive(Clone, Copy, Debug, PartialEq, Eq)]
+#[derive(Clone, Copy)]
 pub struct FaultAt {
     pub number: u8,
     pub offset: u64,
 }
 
 /// The bodies that a piece completes, and the fault behind them, where there is one.
-#[derive(Debug, Drop)]
+#[derive(Drop)]
 pub struct Cut {
     bodies: Items<Vec<u8>>,
     fault: Option<FaultAt>,
 }
 
 /// How taking a piece ends.
-#[derive(Clone, Copy, Debug, PartialEq, Eq)]
+#[derive(Clone, Copy)]
 pub enum PieceEnd {
     /// All bodies are answered, and the session goes on.
     Answered,

@@ -26,7 +26,7 @@ const START: Pos = Pos {
 };
 
 /// The lines of what a text comes to: its arrows, or what stops its reading.
-#[derive(Debug, Drop)]
+#[derive(Drop)]
 pub enum Told {
     Arrows(String),
     Stop(String),

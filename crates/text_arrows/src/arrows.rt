@@ -18,7 +18,7 @@ use std::alloc::Global;
 use std::sync::ledger::Ledger;
 
 /// How the answer to a text ends.
-#[derive(Clone, Copy, Debug, PartialEq, Eq)]
+#[derive(Clone, Copy)]
 pub enum TextEnd {
     /// Its arrows were printed.
     Printed,
@@ -45,7 +45,7 @@ impl TextEnd {
 }
 
 /// How `arrows` ends.
-#[derive(Clone, Copy, Debug, PartialEq, Eq)]
+#[derive(Clone, Copy)]
 pub enum ArrowsEnd {
     /// The text was read whole, and its answer ended so.
     Answered(TextEnd),

@@ -10,7 +10,7 @@ use std::alloc::{AllocError, Global};
 const BUFFER: usize = 4_096;
 
 /// Why the input wasn't read whole.
-#[derive(Clone, Copy, Debug, PartialEq, Eq)]
+#[derive(Clone, Copy)]
 pub enum ReadStop {
     /// It is longer than the limit.
     Long,

@@ -17,7 +17,7 @@ use scheme_tokens::spell;
 use std::alloc::Global;
 
 /// New text for some bytes of a text.
-#[derive(Debug, Drop)]
+#[derive(Drop)]
 pub struct Edit {
     pub span: Span,
     pub text: Text,

@@ -23,7 +23,7 @@ use std::alloc::Global;
 /// What a document is to the others: whether it names itself, directly or not; whether another names it, and it isn't on such a
 /// circle; whether it is such a part, reads, and has no program behind the most units, so that it can be included; and the number of
 /// its program among the units of all documents, behind the most units the first number that is too many.
-#[derive(Clone, Copy, Debug, PartialEq, Eq)]
+#[derive(Clone, Copy)]
 pub struct TextPart {
     pub on_circle: bool,
     pub is_part: bool,

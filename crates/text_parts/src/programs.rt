@@ -15,7 +15,7 @@ use ls_base::limits::MAX_UNITS;
 use std::alloc::Global;
 
 /// The number of a program, and whether there is one.
-#[derive(Clone, Copy, Debug)]
+#[derive(Clone, Copy)]
 pub struct ProgramPlace {
     pub number: usize,
     pub there: bool,

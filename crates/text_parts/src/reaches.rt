@@ -12,7 +12,7 @@ use ls_base::{Items, Mem};
 use std::alloc::Global;
 
 /// Whether a document names itself, directly or not, and how many documents it names so.
-#[derive(Clone, Copy, Debug)]
+#[derive(Clone, Copy)]
 pub struct Reach {
     pub on_circle: bool,
     pub count: usize,

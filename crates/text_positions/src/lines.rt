@@ -13,7 +13,7 @@ use std::alloc::Global;
 use std::marker::Model;
 
 /// Where the lines of a text begin, in bytes, and marks within the long ones. Contracts see it as these two lists.
-#[derive(Debug, Drop)]
+#[derive(Drop)]
 pub struct Lines {
     starts: Vec<u32>,
     marks: Vec<Mark>,

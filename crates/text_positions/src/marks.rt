@@ -10,7 +10,7 @@ use ls_base::{Encoding, Mem};
 const STRETCH: u32 = 256;
 
 /// A place in a line, and how much of the line stands before it.
-#[derive(Clone, Copy, Debug)]
+#[derive(Clone, Copy)]
 pub struct Mark {
     /// Where the line begins, in bytes.
     pub start: u32,

@@ -1,4 +1,3 @@
-pub mod Matched  -- Lists whose items are matched, place by place
 pub mod MeaningLaws  -- Entries of the code stand for the same while names are added; and what standard names and definitions stand for
 pub mod JoiningLaws  -- Entries that are put together stand for some, and each name stands once among them
 pub mod ImportLaws  -- What import sets of the code give stands for some entries

@@ -45,7 +45,7 @@ use Rattle.document_units.specs.UnitSources.{HaveOneIfSame}
 use Rattle.unit_imports.proofs.MeaningLaws.{entry_kept, entries_kept, meaning_kept}
 use Rattle.unit_imports.specs.SetsGiven.{set_exports}
 use Rattle.unit_imports.proofs.GivenLaws.{drop_at}
-use Rattle.unit_imports.proofs.Matched.{all_append}
+use Rattle.core_tree.proofs.Matched.{all_append}
 
 -- ---- names are added
 

@@ -12,7 +12,7 @@ use std::collections::BTreeMap;
 use syntax_tree::symbols::{IdNo, Ident, Symbols};
 
 /// An identifier in the scope in which it was looked up.
-#[derive(Clone, Copy, Debug, PartialEq, Eq)]
+#[derive(Clone, Copy)]
 pub struct Asking {
     pub scope: ScopeNo,
     pub ident: IdNo,
@@ -20,7 +20,7 @@ pub struct Asking {
 
 /// A look-up of a head, or of the head of rules, and whether a keyword was the answer; or a comparison with a literal, and whether
 /// both meant the same.
-#[derive(Clone, Copy, Debug, PartialEq, Eq)]
+#[derive(Clone, Copy)]
 pub enum Note {
     LookedUp {
         at: Asking,

@@ -11,14 +11,14 @@ use syntax_tree::symbols::{IdNo, SymNo};
 use syntax_tree::units::UnitKind;
 
 /// A symbol that a unit imports, and what it means.
-#[derive(Clone, Copy, Debug, PartialEq, Eq)]
+#[derive(Clone, Copy)]
 pub struct Imported {
     pub symbol: SymNo,
     pub meaning: Meaning,
 }
 
 /// How far a form has counted: its macro uses, its nodes, and its locals, of which `locals` is the next one's number.
-#[derive(Clone, Copy, Debug, PartialEq, Eq)]
+#[derive(Clone, Copy)]
 pub struct Budget {
     pub uses: u32,
     pub nodes: u32,

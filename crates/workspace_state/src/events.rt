@@ -7,7 +7,7 @@ use ls_base::{Change, Items, Text};
 use program_answers::publications::Published;
 
 /// A document is opened, or gets a new version and text; is changed; or is closed.
-#[derive(Debug, Drop)]
+#[derive(Drop)]
 pub enum DocEvent {
     Added {
         uri: Text,
@@ -77,7 +77,7 @@ fn keeps(fault: StoreFault) -> bool
 }
 
 /// Why an event was refused, if it was, and the lists that are published after it.
-#[derive(Debug, Drop)]
+#[derive(Drop)]
 pub struct Updated {
     pub refused: Option<StoreFault>,
     pub lists: Items<Published>,

@@ -2,7 +2,7 @@
 use Rattle.std.proofs.Common.{◌≡◌, ℕ, ◌+◌, List, length, map, vec_len, sym, ap, ◌∙◌, subst, arith}
 use Rattle.std.specs.FinMap.{entries}
 use Rattle.scheme_model.specs.Program.{Program, known_in, units_of}
-use Rattle.scheme_model.proofs.FramePrograms.{program_law}
+use Rattle.model_laws.proofs.FramePrograms.{program_law}
 use Rattle.scheme_tokens.specs.LibraryNames.{library_text}
 use Rattle.syntax_tree.specs.declared.trees.Work.{Work}
 use Rattle.core_tree.specs.Units.{ProgramStands}

@@ -6,7 +6,7 @@ use Rattle.scheme_model.specs.Prelude.{prelude}
 use Rattle.scheme_model.specs.Includes.{Document as ModelDocument, data_of, max_units}
 use Rattle.scheme_model.specs.Program.{Program, is_in, prelude_unit, known_in, units_of}
 use Rattle.scheme_model.specs.ScopedProgram.{scoped_before, scoped_program_of}
-use Rattle.scheme_model.proofs.FramePrograms.{program_law}
+use Rattle.model_laws.proofs.FramePrograms.{program_law}
 use Rattle.base_library.proofs.StandardTexts as standard
 use Rattle.datum_reader.specs.Views.{data_of as code_data}
 use Rattle.library_table.specs.declared.units.UnitSource.{UnitSource}

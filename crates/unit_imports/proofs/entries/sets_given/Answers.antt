@@ -14,7 +14,7 @@ use Rattle.unit_imports.specs.Joining.{AreApart, GroupsMean}
 use Rattle.unit_imports.specs.SetsGiven.{with_set}
 use Rattle.document_units.specs.UnitSources.{IsSpec}
 use Rattle.unit_imports.proofs.GivenLaws.{item_at, libraries_kept, none_left, sets_told_begin, sets_done, sets_told_next}
-use Rattle.unit_imports.proofs.Matched.{matched_at}
+use Rattle.core_tree.proofs.Matched.{matched_at}
 use Rattle.unit_imports.proofs.MeaningLaws.{names_itself, names_on}
 use Rattle.unit_imports.proofs.SetErrors.{as_many_forms, no_set_errors}
 use Rattle.unit_imports.proofs.entries.sets_given.Goals as goal

@@ -7,7 +7,7 @@ use Rattle.unit_imports.specs.NamesUsed.{AddsNames}
 use Rattle.document_units.specs.UnitSources.{IsSpec}
 use Rattle.unit_imports.proofs.ImportLaws.{exports_kept}
 use Rattle.unit_imports.proofs.GivenLaws.{item_at, libraries_kept}
-use Rattle.unit_imports.proofs.Matched.{as_many, matched_at}
+use Rattle.core_tree.proofs.Matched.{as_many, matched_at}
 use Rattle.unit_imports.proofs.MeaningLaws.{names_itself, names_on}
 use Rattle.unit_imports.proofs.UsedLaws.{adds_as, adds_none, adds_then, imports_more}
 use Rattle.unit_imports.proofs.names.Identifiers.add_sets.Goals as goal

@@ -1,5 +1,0 @@
-use Rattle.scheme_model.proofs.ScopeLaws.{erase_image, strip_image, same_image}
-use Rattle.scheme_model.proofs.laws.images_are_names.Goals as goal
-
-pub returns : goal.returns
-returns c = record { erased = erase_image; symbol = strip_image; apart = same_image }

@@ -1,5 +1,0 @@
-use Rattle.scheme_model.proofs.ScopeLaws.{images_substituted}
-use Rattle.scheme_model.proofs.laws.images_are_substituted.Goals as goal
-
-pub returns : goal.returns
-returns c = images_substituted
