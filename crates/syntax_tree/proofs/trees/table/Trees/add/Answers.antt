@@ -28,9 +28,10 @@ measure-size-requires-clause-depth c =
 
 pub put-requires : goal.put-requires
 put-requires c =
-    let r = c.args.region.now.in_pool.number in
-    (ap (λ (f : Forest). f.identity) c.self.view_is ∙ c.requires.region.0,
-      is_open c.self.inside.outers.items c.self.inside.pool.regions r (subst (λ (f : Forest). IsSome (map.get f.regions r)) (sym c.self.view_is) c.requires.region.1))
+    let r = c.args.region.now.in_pool.number in (
+      ap (λ (f : Forest). f.identity) c.self.view_is ∙ c.requires.region.0,
+      is_open c.self.inside.outers.items c.self.inside.pool.regions r (subst (λ (f : Forest). IsSome (map.get f.regions r)) (sym c.self.view_is) c.requires.region.1),
+    )
 
 pub invariant_of-self-2 : goal.invariant_of-self-2
 invariant_of-self-2 c =

@@ -11,9 +11,10 @@ use Rattle.syntax_tree.proofs.trees.table.Trees.back_to.Goals as goal
 
 pub back_to-requires-clause-region : goal.back_to-requires-clause-region
 back_to-requires-clause-region c =
-    let r = c.args.region.now.in_pool.number in
-    (ap (λ (f : Forest). f.identity) c.self.view_is ∙ c.requires.region.0,
-      is_open c.self.inside.outers.items c.self.inside.pool.regions r (subst (λ (f : Forest). IsSome (map.get f.regions r)) (sym c.self.view_is) c.requires.region.1))
+    let r = c.args.region.now.in_pool.number in (
+      ap (λ (f : Forest). f.identity) c.self.view_is ∙ c.requires.region.0,
+      is_open c.self.inside.outers.items c.self.inside.pool.regions r (subst (λ (f : Forest). IsSome (map.get f.regions r)) (sym c.self.view_is) c.requires.region.1),
+    )
 
 pub back_to-requires-clause-mark : goal.back_to-requires-clause-mark
 back_to-requires-clause-mark c = subst (λ (f : Forest). c.args.mark.count ≤ count_at f c.args.region.now.in_pool.number) (sym c.self.view_is) c.requires.mark

@@ -9,9 +9,10 @@ use Rattle.syntax_tree.proofs.trees.table.Trees.mark.Goals as goal
 
 pub mark-requires : goal.mark-requires
 mark-requires c =
-    let r = c.args.region.now.in_pool.number in
-    (ap (λ (f : Forest). f.identity) c.self.view_is ∙ c.requires.0,
-      is_open c.self.inside.outers.items c.self.inside.pool.regions r (subst (λ (f : Forest). IsSome (map.get f.regions r)) (sym c.self.view_is) c.requires.1))
+    let r = c.args.region.now.in_pool.number in (
+      ap (λ (f : Forest). f.identity) c.self.view_is ∙ c.requires.0,
+      is_open c.self.inside.outers.items c.self.inside.pool.regions r (subst (λ (f : Forest). IsSome (map.get f.regions r)) (sym c.self.view_is) c.requires.1),
+    )
 
 pub returns-clause-count : goal.returns-clause-count
 returns-clause-count c = c.mark.ensures.count ∙ ap (λ (f : Forest). count_at f c.args.region.now.in_pool.number) c.self.view_is

@@ -11,9 +11,10 @@ use Rattle.syntax_tree.proofs.trees.table.Trees.release.Goals as goal
 
 pub release-requires : goal.release-requires
 release-requires c =
-    let r = c.args.region.in_pool.number in
-    (ap (λ (f : Forest). f.identity) c.self.view_is ∙ c.requires.region.0,
-      is_open c.self.inside.outers.items c.self.inside.pool.regions r (subst (λ (f : Forest). IsSome (map.get f.regions r)) (sym c.self.view_is) c.requires.region.1))
+    let r = c.args.region.in_pool.number in (
+      ap (λ (f : Forest). f.identity) c.self.view_is ∙ c.requires.region.0,
+      is_open c.self.inside.outers.items c.self.inside.pool.regions r (subst (λ (f : Forest). IsSome (map.get f.regions r)) (sym c.self.view_is) c.requires.region.1),
+    )
 
 pub invariant_of-self : goal.invariant_of-self
 invariant_of-self c =
