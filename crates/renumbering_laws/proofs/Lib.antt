@@ -13,6 +13,7 @@ pub mod MovedRequirements  -- Reading `cond-expand` commutes with a change that 
 pub mod OneToOne  -- A one to one renumbering tells numbers, identifiers and meanings apart
 pub mod Sides  -- Two records of operations, of which the second does what the first does, renumbered
 pub mod SideSteps  -- Steps on both sides
+pub mod SideQuestions  -- What is asked on both sides: the same questions, renumbered
 pub mod SideUses  -- Heads, targets and macro uses on both sides
 pub mod SideForms  -- The forms of a body or a unit, gone through on both sides
 pub mod SideRuns  -- A form gone through, whatever its head, and all forms of a body or a unit, on both sides

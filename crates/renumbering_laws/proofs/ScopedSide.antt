@@ -347,7 +347,7 @@ module _ (r : Renumbering) (o : IsOneToOne r) (w : IsOnto r) where
       means = λ e e' a s s' l i. means_now s s' l e e' a i;
       transformer = λ s s' l m. to_transformer (macro_at s.macros m) (macro_at s'.macros (meaning r m)) (l.macros m);
       known = refl;
-      ask = λ qs qs' s s' l. l;
+      ask = λ qs qs' a s s' l. l;
       is_assigned = λ e e' a s s' l i. ap (λ b. assigned s' b (ident r i)) (body_moved e e' a) ∙ assigned_now s s' l (body_around e) i;
       counted = counted_now;
       turn = λ f s s' l. record { at = l.at; unit = l.unit; program = l.program; form = ap (λ v. r.form v f) (sym l.at); locals = l.locals; uses = l.uses; nodes = l.nodes; bodies = l.bodies; keywords = l.keywords; met = l.met; table = l.table; counts = l.counts; entry = l.entry; macros = l.macros; places = l.places; definitions = l.definitions };
@@ -402,7 +402,7 @@ module _ (r : Renumbering) (o : IsOneToOne r) (w : IsOnto r) where
         means = λ e e' a s s' l i. scoped_sides.means e e' a s s' l.0 i;
         transformer = λ s s' l m. scoped_sides.transformer s s' l.0 m;
         known = refl;
-        ask = λ qs qs' s s' l. l;
+        ask = λ qs qs' a s s' l. l;
         is_assigned = λ e e' a s s' l i. scoped_sides.is_assigned e e' a s s' l.0 i;
         counted = λ s s' l. scoped_sides.counted s s' l.0;
         turn = λ f s s' l. (scoped_sides.turn f s s' l.0, l.1);
