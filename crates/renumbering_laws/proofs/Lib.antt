@@ -23,6 +23,8 @@ pub mod SideLaws  -- The law of two sides, for a form that is gone through, for 
 pub mod NameLaws  -- What a renumbering does to names, to what is substituted in them, and to what they mean
 pub mod ModelSide  -- Expansion by substitution under old numbers and under new ones
 pub mod ScopedSide  -- Expansion by scopes, where a local is told by its count alone, under old numbers and under new ones
+pub mod NewAnswers  -- Under other numbers each question has the same answer, renumbered, whether the form answers it itself or what is around it
+pub mod AskingSide  -- A form with its questions under old numbers and under new ones: where its turn comes in surroundings that correspond, it goes to the same moment and asks the same, renumbered
 pub mod ArrowLaws  -- Arrows of renumbered leaves, keywords and names are those before, renumbered
 pub mod PreludeLaws  -- The prelude under a renumbering that keeps its unit and its form
 pub mod RenumberedStates  -- Each state corresponds to itself under new numbers, so the law speaks of every state
