@@ -62,7 +62,7 @@ module _ (r : Renumbering) (o : IsOneToOne r) where
 
   -- ---- what the form has made and found
 
-  own_table : (t : Table) → TablesMove r t (map (defined_as r) t)
+  pub own_table : (t : Table) → TablesMove r t (map (defined_as r) t)
   own_table [] = λ u i. refl
   own_table (d ∷ t) = table_step r o t (map (defined_as r) t) (own_table t) d
 
@@ -80,7 +80,7 @@ module _ (r : Renumbering) (o : IsOneToOne r) where
       go c c' h true = let e : suc c' + m ≡ c' + suc m = omega arith in let f : c + suc m ≡ suc c + m = omega arith in e ∙ h (suc m) ∙ ap (r.definition u) f
       go c c' h false = h m
 
-  own_macros : (ks : List ScopedMacro) → MacrosKept r ks (map (new_kept r) ks)
+  pub own_macros : (ks : List ScopedMacro) → MacrosKept r ks (map (new_kept r) ks)
   own_macros [] m = refl
   own_macros (k ∷ ks) m = cond_map (option_map (new_macro r)) (Some (record { env = k.frames; rules = k.rules })) (macro_at ks m) (same_moved r o k.meaning m) refl (own_macros ks m)
 
@@ -88,14 +88,14 @@ module _ (r : Renumbering) (o : IsOneToOne r) where
   macros_moved [] base base' l m = l m
   macros_moved (k ∷ ks) base base' l m = cond_map (option_map (new_macro r)) (Some (record { env = k.frames; rules = k.rules })) (macro_at (ks ++ base) m) (same_moved r o k.meaning m) refl (macros_moved ks base base' l m)
 
-  around_moved : (ps : List UsePlace) (k : Number) → around (map (new_use r) ps) (number r k) ≡ new_frames r (around ps k)
+  pub around_moved : (ps : List UsePlace) (k : Number) → around (map (new_use r) ps) (number r k) ≡ new_frames r (around ps k)
   around_moved [] k = refl
   around_moved (p ∷ ps) k = cond_map (new_frames r) p.frames (around ps k) (number_moved r o p.use_number k) refl (around_moved ps k)
 
-  abbrev found_as : Number × BodyDefinitions → Number × BodyDefinitions
+  abbrev pub found_as : Number × BodyDefinitions → Number × BodyDefinitions
   found_as q = (number r q.0, map (new_definition r) q.1)
 
-  find_moved : (ds : BodyDefinitions) (b : Number) (i : Ident) → find (map (new_definition r) ds) (number r b) (ident r i) ≡ option_map found_as (find ds b i)
+  pub find_moved : (ds : BodyDefinitions) (b : Number) (i : Ident) → find (map (new_definition r) ds) (number r b) (ident r i) ≡ option_map found_as (find ds b i)
   find_moved [] b i = refl
   find_moved (d ∷ ds) b i =
       cond_map (option_map found_as) (Some (d.binder, ds)) (find ds b i) (let x = number_moved r o d.body b in let y = ident_moved r o d.ident i in λ j. x j && y j) refl (find_moved ds b i)

@@ -26,6 +26,7 @@ ghost use Rattle.renumbering_laws.specs.NewStates.{HasInverse, state_new, scoped
 ghost use Rattle.renumbering_laws.specs.Units.{KeepsPrelude, ProgressMoves, ScopedProgressMoves, UnitMoves, FormsMove, ScopedFormsMove, form_as};
 ghost use Rattle.renumbering_laws.specs.Exports.{entry_as, export_as, exported_as};
 ghost use Rattle.renumbering_laws.specs.Asked.{new_moment, new_question, new_answer, new_asked, new_asking, new_pass, AroundMoves, TurnsMove};
+ghost use Rattle.renumbering_laws.specs.NewSurroundings.{HasOldNumbers, around_new};
 ghost use Rattle.renumbering_laws.specs.Pairings.{ArePairs, IsAside, Sends, forth, paired};
 ghost use Rattle.renumbering_laws.specs.Arrows.{leaf_as, name_use_as, arrow_as, UnitsMove, SameMembers, UnitsMoveAround, BoundAlike, AreApart};
 
@@ -114,4 +115,11 @@ pub fn questions_are_renumbered()
         let p = finish_asking w turns l in finish_asking v turns (result_as r (left_as r (ident r)) l) ≡ (result_as r (parts_as r) p.0, new_asking r p.1) }
     ensures answers { (r : Renumbering) (w v : Around) (n : Moment) (q : Question) → IsOneToOne r → AroundMoves r w v → answer v (new_moment r n) (new_question r q) ≡ new_answer r (answer w n q) }
     ensures same_answers { (r : Renumbering) (w v w' v' : Around) (q : Moment × Question) → IsOneToOne r → AroundMoves r w w' → AroundMoves r v v' → SameAnswer w v q → SameAnswer w' v' (new_asked r q) }
+{}
+
+/// All surroundings of a form correspond to some under new numbers, where the old number of each is told and definitions keep theirs. So the
+/// law above speaks of every form.
+pub fn surroundings_take_new_numbers()
+    ensures turns { (r : Renumbering) (b : HasOldNumbers r) (w : Around) → TurnsMove r w (around_new r b w) }
+    ensures one_to_one { (r : Renumbering) → HasOldNumbers r → IsOneToOne r }
 {}
