@@ -7,10 +7,11 @@ ghost use Rattle.scheme_model.specs.Steps.{Broken};
 ghost use Rattle.scheme_model.specs.Order.{Left};
 ghost use Rattle.scheme_model.specs.Questions.{Around, Moment, Question, answer, SameAnswer};
 ghost use Rattle.scheme_model.specs.FormsAlike.{questions_of_pass, questions_of_left};
-ghost use Rattle.form_laws.specs.Begins.{Each};
+ghost use Rattle.form_laws.specs.Begins.{Each, FormBegins, LeftBegins};
 ghost use Rattle.renumbering_laws.specs.Moving.{move_tree};
 ghost use Rattle.renumbering_laws.specs.Renumbering.{Renumbering, IsOneToOne, ident, change, result_as, left_as};
 ghost use Rattle.renumbering_laws.specs.Asked.{new_moment, new_question, new_answer, new_asked, AroundMoves, TurnsMove};
+ghost use Rattle.renumbering_laws.specs.NewSurroundings.{HasOldNumbers, around_new};
 ghost use Rattle.renumbering_laws.specs.Units.{KeepsPrelude};
 ghost use Rattle.carried_forms.specs.Paired.{FormText, UnitText, UnitPair, by_ends, Rise, AreTold, AreWithin, unit_pairs, with_themselves, renumbering};
 ghost use Rattle.carried_forms.specs.Worked.{WorkedUnit, OpenDocument, AreOpenOnce, read_documents, unit_texts};
@@ -46,10 +47,18 @@ pub fn same_answers_are_equal()
     ensures { (r : Renumbering) (w v : Around) (n : Moment) (q : Question) → has_same_answer r w v (n, q) ≡ true → answer v (new_moment r n) (new_question r q) ≡ new_answer r (answer w n q) }
 {}
 
-/// The numbers of the pairs are a renumbering: units get them one to one, and so do the forms of each, and the prelude keeps its own.
+/// The numbers of the pairs are a renumbering: units get them one to one, and so do the forms of each; the prelude keeps its own; and the old
+/// number of each is told.
 pub fn pairs_are_renumbered()
     ensures one_to_one { (us vs : List UnitText) → AreTold us → AreWithin 0 vs → IsOneToOne (renumbering (unit_pairs us vs)) }
     ensures prelude_kept { (ps : List UnitPair) → KeepsPrelude (renumbering ps) }
+    ensures old_numbers { (us vs : List UnitText) → AreTold us → AreWithin 0 vs → HasOldNumbers (renumbering (unit_pairs us vs)) }
+{}
+
+/// A form that may begin may begin under other numbers in the surroundings under them, and so may what it set aside (R7RS 5.1).
+pub fn forms_begin_under_new_numbers()
+    ensures pass { (r : Renumbering) (b : HasOldNumbers r) (w : Around) (t : Tree Identifier) → FormBegins w t → FormBegins (around_new r b w) (move_tree (change r) t) }
+    ensures left { (r : Renumbering) (b : HasOldNumbers r) (w : Around) (l : Left Identifier) → LeftBegins w l → LeftBegins (around_new r b w) (left_as r (ident r) l) }
 {}
 
 /// What has the same answer up to the numbers has it in the surroundings after as in those before under the new numbers: each question, and

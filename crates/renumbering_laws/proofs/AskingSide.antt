@@ -1,24 +1,23 @@
 -- A form with its questions under old numbers and under new ones: where its turn comes in surroundings that correspond, it goes to the
 -- same moment and asks the same, renumbered.
-use Rattle.std.proofs.Common.{◌≡◌, ℕ, suc, ◌+◌, List, [], ◌∷◌, ◌++◌, map, Option, Some, None, Result, refl, sym, ap, ◌∙◌, subst}
+use Rattle.std.proofs.Common.{◌≡◌, ℕ, suc, List, [], ◌∷◌, ◌++◌, map, Option, Some, None, Result, refl, sym, ap, ◌∙◌, subst}
 use Rattle.scheme_model.specs.Identifiers.{Number}
 use Rattle.scheme_model.specs.Ident.{Ident}
 use Rattle.scheme_model.specs.Trees.{Tree}
 use Rattle.scheme_model.specs.ExpansionFaults.{Named, Fault}
 use Rattle.scheme_model.specs.Meaning.{Meaning, Local, Global, Standard, Free}
 use Rattle.scheme_model.specs.RulesShape.{Rules, option_map}
-use Rattle.scheme_model.specs.Cores.{Target, MacroUse, Parts}
 use Rattle.scheme_model.specs.Steps.{Broken}
-use Rattle.scheme_model.specs.Order.{Left, Pass, Pending, Renamed, Transformer, Asked, Ops}
+use Rattle.scheme_model.specs.Order.{Left, Pending, Renamed, Transformer, Asked, Ops}
 use Rattle.scheme_model.specs.UnitExpansion.{one_form}
 use Rattle.scheme_model.specs.ScopedExpansion.{Bind, Enter, Frames, FramedIdent, body_around, assigned}
-use Rattle.scheme_model.specs.OwnAnswers.{own_local, own_means, own_macro}
+use Rattle.scheme_model.specs.OwnAnswers.{own_local}
 use Rattle.scheme_model.specs.Questions.{Moment, Around, at_moment, own_at, number_in, outcome, Question, LooksUp, Compares, IsAssigned, Defines, unless_own, unless_local, in_unit, left_to_ask, dated, all_left, Asking, bound_at, ended, asking}
 use Rattle.scheme_model.specs.FormsAlike.{no_questions, set_aside_asking, finish_asking}
 use Rattle.scheme_model.proofs.RenamingLaws.{append_map}
 use Rattle.renumbering_laws.specs.Moving.{Change, move_tree, move_named, move_rules}
 use Rattle.renumbering_laws.specs.Renumbering.{Renumbering, IsOneToOne, number, ident, meaning, change, target, macro_use_as, parts_as, result_as, left_as, pending_as}
-use Rattle.renumbering_laws.specs.Asked.{new_frames, new_framed, new_note, new_macro, new_use, new_kept, new_moment, new_question, new_asked, new_asking, new_pass, AroundMoves, TurnsMove}
+use Rattle.renumbering_laws.specs.Asked.{new_frames, new_framed, new_macro, new_use, new_moment, new_question, new_asked, new_asking, new_pass, AroundMoves, TurnsMove}
 use Rattle.renumbering_laws.proofs.Sides.{no_macro, a_macro, regions, meant, headed, rules_of, alike, assigns, library, AskedMoves, All, DefinedMoves, Sides, Macros}
 use Rattle.renumbering_laws.proofs.OneToOne.{ident_moved}
 use Rattle.renumbering_laws.proofs.ScopedSide.{symbol_moved}

@@ -1,14 +1,13 @@
 -- All surroundings of a form correspond to themselves under new numbers, so the laws on questions speak of every form.
-use Rattle.std.proofs.Common.{◌≡◌, ℕ, suc, ◌+◌, List, [], ◌∷◌, map, Bool, true, false, cond, Option, Some, None, refl, sym, ap, ◌∙◌, eq-eqb}
+use Rattle.std.proofs.Common.{◌≡◌, ℕ, suc, ◌+◌, [], ◌∷◌, map, Bool, true, false, cond, Option, Some, None, refl, sym, ap, ◌∙◌, eq-eqb}
 use Rattle.std.specs.Prelude.{◌==◌}
 use Rattle.std.proofs.lemmas.Bool.{eqb-true}
 use Rattle.scheme_model.specs.RulesShape.{option_map}
 use Rattle.scheme_model.specs.Substitution.{Table, definition_count}
 use Rattle.scheme_model.specs.Questions.{Around}
-use Rattle.scheme_model.specs.FormsAlike.{start}
 use Rattle.renumbering_laws.specs.Renumbering.{Renumbering, IsOneToOne, meaning, target, macro_use_as}
 use Rattle.renumbering_laws.specs.States.{defined_as, CountsOn}
-use Rattle.renumbering_laws.specs.Asked.{new_moment, AroundMoves, TurnsMove}
+use Rattle.renumbering_laws.specs.Asked.{AroundMoves, TurnsMove}
 use Rattle.renumbering_laws.specs.NewSurroundings.{HasOldNumbers, at_old, forms_new, around_new}
 use Rattle.renumbering_laws.proofs.NewAnswers.{own_table, own_macros}
 

@@ -12,13 +12,13 @@ use Rattle.scheme_model.specs.Shapes.{Clause, LocalMacros, one_of}
 use Rattle.scheme_model.specs.Quasiquote.{Pieces, quasi_of, marks_in}
 use Rattle.scheme_model.specs.RulesShape.{option_map}
 use Rattle.scheme_model.specs.Leaves.{Leaf, leaves_of}
-use Rattle.scheme_model.specs.Cores.{Target, Bound, LocalNumber, Definition, Binder, Binders, Core, Ref, Quote, Quasi, Set, LetSyntax, Syntax as syntax_part, weight, weights, tail_weight, hole_weight, outside}
+use Rattle.scheme_model.specs.Cores.{Target, LocalNumber, Binder, Binders, Core, Ref, Quote, Quasi, Set, LetSyntax, Syntax as syntax_part, weight, weights, tail_weight, hole_weight, outside}
 use Rattle.scheme_model.specs.Steps.{Step, ◌>>=◌, done}
 use Rattle.scheme_model.specs.Order.{Here, Item, Expression, Value, Function, Assigned, AssignedFunction, ValuesOf, Record, Macro, Pass, Region, Transformer, Asked, Meant, Headed, RulesOf, Library, target_of, head_of, here_at, forms_at, given, RulesParts, run}
 use Rattle.scheme_model.specs.Expression.{whole, body, Expander, node, each, each_of, bound, procedure, lambda, clauses, meaning_of, macro_with, macro_def, macro_asked, assignment, item_part, parts, left_of, body_in, body_core, expressions, sequence, heads, keep_all, numbers, local_defs, locals_asked, local_macros, recursive, let_syntax, letrec_syntax, mark_of, symbol_or_hole, quasi, quote, unless_keyword, set, reference, call, chosen_sequence, core_form, macro_use, by_head, expression, expand}
 use Rattle.scheme_model.proofs.RenamingLaws.{map_turned}
 use Rattle.renumbering_laws.specs.Moving.{Change, move_tree, move_trees, move_tail, move_named, move_rules, move_clause}
-use Rattle.renumbering_laws.specs.Renumbering.{Renumbering, number, place, ident, meaning, places_of, target, bound as bound_as, binder, binders, rule_leaf, macro_of, core_as, cores_as, clauses_as, parts_as, part_as, item_as, left_as}
+use Rattle.renumbering_laws.specs.Renumbering.{Renumbering, number, place, ident, meaning, places_of, target, binder, binders, rule_leaf, macro_of, core_as, cores_as, clauses_as, parts_as, part_as, item_as, left_as}
 use Rattle.renumbering_laws.proofs.Sides.{no_macro, a_macro, regions, meant, headed, rules_of, Sides, Macros, Regions}
 use Rattle.renumbering_laws.proofs.MovedParts.{on_some, move_local_macros, move_pieces, move_leaf}
 use Rattle.renumbering_laws.proofs.MovingSteps.{Reads, size-map, then_map}

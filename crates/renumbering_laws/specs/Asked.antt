@@ -1,6 +1,6 @@
 -- What becomes of all that a form asks and is answered under other numbers, and surroundings of a form that correspond. The times at
 -- which bodies were entered stay as they are, since no answer tells them.
-use Rattle.std.specs.Prelude.{◌≡◌, List, map}
+use Rattle.std.specs.Prelude.{◌≡◌, map}
 use Rattle.scheme_model.specs.Ident.{Ident}
 use Rattle.scheme_model.specs.Meaning.{Meaning}
 use Rattle.scheme_model.specs.RulesShape.{option_map}

@@ -1,6 +1,5 @@
 -- Surroundings of a form under new numbers, where the old number of a unit and of a form is told by the new one, if it has one.
-use Rattle.std.specs.Prelude.{◌≡◌, ℕ, List, [], map, Option, Some, None}
-use Rattle.scheme_model.specs.Meaning.{Meaning}
+use Rattle.std.specs.Prelude.{◌≡◌, ℕ, [], map, Option, Some, None}
 use Rattle.scheme_model.specs.RulesShape.{option_map}
 use Rattle.scheme_model.specs.Substitution.{Entries}
 use Rattle.scheme_model.specs.Questions.{Around}
