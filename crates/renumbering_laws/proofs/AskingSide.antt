@@ -8,7 +8,9 @@ use Rattle.scheme_model.specs.ExpansionFaults.{Named, Fault}
 use Rattle.scheme_model.specs.Meaning.{Meaning, Local, Global, Standard, Free}
 use Rattle.scheme_model.specs.RulesShape.{Rules, option_map}
 use Rattle.scheme_model.specs.Steps.{Broken}
-use Rattle.scheme_model.specs.Order.{Left, Pending, Renamed, Transformer, Asked, Ops}
+use Rattle.scheme_model.specs.Cores.{Part}
+use Rattle.scheme_model.specs.Order.{Item, WaitingUse, Left, Pending, Renamed, Transformer, Asked, Ops, meet_all}
+use Rattle.scheme_model.specs.Expression.{item_part, expand}
 use Rattle.scheme_model.specs.UnitExpansion.{one_form}
 use Rattle.scheme_model.specs.ScopedExpansion.{Bind, Enter, Frames, FramedIdent, body_around, assigned}
 use Rattle.scheme_model.specs.OwnAnswers.{own_local}
@@ -16,12 +18,15 @@ use Rattle.scheme_model.specs.Questions.{Moment, Around, at_moment, own_at, numb
 use Rattle.scheme_model.specs.FormsAlike.{no_questions, set_aside_asking, finish_asking}
 use Rattle.scheme_model.proofs.RenamingLaws.{append_map}
 use Rattle.renumbering_laws.specs.Moving.{Change, move_tree, move_named, move_rules}
-use Rattle.renumbering_laws.specs.Renumbering.{Renumbering, IsOneToOne, number, ident, meaning, change, target, macro_use_as, parts_as, result_as, left_as, pending_as}
+use Rattle.renumbering_laws.specs.Renumbering.{Renumbering, IsOneToOne, number, ident, meaning, change, target, macro_use_as, parts_as, part_as, result_as, item_as, use_as, left_as, pending_as}
 use Rattle.renumbering_laws.specs.Asked.{new_frames, new_framed, new_macro, new_use, new_moment, new_question, new_asked, new_asking, new_pass, AroundMoves, TurnsMove}
 use Rattle.renumbering_laws.proofs.Sides.{no_macro, a_macro, regions, meant, headed, rules_of, alike, assigns, library, AskedMoves, All, DefinedMoves, Sides, Macros}
 use Rattle.renumbering_laws.proofs.OneToOne.{ident_moved}
 use Rattle.renumbering_laws.proofs.ScopedSide.{symbol_moved}
 use Rattle.renumbering_laws.proofs.NewAnswers.{body_moved, own_local_moved, number_in_moved, means_at_moment, macro_moved, assigned_moved, bound_moved, outcome_moved, ended_moved}
+use Rattle.renumbering_laws.proofs.SideSteps.{Goes as Steps, goes}
+use Rattle.renumbering_laws.proofs.SideUses.{all_met}
+use Rattle.renumbering_laws.proofs.SideExpressions.{item_goes, expand_goes}
 use Rattle.renumbering_laws.proofs.SideLaws.{set_aside_law, finished_law}
 
 unless_own_moved : (r : Renumbering) (x : Option Number) (qs : List Question) → unless_own (option_map (number r) x) (map (new_question r) qs) ≡ map (new_question r) (unless_own x qs)
@@ -193,3 +198,17 @@ module _ (r : Renumbering) (o : IsOneToOne r) where
     finish_asks turns x =
         let h = finished_law asking_sides [] [] refl turns x (no_questions w) (no_questions v) begun in
         let a = h.result in let b = h.states in λ j. (a j, b j)
+
+    -- ---- parts of the form
+
+    pub uses_ask : (us : List (WaitingUse Ident)) (s : Asking) → meet_all two [] (map (use_as r (ident r)) us) (new_asking r s) ≡ new_asking r (meet_all one [] us s)
+    uses_ask us s = all_met asking_sides [] [] refl us s (new_asking r s) refl
+
+    both_told : {q : Result Part Broken × Asking} {q' : Result Part Broken × Asking} → Steps asking_sides (part_as r) q q' → q' ≡ (result_as r (part_as r) q.0, new_asking r q.1)
+    both_told (goes a b) = λ j. (a j, b j)
+
+    pub item_asks : (turns depth : ℕ) (i : Item Ident) (s : Asking)
+        → let p = item_part (expand one turns) one depth [] i s in item_part (expand two turns) two depth [] (item_as r (ident r) i) (new_asking r s) ≡ (result_as r (part_as r) p.0, new_asking r p.1)
+    item_asks turns depth i s =
+        let both = expand_goes asking_sides turns in
+        both_told (item_goes asking_sides (expand one turns) (expand two turns) both.0 both.1 depth [] [] refl i s (new_asking r s) refl)
