@@ -47,11 +47,11 @@ module _ (r : Renumbering) (o : IsOneToOne r) (w v : Around) where
 
   answers_kept : (u : Around) → AroundMoves r w u → (qs : List (Moment × Question)) → have_same_answers r w v qs ≡ true → Each (SameAnswer u v) (map (new_asked r) qs)
   answers_kept u l [] h = tt
-  answers_kept u l (q ∷ qs) h = go (has_same_answer r w v q) refl h
+  answers_kept u l (q ∷ qs) h = go (has_same_answer r w v q) refl h (λ k. answers_kept u l qs k)
     where
-      go : (b : Bool) → has_same_answer r w v q ≡ b → (b && have_same_answers r w v qs) ≡ true → Each (SameAnswer u v) (map (new_asked r) (q ∷ qs))
-      go true e k = (answer_kept u l q e, answers_kept u l qs k)
-      go false e k = absurd cc
+      go : (b : Bool) → has_same_answer r w v q ≡ b → (b && have_same_answers r w v qs) ≡ true → (have_same_answers r w v qs ≡ true → Each (SameAnswer u v) (map (new_asked r) qs)) → Each (SameAnswer u v) (map (new_asked r) (q ∷ qs))
+      go true e k ih = (answer_kept u l q e, ih k)
+      go false e k ih = absurd cc
 
   module _ (u : Around) (t : TurnsMove r w u) (turns : ℕ) where
     pub pass_kept : (x : Tree Ident) → have_same_answers r w v (questions_of_pass w turns x) ≡ true → Each (SameAnswer u v) (questions_of_pass u turns (move_tree (change r) x))

@@ -17,12 +17,12 @@ old_of f (c ∷ cs) u = cond (f c == u) (Some c) (old_of f cs u)
 
 old_found : (f : ℕ → ℕ) → ((u v : ℕ) → f u ≡ f v → u ≡ v) → (cs : List ℕ) (n : ℕ) → IsIn n cs → old_of f cs (f n) ≡ Some n
 old_found f h [] n i = absurd i
-old_found f h (c ∷ cs) n i = go (f c == f n) refl i
+old_found f h (c ∷ cs) n i = go (f c == f n) refl i (λ q. old_found f h cs n q)
   where
-    go : (b : Bool) → (f c == f n) ≡ b → (n ≡ c) ⊎ IsIn n cs → cond (f c == f n) (Some c) (old_of f cs (f n)) ≡ Some n
-    go true e i = ap (λ t. cond t (Some c) (old_of f cs (f n))) e ∙ ap Some (h c n (eqb-true (f c) (f n) e))
-    go false e (inl q) = let x : (f c == f n) ≡ true = eq-eqb (f c) (f n) (ap f (sym q)) in let y : true ≡ false = sym x ∙ e in absurd cc
-    go false e (inr q) = ap (λ t. cond t (Some c) (old_of f cs (f n))) e ∙ old_found f h cs n q
+    go : (b : Bool) → (f c == f n) ≡ b → (n ≡ c) ⊎ IsIn n cs → (IsIn n cs → old_of f cs (f n) ≡ Some n) → cond (f c == f n) (Some c) (old_of f cs (f n)) ≡ Some n
+    go true e i ih = ap (λ t. cond t (Some c) (old_of f cs (f n))) e ∙ ap Some (h c n (eqb-true (f c) (f n) e))
+    go false e (inl q) ih = let x : (f c == f n) ≡ true = eq-eqb (f c) (f n) (ap f (sym q)) in let y : true ≡ false = sym x ∙ e in absurd cc
+    go false e (inr q) ih = ap (λ t. cond t (Some c) (old_of f cs (f n))) e ∙ ih q
 
 -- ---- units
 
@@ -55,11 +55,11 @@ among_pairs size f (q ∷ qs) = go (q.0 == f) refl (among_pairs size f qs)
 
 among_forms : (ps : List UnitPair) (u f : ℕ) → IsIn f (form_numbers ps u (form_after ps u f))
 among_forms [] u f = inl refl
-among_forms (p ∷ ps) u f = go (p.before == u)
+among_forms (p ∷ ps) u f = go (p.before == u) (among_forms ps u f)
   where
-    go : (b : Bool) → let g = cond b (number_after (p.size + f) p.forms f) (form_after ps u f) in IsIn f (cond b ((g - p.size) ∷ map (λ q. q.0) p.forms) (form_numbers ps u g))
-    go true = among_pairs p.size f p.forms
-    go false = among_forms ps u f
+    go : (b : Bool) → IsIn f (form_numbers ps u (form_after ps u f)) → let g = cond b (number_after (p.size + f) p.forms f) (form_after ps u f) in IsIn f (cond b ((g - p.size) ∷ map (λ q. q.0) p.forms) (form_numbers ps u g))
+    go true h = among_pairs p.size f p.forms
+    go false h = h
 
 pub pairs_tell : (us vs : List UnitText) → AreTold us → AreWithin 0 vs → HasOldNumbers (renumbering (unit_pairs us vs))
 pairs_tell us vs a b =
