@@ -2,7 +2,6 @@
 use Rattle.std.proofs.Common.{◌≡◌, ◌⊎◌, inl, inr, ℕ, List, [], ◌∷◌, map, Bool, true, false, cond, Option, Some, None, refl, sym, ap, ◌∙◌, subst}
 use Rattle.std.specs.Prelude.{◌&&◌, ◌==◌, nat_lt}
 use Rattle.std.proofs.lemmas.Bool.{eqb-true}
-use Rattle.scheme_model.specs.declared.Occ.{Occ}
 use Rattle.scheme_model.specs.Identifiers.{Number, same_number}
 use Rattle.scheme_model.specs.Ident.{Ident, Written, Inserted, same_ident}
 use Rattle.scheme_model.specs.Trees.{Tree}
@@ -18,12 +17,12 @@ use Rattle.scheme_model.specs.ScopedExpansion.{BodyDefinitions, FramedIdent, Use
 use Rattle.scheme_model.specs.Questions.{Around}
 use Rattle.scheme_model.proofs.IdentLaws.{number_told, ident_told}
 use Rattle.scheme_model.proofs.RenamingLaws.{map_turned}
-use Rattle.form_laws.specs.Begins.{Each, With, plain_of, TreeWith, RulesWith, ItemWith, UseWith, IsCounted, IsToCome, IsMade, IsRooted, IsNoLocal, IsEntry, MacroStands, Begins, PlaceStands, NoteStands, BindsInUnit, MacroInUnit, FormBegins, LeftBegins}
+use Rattle.form_laws.specs.Begins.{Each, With, plain_of, TreeWith, RulesWith, ItemWith, UseWith, IsToCome, IsMade, IsRooted, IsEntry, MacroStands, Begins, PlaceStands, NoteStands, BindsInUnit, MacroInUnit, FormBegins, LeftBegins}
 use Rattle.renumbering_laws.specs.Moving.{Change, move_tree, move_named, move_rules, move_clause}
 use Rattle.renumbering_laws.specs.Renumbering.{Renumbering, IsOneToOne, number, place, ident, meaning, change, with_places, target, bound, binder, binders, form_as, item_as, use_as, left_as}
 use Rattle.renumbering_laws.specs.States.{defined_as}
 use Rattle.renumbering_laws.specs.Asked.{new_frames, new_framed, new_note, new_macro, new_kept, new_use, new_definition}
-use Rattle.renumbering_laws.specs.NewSurroundings.{HasOldNumbers, at_old, forms_new, imports_new, around_new}
+use Rattle.renumbering_laws.specs.NewSurroundings.{HasOldNumbers, at_old, forms_new, around_new}
 use Rattle.renumbering_laws.proofs.Turned.{tree_turned, trees_turned, named_turned, rules_turned}
 use Rattle.renumbering_laws.proofs.NameLaws.{some_kept}
 use Rattle.renumbering_laws.proofs.NewAnswers.{own_table, own_macros, around_moved, find_moved, found_as}

@@ -1,15 +1,14 @@
 -- The numbers of pairs are a one to one renumbering that keeps the prelude, and what has the same answer up to them has it in surroundings
 -- under the new numbers.
-use Rattle.std.proofs.Common.{◌≡◌, ℕ, List, [], ◌∷◌, map, Bool, true, false, Result, refl, sym, ap, ◌∙◌, subst, arith, eq-eqb}
+use Rattle.std.proofs.Common.{◌≡◌, ℕ, List, [], ◌∷◌, map, Bool, true, false, Result, refl, sym, ap, ◌∙◌, subst, eq-eqb}
 use Rattle.std.specs.Prelude.{◌==◌, ◌&&◌}
-use Rattle.std.specs.List.{list_all}
 use Rattle.std.proofs.lemmas.Bool.{eqb-true}
 use Rattle.scheme_model.specs.Ident.{Ident}
 use Rattle.scheme_model.specs.Trees.{Tree}
 use Rattle.scheme_model.specs.Steps.{Broken}
 use Rattle.scheme_model.specs.Order.{Left}
-use Rattle.scheme_model.specs.Questions.{Around, Moment, Question, SameAnswer, answer}
-use Rattle.scheme_model.specs.FormsAlike.{set_aside_asking, finish_asking, questions_of_pass, questions_of_left}
+use Rattle.scheme_model.specs.Questions.{Around, Moment, Question, SameAnswer}
+use Rattle.scheme_model.specs.FormsAlike.{questions_of_pass, questions_of_left}
 use Rattle.form_laws.specs.Begins.{Each}
 use Rattle.renumbering_laws.specs.Moving.{move_tree}
 use Rattle.renumbering_laws.specs.Renumbering.{Renumbering, IsOneToOne, ident, change, result_as, left_as}

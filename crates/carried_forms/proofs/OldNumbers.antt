@@ -3,7 +3,6 @@ use Rattle.std.proofs.Common.{◌≡◌, ◌⊎◌, inl, inr, ℕ, suc, ◌+◌,
 use Rattle.std.specs.Prelude.{◌==◌}
 use Rattle.std.proofs.lemmas.Bool.{eqb-true}
 use Rattle.scheme_model.specs.Program.{prelude_unit}
-use Rattle.renumbering_laws.specs.Renumbering.{Renumbering}
 use Rattle.renumbering_laws.specs.NewSurroundings.{HasOldNumbers}
 use Rattle.carried_forms.specs.Carried.{IsIn}
 use Rattle.carried_forms.specs.Paired.{UnitText, UnitPair, AreTold, AreWithin, unit_pairs, prelude_pair, unit_after, number_after, form_after, renumbering}

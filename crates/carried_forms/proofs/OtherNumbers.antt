@@ -1,6 +1,6 @@
 -- Where a unit doesn't go on, numbers that agree with the pairs may not give it the number of a unit that is new, computed: the identifier
 -- that is asked would then mean what the new unit defines.
-use Rattle.std.proofs.Common.{◌≡◌, ℕ, List, [], ◌∷◌, true, false, None, refl}
+use Rattle.std.proofs.Common.{◌≡◌, List, [], ◌∷◌, true, false, None, refl}
 use Rattle.std.specs.Prelude.{codes}
 use Rattle.scheme_model.specs.Ident.{Written}
 use Rattle.scheme_model.specs.Substitution.{Table}
