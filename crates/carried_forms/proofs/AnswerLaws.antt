@@ -18,7 +18,9 @@ use Rattle.scheme_model.specs.ScopedExpansion.{Bind, Enter, Frames, macro_at, as
 use Rattle.scheme_model.specs.OwnAnswers.{root_means}
 use Rattle.scheme_model.specs.Questions.{Outcome, Stands, Redefines, StoodBefore, Around, Moment, Question, LooksUp, UsesRules, Compares, IsAssigned, Requires, Defines, Means, Expands, Says, Ends, at_moment, unit_outcome, bare, bare_macro, answer}
 use Rattle.scheme_model.proofs.IdentLaws.{number_told, ident_told}
-use Rattle.carried_forms.specs.Renumbering.{Renumbering, new_number, new_ident, new_named, new_meaning, new_frames, new_rules, new_macro, new_note, new_moment, new_question, new_answer}
+use Rattle.renumbering_laws.specs.Moving.{move_named, move_rules}
+use Rattle.renumbering_laws.specs.Renumbering.{Renumbering, number, ident, meaning, change}
+use Rattle.renumbering_laws.specs.Asked.{new_frames, new_macro, new_note, new_moment, new_question, new_answer}
 use Rattle.carried_forms.specs.Alike.{same_option, same_list, same_tree, same_trees, same_tail, same_named, same_rule, same_rules, same_frame, same_macro, same_outcome}
 use Rattle.carried_forms.specs.Carried.{has_same_answer}
 
@@ -116,12 +118,12 @@ rules_told rs qs h =
 frames_told : (r : Renumbering) (fs gs : Frames) → same_list same_frame (new_frames r (bare fs)) (bare gs) ≡ true → new_frames r (bare fs) ≡ bare gs
 frames_told r [] [] h = refl
 frames_told r (Bind x v ∷ fs) (Bind y w ∷ gs) h =
-    let a = both (same_ident (new_ident r x) y && same_number (new_number r v) w) (same_list same_frame (new_frames r (bare fs)) (bare gs)) h in
-    let b = both (same_ident (new_ident r x) y) (same_number (new_number r v) w) a.0 in
-    (λ k. Bind (ident_told (new_ident r x) y b.0 k) (number_told (new_number r v) w b.1 k) ∷ frames_told r fs gs a.1 k)
+    let a = both (same_ident (ident r x) y && same_number (number r v) w) (same_list same_frame (new_frames r (bare fs)) (bare gs)) h in
+    let b = both (same_ident (ident r x) y) (same_number (number r v) w) a.0 in
+    (λ k. Bind (ident_told (ident r x) y b.0 k) (number_told (number r v) w b.1 k) ∷ frames_told r fs gs a.1 k)
 frames_told r (Enter b us ∷ fs) (Enter c vs ∷ gs) h =
-    let a = both (same_number (new_number r b) c) (same_list same_frame (new_frames r (bare fs)) (bare gs)) h in
-    (λ k. Enter (number_told (new_number r b) c a.0 k) (λ f. 0) ∷ frames_told r fs gs a.1 k)
+    let a = both (same_number (number r b) c) (same_list same_frame (new_frames r (bare fs)) (bare gs)) h in
+    (λ k. Enter (number_told (number r b) c a.0 k) (λ f. 0) ∷ frames_told r fs gs a.1 k)
 frames_told r [] (Bind y w ∷ gs) h = absurd cc
 frames_told r [] (Enter c vs ∷ gs) h = absurd cc
 frames_told r (Bind x v ∷ fs) [] h = absurd cc
@@ -131,8 +133,8 @@ frames_told r (Enter b us ∷ fs) (Bind y w ∷ gs) h = absurd cc
 
 macro_told : (r : Renumbering) (m n : Transformer Frames Ident) → same_macro (new_macro r (bare_macro m)) (bare_macro n) ≡ true → new_macro r (bare_macro m) ≡ bare_macro n
 macro_told r m n h =
-    let a = both (same_list same_frame (new_frames r (bare m.env)) (bare n.env)) (same_rules (new_rules r m.rules) n.rules) h in
-    (λ k. record { env = frames_told r m.env n.env a.0 k; rules = rules_told (new_rules r m.rules) n.rules a.1 k })
+    let a = both (same_list same_frame (new_frames r (bare m.env)) (bare n.env)) (same_rules (move_rules (change r) m.rules) n.rules) h in
+    (λ k. record { env = frames_told r m.env n.env a.0 k; rules = rules_told (move_rules (change r) m.rules) n.rules a.1 k })
 
 macros_told : (r : Renumbering) (x y : Option (Transformer Frames Ident)) → same_option same_macro (option_map (new_macro r) (option_map bare_macro x)) (option_map bare_macro y) ≡ true →
     option_map (new_macro r) (option_map bare_macro x) ≡ option_map bare_macro y
@@ -160,19 +162,19 @@ pub answers_told : (r : Renumbering) (w v : Around) (n : Moment) (q : Question) 
 answers_told r w v n (LooksUp i) h =
     let s = at_moment w n in
     let t = at_moment v (new_moment r n) in
-    let m = new_meaning r (root_means s i) in
-    let o = root_means t (new_ident r i) in
+    let m = meaning r (root_means s i) in
+    let o = root_means t (ident r i) in
     let a = both (same_meaning m o) (same_truth (is_some (macro_at s.macros (root_means s i))) (is_some (macro_at t.macros o))) h in
     (λ k. Means (sym (meaning_told m o a.0) k) (sym (truth_told (is_some (macro_at s.macros (root_means s i))) (is_some (macro_at t.macros o)) a.1) k))
 answers_told r w v n (UsesRules m) h =
     let x = macro_at (at_moment w n).macros m in
-    let y = macro_at (at_moment v (new_moment r n)).macros (new_meaning r m) in
+    let y = macro_at (at_moment v (new_moment r n)).macros (meaning r m) in
     ap (λ (z : Option (Transformer Frames Ident)). Expands z) (sym (macros_told r x y h))
 answers_told r w v n (Compares l i) h =
     let s = at_moment w n in
     let t = at_moment v (new_moment r n) in
-    ap Says (sym (truth_told (same_meaning (root_means s l) (root_means s i)) (same_meaning (root_means t (new_ident r l)) (root_means t (new_ident r i))) h))
-answers_told r w v n (IsAssigned i) h = ap Says (sym (truth_told (assigned (at_moment w n) None i) (assigned (at_moment v (new_moment r n)) None (new_ident r i)) h))
+    ap Says (sym (truth_told (same_meaning (root_means s l) (root_means s i)) (same_meaning (root_means t (ident r l)) (root_means t (ident r i))) h))
+answers_told r w v n (IsAssigned i) h = ap Says (sym (truth_told (assigned (at_moment w n) None i) (assigned (at_moment v (new_moment r n)) None (ident r i)) h))
 answers_told r w v n (Requires l) h = ap Says (sym (truth_told (w.known l) (v.known l) h))
 answers_told r w v n (Defines fs x rs ns) h =
-    ap Ends (sym (outcome_told (unit_outcome w n fs x rs ns) (unit_outcome v (new_moment r n) (new_frames r fs) (new_named r x) (option_map (new_rules r) rs) (map (new_note r) ns)) h))
+    ap Ends (sym (outcome_told (unit_outcome w n fs x rs ns) (unit_outcome v (new_moment r n) (new_frames r fs) (move_named (change r) x) (option_map (move_rules (change r)) rs) (map (new_note r) ns)) h))

@@ -1,6 +1,6 @@
 -- The carried forms are exactly those that go on, were worked on and ask alike.
 use Rattle.std.proofs.Common.{◌≡◌, ℕ, List, [], ◌∷◌, ◌++◌, Bool, true, false, cond, ◌⊎◌, inl, inr, refl, sym, ap, ◌∙◌, subst}
-use Rattle.carried_forms.specs.Renumbering.{Renumbering}
+use Rattle.renumbering_laws.specs.Renumbering.{Renumbering}
 use Rattle.carried_forms.specs.Paired.{UnitPair}
 use Rattle.carried_forms.specs.Worked.{WorkedUnit}
 use Rattle.carried_forms.specs.Carried.{worked_at, both_alike, IsIn, IsCarried, carried_in, carried_by}

@@ -7,4 +7,8 @@ pub mod SameLaws  -- Where nothing changed, units and forms go on as themselves
 pub mod CarriedLaws  -- The carried forms are exactly those that go on, were worked on and ask alike
 pub mod ProgramUnits  -- The units of programs are told apart
 pub mod AnswerLaws  -- Answers that are told to be the same are equal
+pub mod NumberLaws  -- The numbers of pairs are a one to one renumbering that keeps the prelude, and what has the same answer up to them has it in surroundings under the new numbers
+pub mod OldNumbers  -- The numbers of pairs tell the old ones
+pub mod NewBeginnings  -- A form that may begin may begin under new numbers, and so may what it set aside
+pub mod OtherNumbers  -- Where a unit doesn't go on, numbers that agree with the pairs may not give it the number of a unit that is new, computed
 pub mod rows

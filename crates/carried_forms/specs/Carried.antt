@@ -6,7 +6,8 @@ use Rattle.scheme_model.specs.Substitution.{Clock}
 use Rattle.scheme_model.specs.Program.{enough_turns}
 use Rattle.scheme_model.specs.Questions.{Around, Moment, Question, answer}
 use Rattle.scheme_model.specs.FormsAlike.{questions_of_pass, questions_of_left}
-use Rattle.carried_forms.specs.Renumbering.{Renumbering, new_moment, new_question, new_answer}
+use Rattle.renumbering_laws.specs.Renumbering.{Renumbering}
+use Rattle.renumbering_laws.specs.Asked.{new_moment, new_question, new_answer}
 use Rattle.carried_forms.specs.Alike.{same_answer}
 use Rattle.carried_forms.specs.Paired.{UnitPair, unit_pairs, renumbering}
 use Rattle.carried_forms.specs.Worked.{WorkedForm, WorkedUnit, OpenDocument, read_documents, units_at_work, unit_texts}

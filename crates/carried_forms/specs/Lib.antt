@@ -1,4 +1,3 @@
-pub mod Renumbering  -- Other numbers for units and for the forms of each, and what becomes of all that a form asks and is answered
 pub mod Alike  -- Whether trees, rules and answers are equal, places and all
 pub mod Paired  -- Which units and forms of a program go on in the next one, by their texts alone, and which numbers they have there
 pub mod Worked  -- The units of a program that are worked on, each form with what is around it at its two turns, and what it counted

@@ -6,7 +6,7 @@ use Rattle.scheme_model.specs.Trees.{Tree}
 use Rattle.scheme_model.specs.Requirements.{LibraryName, same_library}
 use Rattle.scheme_model.specs.Matching.{same_truth}
 use Rattle.scheme_model.specs.Program.{prelude_unit}
-use Rattle.carried_forms.specs.Renumbering.{Renumbering}
+use Rattle.renumbering_laws.specs.Renumbering.{Renumbering}
 use Rattle.carried_forms.specs.Alike.{same_option, same_list, same_tree}
 
 -- ---- texts of units
@@ -137,5 +137,6 @@ abbrev pub form_after : List UnitPair → (unit form : ℕ) → ℕ
 form_after [] u f = f
 form_after (p ∷ ps) u f = if p.before == u then number_after (p.size + f) p.forms f else form_after ps u f
 
+-- definitions keep theirs
 abbrev pub renumbering : List UnitPair → Renumbering
-renumbering ps = record { unit = unit_after (prelude_pair ∷ ps); form = form_after (prelude_pair ∷ ps) }
+renumbering ps = record { unit = unit_after (prelude_pair ∷ ps); form = form_after (prelude_pair ∷ ps); definition = λ u n. n }

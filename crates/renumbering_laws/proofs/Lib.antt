@@ -13,6 +13,7 @@ pub mod MovedRequirements  -- Reading `cond-expand` commutes with a change that 
 pub mod OneToOne  -- A one to one renumbering tells numbers, identifiers and meanings apart
 pub mod Sides  -- Two records of operations, of which the second does what the first does, renumbered
 pub mod SideSteps  -- Steps on both sides
+pub mod SideQuestions  -- What is asked on both sides
 pub mod SideUses  -- Heads, targets and macro uses on both sides
 pub mod SideForms  -- The forms of a body or a unit, gone through on both sides
 pub mod SideRuns  -- A form gone through, whatever its head, and all forms of a body or a unit, on both sides
@@ -22,6 +23,9 @@ pub mod SideLaws  -- The law of two sides, for a form that is gone through, for 
 pub mod NameLaws  -- What a renumbering does to names, to what is substituted in them, and to what they mean
 pub mod ModelSide  -- Expansion by substitution under old numbers and under new ones
 pub mod ScopedSide  -- Expansion by scopes, where a local is told by its count alone, under old numbers and under new ones
+pub mod NewAnswers  -- Under other numbers each question has the same answer, renumbered, whether the form answers it itself or what is around it
+pub mod AskingSide  -- A form with its questions under old numbers and under new ones
+pub mod NewSurroundings  -- All surroundings of a form correspond to themselves under new numbers, so the laws on questions speak of every form
 pub mod ArrowLaws  -- Arrows of renumbered leaves, keywords and names are those before, renumbered
 pub mod PreludeLaws  -- The prelude under a renumbering that keeps its unit and its form
 pub mod RenumberedStates  -- Each state corresponds to itself under new numbers, so the law speaks of every state

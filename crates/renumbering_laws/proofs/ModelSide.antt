@@ -332,7 +332,7 @@ module _ (r : Renumbering) (o : IsOneToOne r) (u : ℕ) (known : Known) where
     means = λ e e' a s s' l i. means_now s s' l i;
     transformer = λ s s' l m. to_transformer (rules_at s.macros m) (rules_at s'.macros (meaning r m)) (l.macros m);
     known = refl;
-    ask = λ qs qs' s s' l. l;
+    ask = λ qs qs' a s s' l. l;
     is_assigned = λ e e' a s s' l i. assigned_now s s' l i;
     counted = counted_now;
     turn = λ f s s' l. record { at = l.at; unit = l.unit; program = l.program; form = ap (λ w. r.form w f) (sym l.at); locals = l.locals; uses = l.uses; nodes = l.nodes; bodies = l.bodies; keywords = l.keywords; met = l.met; table = l.table; counts = l.counts; entry = l.entry; macros = l.macros; in_body = refl; mine = l.mine };
@@ -387,7 +387,7 @@ module _ (r : Renumbering) (o : IsOneToOne r) (u : ℕ) (known : Known) where
       means = λ e e' a s s' l i. model_sides.means e e' a s s' l.0 i;
       transformer = λ s s' l m. model_sides.transformer s s' l.0 m;
       known = refl;
-      ask = λ qs qs' s s' l. l;
+      ask = λ qs qs' a s s' l. l;
       is_assigned = λ e e' a s s' l i. model_sides.is_assigned e e' a s s' l.0 i;
       counted = λ s s' l. model_sides.counted s s' l.0;
       turn = λ f s s' l. (model_sides.turn f s s' l.0, l.1);

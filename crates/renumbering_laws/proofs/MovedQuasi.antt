@@ -1,11 +1,11 @@
 -- Reading a quasiquotation commutes with a change under which each identifier marks the same.
-use Rattle.std.proofs.Common.{◌≡◌, ℕ, zero, suc, [], ◌∷◌, map, Option, Some, None, Result, Ok, Err, refl, sym, ap, subst}
+use Rattle.std.proofs.Common.{◌≡◌, ℕ, zero, suc, List, [], ◌∷◌, map, Option, Some, None, Result, Ok, Err, refl, sym, ap, ◌∙◌, subst}
 use Rattle.scheme_model.specs.Trees.{Tree, name, atom, list, vector, Trees, no_trees, tree, Tail, proper, dotted}
 use Rattle.scheme_model.specs.ExpansionFaults.{Fault}
 use Rattle.scheme_model.specs.Shapes.{one_of}
 use Rattle.scheme_model.specs.RulesShape.{option_map}
-use Rattle.scheme_model.specs.Quasiquote.{Mark, Nested, Unquoted, Spliced, Pieces, RowPieces, row_pieces, before, mark_in, level_behind, hole_behind, pair_by, is_splice, element_by, datum_at, pair_at, tail_at, elements_at, quasi_of}
-use Rattle.scheme_model.proofs.RenamingLaws.{map-append}
+use Rattle.scheme_model.specs.Quasiquote.{Mark, Nested, Unquoted, Spliced, Pieces, RowPieces, row_pieces, before, mark_in, level_behind, hole_behind, pair_by, is_splice, element_by, datum_at, pair_at, tail_at, elements_at, quasi_of, first_name, marks_by, marks_at, pair_marks, tail_marks, element_marks, datum_marks, marks_in}
+use Rattle.scheme_model.proofs.RenamingLaws.{append_map, map-append}
 use Rattle.renumbering_laws.specs.Moving.{Change, move_tree, move_trees, move_tail}
 use Rattle.renumbering_laws.proofs.MovedParts.{KeepsNone, on_some, move_result, move_pieces}
 use Rattle.renumbering_laws.proofs.MovingSteps.{Reads, reads, then_map, cond_reads}
@@ -78,6 +78,58 @@ module _ (A B : Type 0) (f : Change A B) (none : KeepsNone f) where
       elements_at-map : (level : ℕ) (ts : Trees A) → Reads f row_map (elements_at mark level ts) (elements_at mark' level (move_trees f ts))
       elements_at-map level no_trees = reads refl
       elements_at-map level (tree t ts) = then_map _ (element_by-map level t (datum_at-map level t)) (λ p. then_map _ (elements_at-map level ts) (λ r. reads (ap Ok (before-map p r))))
+
+    -- ---- of which identifiers it is asked what they mark
+
+    first_name-map : (t : Tree A) → first_name (move_tree f t) ≡ map f.on (first_name t)
+    first_name-map (name i o) = refl
+    first_name-map (atom a o) = refl
+    first_name-map (list ts tail o) = refl
+    first_name-map (vector ts o) = refl
+
+    marks_by-map : (m : Option Mark) (level : ℕ) (first rest : List A) → marks_by m level (map f.on first) (map f.on rest) ≡ map f.on (marks_by m level first rest)
+    marks_by-map None level first rest = sym (map-append f.on first rest)
+    marks_by-map (Some Nested) level first rest = sym (map-append f.on first rest)
+    marks_by-map (Some Unquoted) zero first rest = refl
+    marks_by-map (Some Unquoted) (suc level) first rest = sym (map-append f.on first rest)
+    marks_by-map (Some Spliced) zero first rest = refl
+    marks_by-map (Some Spliced) (suc level) first rest = sym (map-append f.on first rest)
+
+    mutual
+      marks_at-map : (level : ℕ) (t : Tree A) → marks_at mark' level (move_tree f t) ≡ map f.on (marks_at mark level t)
+      marks_at-map level (name i o) = refl
+      marks_at-map level (atom a o) = refl
+      marks_at-map level (list ts tail o) = pair_marks-map level ts (tail_marks mark tail) (tail_marks mark' (move_tail f tail)) (λ l. tail_marks-map tail l)
+      marks_at-map level (vector ts o) = element_marks-map level ts
+
+      pair_marks-map : (level : ℕ) (ts : Trees A) (end : ℕ → List A) (end' : ℕ → List B) → ((l : ℕ) → end' l ≡ map f.on (end l)) → pair_marks mark' level (move_trees f ts) end' ≡ map f.on (pair_marks mark level ts end)
+      pair_marks-map level no_trees end end' h = h level
+      pair_marks-map level (tree t ts) end end' h =
+          let m = mark_in-same t in let a = first_name-map t in let b = marks_at-map level t in
+          append_map f.on (first_name t) (marks_by (mark_in mark t) level (marks_at mark level t) (pair_marks mark (level_behind (mark_in mark t) level) ts end)) a
+          ((λ j. marks_by (m j) level (b j) (pair_marks mark' (level_behind (m j) level) (move_trees f ts) end'))
+          ∙ ap (marks_by (mark_in mark t) level (map f.on (marks_at mark level t))) (pair_marks-map (level_behind (mark_in mark t) level) ts end end' h)
+          ∙ marks_by-map (mark_in mark t) level (marks_at mark level t) (pair_marks mark (level_behind (mark_in mark t) level) ts end))
+
+      tail_marks-map : (tail : Tail A) (level : ℕ) → tail_marks mark' (move_tail f tail) level ≡ map f.on (tail_marks mark tail level)
+      tail_marks-map proper level = refl
+      tail_marks-map (dotted t) level = marks_at-map level t
+
+      element_marks-map : (level : ℕ) (ts : Trees A) → element_marks mark' level (move_trees f ts) ≡ map f.on (element_marks mark level ts)
+      element_marks-map level no_trees = refl
+      element_marks-map level (tree t ts) = append_map f.on (marks_at mark level t) (element_marks mark level ts) (marks_at-map level t) (element_marks-map level ts)
+
+    datum_marks-map : {q : Result (Tree A) (Fault A)} {q' : Result (Tree B) (Fault B)} → Reads f (move_tree f) q q' → datum_marks mark' q' ≡ map f.on (datum_marks mark q)
+    datum_marks-map {q} (reads e) = ap (datum_marks mark') e ∙ go q
+      where
+        go : (x : Result (Tree A) (Fault A)) → datum_marks mark' (move_result f (move_tree f) x) ≡ map f.on (datum_marks mark x)
+        go (Ok t) = marks_at-map zero t
+        go (Err d) = refl
+
+    pub marks_in-map : (ts : Trees A) (tail : Tail A) → marks_in mark' (move_trees f ts) (move_tail f tail) ≡ map f.on (marks_in mark ts tail)
+    marks_in-map ts tail = datum_marks-map (one_of-map A B f ts tail)
+
+    -- ---- the datum
 
     pub quasi_of-map : (t : Tree A) → Reads f (move_pieces f) (quasi_of mark t) (quasi_of mark' (move_tree f t))
     quasi_of-map t = datum_at-map zero t

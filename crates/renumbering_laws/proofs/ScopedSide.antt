@@ -28,9 +28,20 @@ symbol_moved r (Inserted i k) = symbol_moved r i
 
 -- ---- what identifiers mean
 
-given_moved : (r : Renumbering) (o : Option Meaning) (m m' : Meaning) → m' ≡ meaning r m → given_or (option_map (meaning r) o) m' ≡ meaning r (given_or o m)
+pub given_moved : (r : Renumbering) (o : Option Meaning) (m m' : Meaning) → m' ≡ meaning r m → given_or (option_map (meaning r) o) m' ≡ meaning r (given_or o m)
 given_moved r None m m' e = e
 given_moved r (Some n) m m' e = refl
+
+pub own_moved : (r : Renumbering) (t t' : Table) (e e' : Entries) → TablesMove r t t' → EntriesMove r e e' → (u : ℕ) (i : Ident) → own_of t' e' (r.unit u) (ident r i) ≡ option_map (meaning r) (own_of t e u i)
+own_moved r t t' e e' l m u i = (let a = l u i in let b = imported i in λ j. defined_or (a j) (r.unit u) (ident r i) (b j)) ∙ go (defined_in t u i)
+  where
+    imported : (j : Ident) → imported_as e' (r.unit u) (ident r j) ≡ option_map (meaning r) (imported_as e u j)
+    imported (Written v s) = m u s
+    imported (Inserted j k) = refl
+
+    go : (d : Option Defined) → defined_or (option_map (defined_as r) d) (r.unit u) (ident r i) (option_map (meaning r) (imported_as e u i)) ≡ option_map (meaning r) (defined_or d u i (imported_as e u i))
+    go None = refl
+    go (Some d) = refl
 
 abbrev by_found : Option Number → Meaning → Meaning
 by_found None other = other
@@ -39,17 +50,6 @@ by_found (Some v) other = Local v
 module _ (r : Renumbering) (o : IsOneToOne r) (w : IsOnto r) where
   abbrev FramesMove : Frames → Frames → Type 0
   FramesMove e e' = e' ≡ frames_as r w e
-
-  own_moved : (t t' : Table) (e e' : Entries) → TablesMove r t t' → EntriesMove r e e' → (u : ℕ) (i : Ident) → own_of t' e' (r.unit u) (ident r i) ≡ option_map (meaning r) (own_of t e u i)
-  own_moved t t' e e' l m u i = (let a = l u i in let b = imported i in λ j. defined_or (a j) (r.unit u) (ident r i) (b j)) ∙ go (defined_in t u i)
-    where
-      imported : (j : Ident) → imported_as e' (r.unit u) (ident r j) ≡ option_map (meaning r) (imported_as e u j)
-      imported (Written v s) = m u s
-      imported (Inserted j k) = refl
-
-      go : (d : Option Defined) → defined_or (option_map (defined_as r) d) (r.unit u) (ident r i) (option_map (meaning r) (imported_as e u i)) ≡ option_map (meaning r) (defined_or d u i (imported_as e u i))
-      go None = refl
-      go (Some d) = refl
 
   by_number : (q : Option (Number × BodyDefinitions)) (m : Meaning) → local_defined q m ≡ by_found (found_number r w q) m
   by_number None m = refl
@@ -68,11 +68,11 @@ module _ (r : Renumbering) (o : IsOneToOne r) (w : IsOnto r) where
   inside_moved ds ds' l (Enter b c ∷ fs) i m m' e = found_moved (find ds b i) (find ds' (number r b) (ident r i)) (l b i) (means_inside ds fs i m) (means_inside ds' (frames_as r w fs) (ident r i) m') (inside_moved ds ds' l fs i m m' e)
 
   outside_moved : (t t' : Table) (e e' : Entries) → TablesMove r t t' → EntriesMove r e e' → (ps ps' : List UsePlace) → PlacesMove r w ps ps' → (ds ds' : BodyDefinitions) → FindsMove r w ds ds' → (i : Ident) → means_outside t' e' ps' ds' (ident r i) ≡ meaning r (means_outside t e ps ds i)
-  outside_moved t t' e e' lt le ps ps' lp ds ds' ld (Written u s) = ap (λ q. given_or q (Free s)) (own_moved t t' e e' lt le u (Written u s)) ∙ given_moved r (own_of t e u (Written u s)) (Free s) (Free s) refl
+  outside_moved t t' e e' lt le ps ps' lp ds ds' ld (Written u s) = ap (λ q. given_or q (Free s)) (own_moved r t t' e e' lt le u (Written u s)) ∙ given_moved r (own_of t e u (Written u s)) (Free s) (Free s) refl
   outside_moved t t' e e' lt le ps ps' lp ds ds' ld (Inserted i k) =
       let m = means_inside ds (around ps k) i (means_outside t e ps ds i) in
       let inner = ap (λ fs. means_inside ds' fs (ident r i) (means_outside t' e' ps' ds' (ident r i))) (lp k) ∙ inside_moved ds ds' ld (around ps k) i (means_outside t e ps ds i) (means_outside t' e' ps' ds' (ident r i)) (outside_moved t t' e e' lt le ps ps' lp ds ds' ld i) in
-      ap (λ q. given_or q (means_inside ds' (around ps' (number r k)) (ident r i) (means_outside t' e' ps' ds' (ident r i)))) (own_moved t t' e e' lt le k.unit (Inserted i k)) ∙ given_moved r (own_of t e k.unit (Inserted i k)) m (means_inside ds' (around ps' (number r k)) (ident r i) (means_outside t' e' ps' ds' (ident r i))) inner
+      ap (λ q. given_or q (means_inside ds' (around ps' (number r k)) (ident r i) (means_outside t' e' ps' ds' (ident r i)))) (own_moved r t t' e e' lt le k.unit (Inserted i k)) ∙ given_moved r (own_of t e k.unit (Inserted i k)) m (means_inside ds' (around ps' (number r k)) (ident r i) (means_outside t' e' ps' ds' (ident r i))) inner
 
   of_form_moved : (u f : ℕ) (m : Meaning) → of_form (r.unit u) (r.form u f) (meaning r m) ≡ meaning r (of_form u f m)
   of_form_moved u f (Local v) = refl
@@ -347,7 +347,7 @@ module _ (r : Renumbering) (o : IsOneToOne r) (w : IsOnto r) where
       means = λ e e' a s s' l i. means_now s s' l e e' a i;
       transformer = λ s s' l m. to_transformer (macro_at s.macros m) (macro_at s'.macros (meaning r m)) (l.macros m);
       known = refl;
-      ask = λ qs qs' s s' l. l;
+      ask = λ qs qs' a s s' l. l;
       is_assigned = λ e e' a s s' l i. ap (λ b. assigned s' b (ident r i)) (body_moved e e' a) ∙ assigned_now s s' l (body_around e) i;
       counted = counted_now;
       turn = λ f s s' l. record { at = l.at; unit = l.unit; program = l.program; form = ap (λ v. r.form v f) (sym l.at); locals = l.locals; uses = l.uses; nodes = l.nodes; bodies = l.bodies; keywords = l.keywords; met = l.met; table = l.table; counts = l.counts; entry = l.entry; macros = l.macros; places = l.places; definitions = l.definitions };
@@ -402,7 +402,7 @@ module _ (r : Renumbering) (o : IsOneToOne r) (w : IsOnto r) where
         means = λ e e' a s s' l i. scoped_sides.means e e' a s s' l.0 i;
         transformer = λ s s' l m. scoped_sides.transformer s s' l.0 m;
         known = refl;
-        ask = λ qs qs' s s' l. l;
+        ask = λ qs qs' a s s' l. l;
         is_assigned = λ e e' a s s' l i. scoped_sides.is_assigned e e' a s s' l.0 i;
         counted = λ s s' l. scoped_sides.counted s s' l.0;
         turn = λ f s s' l. (scoped_sides.turn f s s' l.0, l.1);

@@ -12,14 +12,14 @@ use Rattle.scheme_model.specs.Shapes.{Clause, LocalMacros, one_of}
 use Rattle.scheme_model.specs.Quasiquote.{Pieces, quasi_of, marks_in}
 use Rattle.scheme_model.specs.RulesShape.{option_map}
 use Rattle.scheme_model.specs.Leaves.{Leaf, leaves_of}
-use Rattle.scheme_model.specs.Cores.{Target, Bound, LocalNumber, Definition, Binder, Binders, Core, Ref, Quote, Quasi, Set, LetSyntax, Syntax as syntax_part, weight, weights, tail_weight, hole_weight, outside}
+use Rattle.scheme_model.specs.Cores.{Target, LocalNumber, Binder, Binders, Core, Ref, Quote, Quasi, Set, LetSyntax, Syntax as syntax_part, weight, weights, tail_weight, hole_weight, outside}
 use Rattle.scheme_model.specs.Steps.{Step, ◌>>=◌, done}
 use Rattle.scheme_model.specs.Order.{Here, Item, Expression, Value, Function, Assigned, AssignedFunction, ValuesOf, Record, Macro, Pass, Region, Transformer, Asked, Meant, Headed, RulesOf, Library, target_of, head_of, here_at, forms_at, given, RulesParts, run}
 use Rattle.scheme_model.specs.Expression.{whole, body, Expander, node, each, each_of, bound, procedure, lambda, clauses, meaning_of, macro_with, macro_def, macro_asked, assignment, item_part, parts, left_of, body_in, body_core, expressions, sequence, heads, keep_all, numbers, local_defs, locals_asked, local_macros, recursive, let_syntax, letrec_syntax, mark_of, symbol_or_hole, quasi, quote, unless_keyword, set, reference, call, chosen_sequence, core_form, macro_use, by_head, expression, expand}
 use Rattle.scheme_model.proofs.RenamingLaws.{map_turned}
 use Rattle.renumbering_laws.specs.Moving.{Change, move_tree, move_trees, move_tail, move_named, move_rules, move_clause}
-use Rattle.renumbering_laws.specs.Renumbering.{Renumbering, number, place, ident, meaning, places_of, target, bound as bound_as, binder, binders, rule_leaf, macro_of, core_as, cores_as, clauses_as, parts_as, part_as, item_as, left_as}
-use Rattle.renumbering_laws.proofs.Sides.{no_macro, a_macro, regions, Sides, Macros, Regions}
+use Rattle.renumbering_laws.specs.Renumbering.{Renumbering, number, place, ident, meaning, places_of, target, binder, binders, rule_leaf, macro_of, core_as, cores_as, clauses_as, parts_as, part_as, item_as, left_as}
+use Rattle.renumbering_laws.proofs.Sides.{no_macro, a_macro, regions, meant, headed, rules_of, Sides, Macros, Regions}
 use Rattle.renumbering_laws.proofs.MovedParts.{on_some, move_local_macros, move_pieces, move_leaf}
 use Rattle.renumbering_laws.proofs.MovingSteps.{Reads, size-map, then_map}
 use Rattle.renumbering_laws.proofs.Turned.{tree_turned, rules_turned}
@@ -28,6 +28,7 @@ use Rattle.renumbering_laws.proofs.MovedRequirements.{chosen_of-map}
 use Rattle.renumbering_laws.proofs.MovedQuasi.{quasi_of-map}
 use Rattle.renumbering_laws.proofs.MovedLeaves.{leaves_of-map}
 use Rattle.renumbering_laws.proofs.SideSteps.{moved, told as names_told, Goes, goes, goes_at, goes_bind, goes_read, here_seen, node_goes}
+use Rattle.renumbering_laws.proofs.SideQuestions.{meaning_seen, marks_asked, libraries_asked, macro_leaves_asked, local_macros_asked}
 use Rattle.renumbering_laws.proofs.SideUses.{head_moved, head_goes, target_goes, use_goes, waiting_met, all_met}
 use Rattle.renumbering_laws.proofs.SideForms.{move_parts, forms_at_seen, Ran, ran, ran_at, rules_parts_goes, rules_at_goes}
 use Rattle.renumbering_laws.proofs.SideRuns.{run_goes}
@@ -114,10 +115,6 @@ module _ (h : Sides) where
 
   -- ---- macro definitions
 
-  meaning_seen : (b : Bound) (i : Ident) → meaning_of (bound_as r b) (ident r i) ≡ meaning r (meaning_of b i)
-  meaning_seen (LocalNumber v) i = refl
-  meaning_seen (Definition u n) i = refl
-
   macro_with_same : (s : h.S) (s' : h.S') → h.state s s' → (b : Binder) (o : Option (Transformer h.E h.A)) (o' : Option (Transformer h.E' h.A')) → Macros h.around mv o o' → macro_with h.two s' (binder r b) o' ≡ macro_of r (macro_with h.one s b o)
   macro_with_same s s' l b _ _ no_macro = refl
   macro_with_same s s' l b _ _ (a_macro m d at) =
@@ -129,7 +126,7 @@ module _ (h : Sides) where
 
   macro_def_same : (s : h.S) (s' : h.S') → h.state s s' → (b : Binder) → macro_def h.two s' (binder r b) ≡ macro_of r (macro_def h.one s b)
   macro_def_same s s' l b =
-      ap (λ m. macro_with h.two s' (binder r b) (h.two.transformer s' m)) (meaning_seen b.bound b.ident) ∙ macro_with_same s s' l b _ _ (h.transformer s s' l (meaning_of b.bound b.ident))
+      ap (λ m. macro_with h.two s' (binder r b) (h.two.transformer s' m)) (meaning_seen r b.bound b.ident) ∙ macro_with_same s s' l b _ _ (h.transformer s s' l (meaning_of b.bound b.ident))
 
   local_defs_same : (s : h.S) (s' : h.S') → h.state s s' → (vs : List Number) (ns : List (Named h.A)) → local_defs h.two s' (map (number r) vs) (map (move_named mv) ns) ≡ map (macro_of r) (local_defs h.one s vs ns)
   local_defs_same s s' l [] ns = refl
@@ -158,14 +155,14 @@ module _ (h : Sides) where
   unless_goes here IsNone n c c' s s' l q = q
 
   -- a variable that mustn't be a keyword is asked for
-  headed : (e : h.E) (e' : h.E') (n : Named h.A) (s : h.S) (s' : h.S') → h.state s s' → h.state (h.one.ask (Headed e n.name ∷ []) s) (h.two.ask (Headed e' (h.on n.name) ∷ []) s')
-  headed e e' n s s' l = h.ask (Headed e n.name ∷ []) (Headed e' (h.on n.name) ∷ []) s s' l
+  asked_head : (e : h.E) (e' : h.E') → h.around e e' → (n : Named h.A) (s : h.S) (s' : h.S') → h.state s s' → h.state (h.one.ask (Headed e n.name ∷ []) s) (h.two.ask (Headed e' (h.on n.name) ∷ []) s')
+  asked_head e e' k n s s' l = h.ask (Headed e n.name ∷ []) (Headed e' (h.on n.name) ∷ []) (headed e e' k n.name, tt) s s' l
 
   reference_goes : (depth : ℕ) (here : Here) (e : h.E) (e' : h.E') → h.around e e' → (n : Named h.A) (s : h.S) (s' : h.S') → h.state s s' → Goes h (core_as r) (reference h.one depth here e n s) (reference h.two depth (place r here) e' (move_named mv n) s')
   reference_goes depth here e e' k n s s' l =
       goes_at h (ap (λ x. unless_keyword h.two (place r here) x (move_named mv n) (node h.two (place r here) 1 depth (λ below t. done (Ref (target_of h.two e' t (h.on n.name) (place r n.occ))) t)) (h.two.ask (Headed e' (h.on n.name) ∷ []) s')) (head_goes h e e' k s s' l n.name))
-      (unless_goes here (head_of h.one e s n.name) n (node h.one here 1 depth (λ below t. done (Ref (target_of h.one e t n.name n.occ)) t)) (node h.two (place r here) 1 depth (λ below t. done (Ref (target_of h.two e' t (h.on n.name) (place r n.occ))) t)) _ _ (headed e e' n s s' l)
-      (node_goes h here 1 depth _ _ (headed e e' n s s' l) _ _ (λ below u u' m. goes (ap (λ t. Ok (Ref t)) (target_goes h e e' k u u' m n.name n.occ)) m)))
+      (unless_goes here (head_of h.one e s n.name) n (node h.one here 1 depth (λ below t. done (Ref (target_of h.one e t n.name n.occ)) t)) (node h.two (place r here) 1 depth (λ below t. done (Ref (target_of h.two e' t (h.on n.name) (place r n.occ))) t)) _ _ (asked_head e e' k n s s' l)
+      (node_goes h here 1 depth _ _ (asked_head e e' k n s s' l) _ _ (λ below u u' m. goes (ap (λ t. Ok (Ref t)) (target_goes h e e' k u u' m n.name n.occ)) m)))
 
   -- ---- rules, read in an environment of their own
 
@@ -205,7 +202,7 @@ module _ (h : Sides) where
     assignment_goes : (depth : ℕ) (here : Here) (e : h.E) (e' : h.E') → h.around e e' → (n : Named h.A) (go : ℕ → Step h.S Core) (go' : ℕ → Step h.S' Core) → ((below : ℕ) (u : h.S) (u' : h.S') → h.state u u' → Goes h (core_as r) (go below u) (go' below u'))
         → (s : h.S) (s' : h.S') → h.state s s' → Goes h (core_as r) (assignment h.one depth here e n go s) (assignment h.two depth (place r here) e' (move_named mv n) go' s')
     assignment_goes depth here e e' k n go go' law s s' l =
-        node_goes h here 1 depth s s' l _ _ (λ below u u' m. goes_bind h _ _ (law below _ _ (h.ask (Meant e n.name ∷ []) (Meant e' (h.on n.name) ∷ []) u u' m)) (λ c v v' m2. goes (ap (λ t. Ok (Set t (core_as r c))) (target_goes h e e' k u u' m n.name n.occ)) m2))
+        node_goes h here 1 depth s s' l _ _ (λ below u u' m. goes_bind h _ _ (law below _ _ (h.ask (Meant e n.name ∷ []) (Meant e' (h.on n.name) ∷ []) (meant e e' k n.name, tt) u u' m)) (λ c v v' m2. goes (ap (λ t. Ok (Set t (core_as r c))) (target_goes h e e' k u u' m n.name n.occ)) m2))
 
     pub item_goes : (depth : ℕ) (e : h.E) (e' : h.E') → h.around e e' → (i : Item h.A) (s : h.S) (s' : h.S') → h.state s s' → Goes h (part_as r) (item_part F h.one depth e i s) (item_part G h.two depth e' (item_as r h.on i) s')
     item_goes depth e e' k (Expression y) s s' l = goes_bind h _ _ (w depth y.here e e' k y.tree s s' l) (λ c u u' m. goes refl m)
@@ -217,7 +214,7 @@ module _ (h : Sides) where
         goes_bind h _ _ (assignment_goes depth here e e' k n (λ below. lambda F h.one below here e c) (λ below. lambda G h.two below (place r here) e' (move_clause mv c)) (λ below u u' m. lambda_goes below here e e' k c u u' m) s s' l) (λ x u u' m. goes refl m)
     item_goes depth e e' k (ValuesOf bs y) s s' l = goes_bind h _ _ (w depth y.here e e' k y.tree s s' l) (λ c u u' m. goes refl m)
     item_goes depth e e' k (Record t) s s' l = goes refl l
-    item_goes depth e e' k (Macro z here) s s' l = goes (ap (λ m. Ok (syntax_part m)) (macro_def_same s s' l z)) (h.ask (macro_asked h.one s z) (macro_asked h.two s' (binder r z)) s s' l)
+    item_goes depth e e' k (Macro z here) s s' l = goes (ap (λ m. Ok (syntax_part m)) (macro_def_same s s' l z)) (h.ask (macro_asked h.one s z) (macro_asked h.two s' (binder r z)) (macro_leaves_asked h s s' l z) s s' l)
 
     pub parts_goes : (depth : ℕ) (e : h.E) (e' : h.E') → h.around e e' → (is : List (Item h.A)) (s : h.S) (s' : h.S') → h.state s s' → Goes h (parts_as r) (parts (item_part F h.one depth e) is s) (parts (item_part G h.two depth e') (map (item_as r h.on) is) s')
     parts_goes depth e e' k [] s s' l = goes refl l
@@ -245,7 +242,7 @@ module _ (h : Sides) where
         → Goes h (core_as r) (local_macros F h.one depth here vs ns d rules e ts s) (local_macros G h.two depth (place r here) (map (number r) vs) (map (move_named mv) ns) d' (move_trees mv rules) e' (move_trees mv ts) s')
     local_macros_goes depth here vs ns d d' kd rules e e' k ts s s' l =
         goes_bind h _ _ (heads_goes here d d' kd rules s s' l) (λ xs u u' m. node_goes h here 1 depth u u' m _ _ (λ below t t' m1.
-        goes_bind h _ _ (keep_goes here d d' kd vs rules xs t t' m1) (λ z t1 t1' m2. goes_bind h _ _ (b below here e e' k ts _ _ (h.ask (locals_asked h.one t1 vs ns) (locals_asked h.two t1' (map (number r) vs) (map (move_named mv) ns)) t1 t1' m2)) (λ c y y' m3. goes (ap (λ ds. Ok (LetSyntax ds (core_as r c))) (local_defs_same t1 t1' m2 vs ns)) m3))))
+        goes_bind h _ _ (keep_goes here d d' kd vs rules xs t t' m1) (λ z t1 t1' m2. goes_bind h _ _ (b below here e e' k ts _ _ (h.ask (locals_asked h.one t1 vs ns) (locals_asked h.two t1' (map (number r) vs) (map (move_named mv) ns)) (local_macros_asked h t1 t1' m2 vs ns) t1 t1' m2)) (λ c y y' m3. goes (ap (λ ds. Ok (LetSyntax ds (core_as r c))) (local_defs_same t1 t1' m2 vs ns)) m3))))
 
     recursive_goes : (depth : ℕ) (here : Here) (vs : List Number) (ns : List (Named h.A)) (e : h.E) (e' : h.E') → h.around e e' → (ts : Trees h.A) (s : h.S) (s' : h.S') → h.state s s'
         → Goes h (core_as r) (recursive F h.one depth here vs ns e ts s) (recursive G h.two depth (place r here) (map (number r) vs) (map (move_named mv) ns) e' (move_trees mv ts) s')
@@ -299,8 +296,8 @@ module _ (h : Sides) where
     set_goes depth here e e' k p s s' l =
         goes_at h (ap (λ x. unless_keyword h.two (place r here) x (move_named mv p.0) (node h.two (place r here) 1 depth (λ below t. G below (place r here) e' (whole (move_tree mv p.1)) t >>= λ c. done (Set (target_of h.two e' t (h.on p.0.name) (place r p.0.occ)) c))) (h.two.ask (Headed e' (h.on p.0.name) ∷ []) s')) (head_goes h e e' k s s' l p.0.name))
         (unless_goes here (head_of h.one e s p.0.name) p.0 (node h.one here 1 depth (λ below t. F below here e (whole p.1) t >>= λ c. done (Set (target_of h.one e t p.0.name p.0.occ) c)))
-        (node h.two (place r here) 1 depth (λ below t. G below (place r here) e' (whole (move_tree mv p.1)) t >>= λ c. done (Set (target_of h.two e' t (h.on p.0.name) (place r p.0.occ)) c))) _ _ (headed e e' p.0 s s' l)
-        (node_goes h here 1 depth _ _ (headed e e' p.0 s s' l) _ _ (λ below u u' m. goes_bind h _ _ (w below here e e' k p.1 u u' m) (λ c v v' n. goes (ap (λ t. Ok (Set t (core_as r c))) (target_goes h e e' k u u' m p.0.name p.0.occ)) n))))
+        (node h.two (place r here) 1 depth (λ below t. G below (place r here) e' (whole (move_tree mv p.1)) t >>= λ c. done (Set (target_of h.two e' t (h.on p.0.name) (place r p.0.occ)) c))) _ _ (asked_head e e' k p.0 s s' l)
+        (node_goes h here 1 depth _ _ (asked_head e e' k p.0 s s' l) _ _ (λ below u u' m. goes_bind h _ _ (w below here e e' k p.1 u u' m) (λ c v v' n. goes (ap (λ t. Ok (Set t (core_as r c))) (target_goes h e e' k u u' m p.0.name p.0.occ)) n))))
 
     call_goes : (depth : ℕ) (here : Here) (e : h.E) (e' : h.E') → h.around e e' → (ts : Trees h.A) (tail : Tail h.A) (s : h.S) (s' : h.S') → h.state s s' → Goes h (core_as r) (call F h.one depth here e ts tail s) (call G h.two depth (place r here) e' (move_trees mv ts) (move_tail mv tail) s')
     call_goes depth here e e' k ts (dotted t) s s' l = goes refl l
@@ -320,7 +317,8 @@ module _ (h : Sides) where
 
     core_goes : (depth : ℕ) (here : Here) (e : h.E) (e' : h.E') → h.around e e' → (x : CoreKeyword) (ts : Trees h.A) (tail : Tail h.A) (s : h.S) (s' : h.S') → h.state s s' → Goes h (core_as r) (core_form F h.one depth here e x ts tail s) (core_form G h.two depth (place r here) e' x (move_trees mv ts) (move_tail mv tail) s')
     core_goes depth here e e' k IsQuote ts tail s s' l = goes_bind h _ _ (goes_read h here s s' l (one_of-map h.A h.A' mv ts tail)) (λ t u u' m. quote_goes depth here t u u' m)
-    core_goes depth here e e' k IsQuasiquote ts tail s s' l = goes_bind h _ _ (goes_read h here _ _ (h.ask (map (Headed e) (marks_in (λ i. mark_of (head_of h.one e s i)) ts tail)) (map (Headed e') (marks_in (λ i. mark_of (head_of h.two e' s' i)) (move_trees mv ts) (move_tail mv tail))) s s' l) (quasi_read e e' k ts tail s s' l)) (λ p u u' m. quasi_goes depth here e e' k p u u' m)
+    core_goes depth here e e' k IsQuasiquote ts tail s s' l = goes_bind h _ _ (goes_read h here _ _ (h.ask (map (Headed e) (marks_in (λ i. mark_of (head_of h.one e s i)) ts tail)) (map (Headed e') (marks_in (λ i. mark_of (head_of h.two e' s' i)) (move_trees mv ts) (move_tail mv tail)))
+        (marks_asked h e e' k (λ i. mark_of (head_of h.one e s i)) (λ i. mark_of (head_of h.two e' s' i)) (λ i. ap mark_of (head_goes h e e' k s s' l i) ∙ mark_seen r (head_of h.one e s i)) ts tail) s s' l) (quasi_read e e' k ts tail s s' l)) (λ p u u' m. quasi_goes depth here e e' k p u u' m)
     core_goes depth here e e' k IsLambda ts tail s s' l = goes_bind h _ _ (goes_read h here s s' l (lambda_of-map h.A h.A' mv same same' h.same ts tail)) (λ c u u' m. lambda_goes depth here e e' k c u u' m)
     core_goes depth here e e' k IsCaseLambda ts tail s s' l =
         goes_bind h _ _ (goes_read h here s s' l (case_lambda_of-map h.A h.A' mv same same' h.same ts tail)) (λ cs u u' m. node_goes h here 1 depth u u' m _ _ (λ below v v' n. goes_bind h _ _ (clauses_goes below here e e' k cs v v' n) (λ more z z' o. goes refl o)))
@@ -337,7 +335,7 @@ module _ (h : Sides) where
     core_goes depth here e e' k IsCondExpand ts tail s s' l =
         let asked : List (Asked h.E h.A) = map Library (libraries_in h.one.names.strip ts tail) in let asked' : List (Asked h.E' h.A') = map Library (libraries_in h.two.names.strip (move_trees mv ts) (move_tail mv tail)) in
         goes_at h (ap (λ known. given h.two.plain (place r here) (chosen_of h.two.names.strip known (move_trees mv ts) (move_tail mv tail)) (h.two.ask asked' s') >>= chosen_sequence G h.two depth (place r here) e') h.known)
-        (goes_bind h _ _ (goes_read h here _ _ (h.ask asked asked' s s' l) (chosen_of-map h.A h.A' mv h.one.names.strip h.two.names.strip h.strip h.one.known ts tail)) (λ o u u' m. chosen_goes depth here e e' k o u u' m))
+        (goes_bind h _ _ (goes_read h here _ _ (h.ask asked asked' (libraries_asked h ts tail) s s' l) (chosen_of-map h.A h.A' mv h.one.names.strip h.two.names.strip h.strip h.one.known ts tail)) (λ o u u' m. chosen_goes depth here e e' k o u u' m))
     core_goes depth here e e' k IsSyntaxError ts tail s s' l = goes_bind h {f = core_as r} _ _ (goes_read h here s s' l (error_text_of-map h.A h.A' mv ts tail)) (λ text u u' m. goes refl m)
     core_goes depth here e e' k IsInclude ts tail s s' l = goes refl l
 
@@ -352,13 +350,13 @@ module _ (h : Sides) where
         → Goes h (core_as r) (by_head F h.one depth here e x n ts tail s) (by_head G h.two depth (place r here) e' (head_moved r x) (move_named mv n) (move_trees mv ts) (move_tail mv tail) s')
     by_head_goes depth here e e' k (IsCore c) n ts tail s s' l =
         goes_at h (ap (λ t. core_form G h.two depth (place r here) e' c (move_trees mv ts) (move_tail mv tail) (h.two.meet t (h.two.ask (Headed e' (h.on n.name) ∷ []) s'))) (target_goes h e e' k s s' l n.name n.occ))
-        (core_goes depth here e e' k c ts tail _ _ (h.meet (target_of h.one e s n.name n.occ) _ _ (headed e e' n s s' l)))
-    by_head_goes depth here e e' k (IsAuxiliary a) n ts tail s s' l = call_goes depth here e e' k (tree (name n.name n.occ) ts) tail _ _ (headed e e' n s s' l)
+        (core_goes depth here e e' k c ts tail _ _ (h.meet (target_of h.one e s n.name n.occ) _ _ (asked_head e e' k n s s' l)))
+    by_head_goes depth here e e' k (IsAuxiliary a) n ts tail s s' l = call_goes depth here e e' k (tree (name n.name n.occ) ts) tail _ _ (asked_head e e' k n s s' l)
     by_head_goes depth here e e' k (IsMacro m) n ts tail s s' l =
-        let u = h.one.ask (Headed e n.name ∷ []) s in let u' = h.two.ask (Headed e' (h.on n.name) ∷ []) s' in let lu = headed e e' n s s' l in
+        let u = h.one.ask (Headed e n.name ∷ []) s in let u' = h.two.ask (Headed e' (h.on n.name) ∷ []) s' in let lu = asked_head e e' k n s s' l in
         goes_at h (ap (λ t. macro_use G h.two depth (place r here) e' t (h.two.transformer u' (meaning r m)) (move_trees mv ts) (move_tail mv tail) (h.two.ask (RulesOf (meaning r m) ∷ []) u')) (target_goes h e e' k s s' l n.name n.occ))
-        (macro_goes depth here e e' k (target_of h.one e s n.name n.occ) _ _ (h.transformer u u' lu m) ts tail _ _ (h.ask (RulesOf m ∷ []) (RulesOf (meaning r m) ∷ []) u u' lu))
-    by_head_goes depth here e e' k IsNone n ts tail s s' l = call_goes depth here e e' k (tree (name n.name n.occ) ts) tail _ _ (headed e e' n s s' l)
+        (macro_goes depth here e e' k (target_of h.one e s n.name n.occ) _ _ (h.transformer u u' lu m) ts tail _ _ (h.ask (RulesOf m ∷ []) (RulesOf (meaning r m) ∷ []) (rules_of m, tt) u u' lu))
+    by_head_goes depth here e e' k IsNone n ts tail s s' l = call_goes depth here e e' k (tree (name n.name n.occ) ts) tail _ _ (asked_head e e' k n s s' l)
 
     pub expression_goes : (depth : ℕ) (here : Here) (e : h.E) (e' : h.E') → h.around e e' → (t : Tree h.A) (s : h.S) (s' : h.S') → h.state s s' → Goes h (core_as r) (expression F h.one depth here e t s) (expression G h.two depth (place r here) e' (move_tree mv t) s')
     expression_goes depth here e e' k (name i o) s s' l = reference_goes depth here e e' k (named i o) s s' l

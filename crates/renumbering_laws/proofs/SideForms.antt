@@ -16,7 +16,7 @@ use Rattle.scheme_model.proofs.RenamingLaws.{append_map, map-append, map_turned}
 use Rattle.renumbering_laws.specs.Moving.{Change, move_tree, move_trees, move_tail, move_named, move_rules, move_clause}
 use Rattle.renumbering_laws.specs.Renumbering.{Renumbering, place, with_places, binder, field_use, record_type, result_as, form_as, item_as, use_as, pending_as, pass_as}
 use Rattle.renumbering_laws.proofs.MovedParts.{move_formals, move_definition, move_field, move_record}
-use Rattle.renumbering_laws.proofs.Sides.{RenamedMoves, DefinedMoves, Sides}
+use Rattle.renumbering_laws.proofs.Sides.{RenamedMoves, DefinedMoves, headed, assigns, Sides}
 use Rattle.renumbering_laws.proofs.MovingSteps.{size-map}
 use Rattle.renumbering_laws.proofs.Turned.{tree_turned}
 use Rattle.renumbering_laws.proofs.MovedRules.{rules_of-map}
@@ -208,10 +208,10 @@ module _ (h : Sides) where
     pub define_goes : (p : Pending h.A h.L) (d : DefinitionShape h.A) (s : h.S) (s' : h.S') → h.state s s' → Ran (run_define h.one f here e p d s) (run_define h.two f' (place r here) e' (pending_two p) (move_definition mv d) s')
     define_goes p (Variable n t) s s' l =
         ran_at (ap (λ b. run_variable h.two f' (place r here) e' (move_named mv n) (move_tree mv t) b (pending_two p) (h.two.ask (Assigns e' (h.on n.name) ∷ []) s')) (h.is_assigned e e' k s s' l n.name))
-        (variable_goes n t (h.one.is_assigned e s n.name) p _ _ (h.ask (Assigns e n.name ∷ []) (Assigns e' (h.on n.name) ∷ []) s s' l))
+        (variable_goes n t (h.one.is_assigned e s n.name) p _ _ (h.ask (Assigns e n.name ∷ []) (Assigns e' (h.on n.name) ∷ []) (assigns e e' k n.name, tt) s s' l))
     define_goes p (Procedure n c) s s' l =
         ran_at (ap (λ b. run_function h.two f' (place r here) e' (move_named mv n) (move_clause mv c) b (pending_two p) (h.two.ask (Assigns e' (h.on n.name) ∷ []) s')) (h.is_assigned e e' k s s' l n.name))
-        (function_goes n c (h.one.is_assigned e s n.name) p _ _ (h.ask (Assigns e n.name ∷ []) (Assigns e' (h.on n.name) ∷ []) s s' l))
+        (function_goes n c (h.one.is_assigned e s n.name) p _ _ (h.ask (Assigns e n.name ∷ []) (Assigns e' (h.on n.name) ∷ []) (assigns e e' k n.name, tt) s s' l))
 
     -- ---- several names
 
@@ -291,7 +291,7 @@ module _ (h : Sides) where
     some_parts s s' l None = goes refl l
     some_parts s s' l (Some x) =
         goes_at h (ap (λ (t : Bool). cond t (done (move_parts mv x) (h.two.ask (Headed e' (h.on x.head) ∷ []) s')) (fails (place r here) BadForm (h.two.ask (Headed e' (h.on x.head) ∷ []) s'))) (ap is_rules (head_goes h e e' k s s' l x.head) ∙ rules_seen r (head_of h.one e s x.head)))
-        (go (h.one.ask (Headed e x.head ∷ []) s) (h.two.ask (Headed e' (h.on x.head) ∷ []) s') (h.ask (Headed e x.head ∷ []) (Headed e' (h.on x.head) ∷ []) s s' l) (is_rules (head_of h.one e s x.head)))
+        (go (h.one.ask (Headed e x.head ∷ []) s) (h.two.ask (Headed e' (h.on x.head) ∷ []) s') (h.ask (Headed e x.head ∷ []) (Headed e' (h.on x.head) ∷ []) (headed e e' k x.head, tt) s s' l) (is_rules (head_of h.one e s x.head)))
       where
         go : (u : h.S) (u' : h.S') → h.state u u' → (t : Bool) → Goes h (move_parts mv) (cond t (done x u) (fails here BadForm u)) (cond t (done (move_parts mv x) u') (fails (place r here) BadForm u'))
         go u u' m true = goes refl m

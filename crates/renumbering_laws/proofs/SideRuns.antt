@@ -11,11 +11,12 @@ use Rattle.scheme_model.specs.Steps.{◌>>=◌, done}
 use Rattle.scheme_model.specs.Order.{Here, Form, Expression, Macro, Note, LookedUp, Pending, Pass, Transformer, Asked, Headed, RulesOf, Library, target_of, head_of, forms_at, told, comparisons, use_of, binder_at, put, waiting, noted, first, caught, rules_parts_of, rules_parts, rules_note, rules_at, run_syntax, splice, or_none, read_then, run_core, run_use, run_head, run_form, run_next, run}
 use Rattle.renumbering_laws.specs.Moving.{Change, move_tree, move_trees, move_tail, move_named, move_rules}
 use Rattle.renumbering_laws.specs.Renumbering.{Renumbering, place, meaning, target, binder, form_as}
-use Rattle.renumbering_laws.proofs.Sides.{no_macro, a_macro, Sides, Macros}
+use Rattle.renumbering_laws.proofs.Sides.{no_macro, a_macro, headed, rules_of, Sides, Macros}
 use Rattle.renumbering_laws.proofs.MovingSteps.{Reads}
 use Rattle.renumbering_laws.proofs.MovedShapes.{proper_of-map, definition_of-map, values_of-map, record_of-map, syntax_of-map}
 use Rattle.renumbering_laws.proofs.MovedRequirements.{chosen_of-map}
 use Rattle.renumbering_laws.proofs.SideSteps.{moved, goes_bind, meets_bind, Told, goes_of, goes_read, here_seen, counting_goes}
+use Rattle.renumbering_laws.proofs.SideQuestions.{libraries_asked}
 use Rattle.renumbering_laws.proofs.SideUses.{head_moved, keyword_seen, head_goes, target_goes, use_goes, comparisons_goes}
 use Rattle.renumbering_laws.proofs.SideForms.{parts_of_seen, forms_at_seen, or_none_seen, pending_two, Ran, ran, ran_at, OneGo, TwoGo, RanLaw, caught_goes, noted_seen, binder_seen, Renames, define_step, put_goes, first_goes, use_put_goes, define_goes, values_goes, record_goes, note_goes, rules_parts_goes, rules_at_goes}
 
@@ -88,7 +89,7 @@ module _ (h : Sides) where
       core_goes IsCondExpand t y ts tail p s s' l =
           let asked : List (Asked h.E h.A) = map Library (libraries_in h.one.names.strip ts tail) in let asked' : List (Asked h.E' h.A') = map Library (libraries_in h.two.names.strip (move_trees mv ts) (move_tail mv tail)) in
           ran_at h (ap (λ known. read_then h.two (place r here) (pending_two h p) (chosen_of h.two.names.strip known (move_trees mv ts) (move_tail mv tail)) (λ c. splice h.two f' (place r here) (pending_two h p) (or_none c)) (h.two.ask asked' (h.two.meet (target r t) s'))) h.known)
-          (read_goes p _ _ (h.one.ask asked (h.one.meet t s)) (h.two.ask asked' (h.two.meet (target r t) s')) (h.ask asked asked' _ _ (h.meet t s s' l)) (chosen_of-map h.A h.A' mv h.one.names.strip h.two.names.strip h.strip h.one.known ts tail) (λ o u u' m. chosen_goes p o u u' m))
+          (read_goes p _ _ (h.one.ask asked (h.one.meet t s)) (h.two.ask asked' (h.two.meet (target r t) s')) (h.ask asked asked' (libraries_asked h ts tail) _ _ (h.meet t s s' l)) (chosen_of-map h.A h.A' mv h.one.names.strip h.two.names.strip h.strip h.one.known ts tail) (λ o u u' m. chosen_goes p o u u' m))
       core_goes IsSyntaxError t y ts tail p s s' l = aside_goes y p s s' l
       core_goes IsInclude t y ts tail p s s' l = aside_goes y p s s' l
 
@@ -109,7 +110,7 @@ module _ (h : Sides) where
           → Ran h (run_head h.one f here e hd t y ts tail p s) (run_head h.two f' (place r here) e' (head_moved r hd) (target r t) (form_as r h.on y) (move_trees mv ts) (move_tail mv tail) (pending_two h p) s')
       by_head (IsCore c) t y ts tail p s s' l = core_goes c t y ts tail p s s' l
       by_head (IsAuxiliary a) t y ts tail p s s' l = aside_goes y p s s' l
-      by_head (IsMacro m) t y ts tail p s s' l = run_use_goes t _ _ (h.transformer s s' l m) y ts tail p _ _ (h.ask (RulesOf m ∷ []) (RulesOf (meaning r m) ∷ []) s s' l)
+      by_head (IsMacro m) t y ts tail p s s' l = run_use_goes t _ _ (h.transformer s s' l m) y ts tail p _ _ (h.ask (RulesOf m ∷ []) (RulesOf (meaning r m) ∷ []) (rules_of m, tt) s s' l)
       by_head IsNone t y ts tail p s s' l = aside_goes y p s s' l
 
       -- ---- any form
@@ -127,7 +128,7 @@ module _ (h : Sides) where
           ran_at h
           ((λ j. run_head h.two f' (place r here) e' (hd j) (tg j) (form_as r h.on y) (move_trees mv ts) (move_tail mv tail) (noted (LookedUp (pl j) true (kw j) ∷ []) (pending_two h p)) asked)
           ∙ ap (λ z. run_head h.two f' (place r here) e' (head_moved r (head_of h.one e s i)) (target r (target_of h.one e s i q)) (form_as r h.on y) (move_trees mv ts) (move_tail mv tail) z asked) (noted_seen h note p))
-          (by_head (head_of h.one e s i) (target_of h.one e s i q) y ts tail (noted note p) _ _ (h.ask (Headed e i ∷ []) (Headed e' (h.on i) ∷ []) s s' l))
+          (by_head (head_of h.one e s i) (target_of h.one e s i q) y ts tail (noted note p) _ _ (h.ask (Headed e i ∷ []) (Headed e' (h.on i) ∷ []) (headed e e' k i, tt) s s' l))
       form_goes y (list (tree (atom a q) ts) tail o) p s s' l = aside_goes y p s s' l
       form_goes y (list (tree (list us end q) ts) tail o) p s s' l = aside_goes y p s s' l
       form_goes y (list (tree (vector us q) ts) tail o) p s s' l = aside_goes y p s s' l

@@ -26,6 +26,7 @@ use Rattle.renumbering_laws.proofs.MovedBuilds.{build-map}
 use Rattle.renumbering_laws.proofs.MovedComparisons.{compared-map}
 use Rattle.renumbering_laws.proofs.OneToOne.{same_moved}
 use Rattle.renumbering_laws.proofs.SideSteps.{moved, told, Goes, goes, goes_at, goes_bind, goes_read}
+use Rattle.renumbering_laws.proofs.SideQuestions.{comparisons_asked, literals_asked}
 
 -- ---- heads
 
@@ -122,7 +123,7 @@ module _ (h : Sides) where
       two_began = h.two.begin_use d (h.two.ask (compared_asked h.two e' m' (move_trees (moved h) ts) (move_tail (moved h) tail)) s')
 
       began : h.state one_began two_began
-      began = h.begin_use m.env d at _ _ (h.ask (compared_asked h.one e m ts tail) (compared_asked h.two e' m' (move_trees (moved h) ts) (move_tail (moved h) tail)) s s' l)
+      began = h.begin_use m.env d at _ _ (h.ask (compared_asked h.one e m ts tail) (compared_asked h.two e' m' (move_trees (moved h) ts) (move_tail (moved h) tail)) (comparisons_asked h e e' around m d at ts tail) s s' l)
 
       has_same : has_use h.two s' ≡ has_use h.one s
       has_same = ap (λ (c : Counted). nat_lt c.uses max_uses) (h.counted s s' l)
@@ -170,7 +171,7 @@ module _ (h : Sides) where
     waiting_met u s s' l =
         subst (λ (ls : List Target). h.state (meet_waiting h.one e u s) (h.two.meet_use (record { keyword = target h.r u.keyword; literals = ls }) (h.two.ask (map (λ n. Meant e' n.name) (map (move_named (moved h)) u.literals)) s')))
         (sym (map_turned (λ (y : Named h.A'). target_of h.two e' s' y.name y.occ) (move_named (moved h)) (target h.r) (λ (y : Named h.A). target_of h.one e s y.name y.occ) (λ y. target_goes e e' around s s' l y.name y.occ) u.literals))
-        (h.meet_use (record { keyword = u.keyword; literals = map (λ y. target_of h.one e s y.name y.occ) u.literals }) _ _ (h.ask (map (λ n. Meant e n.name) u.literals) (map (λ n. Meant e' n.name) (map (move_named (moved h)) u.literals)) s s' l))
+        (h.meet_use (record { keyword = u.keyword; literals = map (λ y. target_of h.one e s y.name y.occ) u.literals }) _ _ (h.ask (map (λ n. Meant e n.name) u.literals) (map (λ n. Meant e' n.name) (map (move_named (moved h)) u.literals)) (literals_asked h e e' around u.literals) s s' l))
 
     pub all_met : (us : List (WaitingUse h.A)) (s : h.S) (s' : h.S') → h.state s s' → h.state (meet_all h.one e us s) (meet_all h.two e' (map use_moved us) s')
     all_met [] s s' l = l

@@ -1,6 +1,6 @@
 -- Two records of operations, of which the second does what the first does, renumbered. The states and the environments of both are
 -- related; their identifiers are told by a function.
-use Rattle.std.proofs.Common.{◌≡◌, ℕ, List, Option, Some, None, Result, Ok, Err}
+use Rattle.std.proofs.Common.{◌≡◌, ℕ, List, [], ◌∷◌, Option, Some, None, Result, Ok, Err}
 use Rattle.scheme_model.specs.Identifiers.{Number}
 use Rattle.scheme_model.specs.Ident.{Ident}
 use Rattle.scheme_model.specs.Trees.{Trees}
@@ -8,7 +8,8 @@ use Rattle.scheme_model.specs.ExpansionFaults.{Named, Fault}
 use Rattle.scheme_model.specs.Meaning.{Meaning}
 use Rattle.scheme_model.specs.RulesShape.{Rules, option_map}
 use Rattle.scheme_model.specs.Cores.{Target, MacroUse}
-use Rattle.scheme_model.specs.Order.{Pending, Renamed, Region, Transformer, Asked, Ops}
+use Rattle.scheme_model.specs.Requirements.{LibraryName}
+use Rattle.scheme_model.specs.Order.{Pending, Renamed, Region, Transformer, Asked, Meant, Headed, RulesOf, Alike, Assigns, Library, Ops}
 use Rattle.renumbering_laws.specs.Moving.{Change, move_trees, move_named, move_fault, move_rules}
 use Rattle.renumbering_laws.specs.Renumbering.{Renumbering, IsOneToOne, number, ident, meaning, change, with_places, target, bound, macro_use_as, counted_as, pending_as}
 
@@ -31,6 +32,22 @@ pub data Macros {E E' A A' : Type 0} (around : E → E' → Type 0) (f : Change 
 -- a region on both sides
 pub data Regions {E E' A A' S S' : Type 0} (around : E → E' → Type 0) (f : Change A A') (state : S → S' → Type 0) (x : Region E A S) (y : Region E' A' S') : Type 0 where
   regions : around x.env y.env → y.trees ≡ move_trees f x.trees → state x.state y.state → Regions around f state x y
+
+-- a question on both sides
+pub data AskedMoves {E E' A A' : Type 0} (r : Renumbering) (on : A → A') (around : E → E' → Type 0) : Asked E A → Asked E' A' → Type 0 where
+  meant : (e : E) (e' : E') → around e e' → (i : A) → AskedMoves r on around (Meant e i) (Meant e' (on i))
+  headed : (e : E) (e' : E') → around e e' → (i : A) → AskedMoves r on around (Headed e i) (Headed e' (on i))
+  rules_of : (m : Meaning) → AskedMoves r on around (RulesOf m) (RulesOf (meaning r m))
+  alike : (d : E) (d' : E') → around d d' → (l : A) (e : E) (e' : E') → around e e' → (i : A) → AskedMoves r on around (Alike d l e i) (Alike d' (on l) e' (on i))
+  assigns : (e : E) (e' : E') → around e e' → (i : A) → AskedMoves r on around (Assigns e i) (Assigns e' (on i))
+  library : (n : LibraryName) → AskedMoves r on around (Library n) (Library n)
+
+-- one by one
+abbrev pub All : {X Y : Type 0} → (X → Y → Type 0) → List X → List Y → Type 0
+All R [] [] = Unit {0}
+All R [] (y ∷ ys) = ⊥
+All R (x ∷ xs) [] = ⊥
+All R (x ∷ xs) (y ∷ ys) = R x y × All R xs ys
 
 pub record Sides : Type 1 where
   pub r : Renumbering
@@ -60,8 +77,8 @@ pub record Sides : Type 1 where
   pub means : (e : E) (e' : E') → around e e' → (s : S) (s' : S') → state s s' → (i : A) → two.means e' s' (on i) ≡ meaning r (one.means e s i)
   pub transformer : (s : S) (s' : S') → state s s' → (m : Meaning) → Macros around (with_places r on) (one.transformer s m) (two.transformer s' (meaning r m))
   pub known : two.known ≡ one.known
-  -- whatever is asked, the states correspond
-  pub ask : (qs : List (Asked E A)) (qs' : List (Asked E' A')) (s : S) (s' : S') → state s s' → state (one.ask qs s) (two.ask qs' s')
+  -- the second is asked the same, renumbered
+  pub ask : (qs : List (Asked E A)) (qs' : List (Asked E' A')) → All (AskedMoves r on around) qs qs' → (s : S) (s' : S') → state s s' → state (one.ask qs s) (two.ask qs' s')
   pub is_assigned : (e : E) (e' : E') → around e e' → (s : S) (s' : S') → state s s' → (i : A) → two.is_assigned e' s' (on i) ≡ one.is_assigned e s i
   pub counted : (s : S) (s' : S') → state s s' → two.counted s' ≡ counted_as r (one.counted s)
   pub turn : (f : ℕ) (s : S) (s' : S') → state s s' → state (one.turn f s) (two.turn (r.form unit f) s')

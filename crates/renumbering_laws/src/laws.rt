@@ -6,23 +6,28 @@ ghost use Rattle.scheme_model.specs.Trees.{Tree};
 ghost use Rattle.scheme_model.specs.Requirements.{Known};
 ghost use Rattle.scheme_model.specs.RulesShape.{option_map};
 ghost use Rattle.scheme_model.specs.Steps.{Broken};
-ghost use Rattle.scheme_model.specs.Order.{Left, Pending, run};
+ghost use Rattle.scheme_model.specs.Order.{Item, WaitingUse, Left, Pending, run, meet_all};
 ghost use Rattle.scheme_model.specs.Substitution.{Table, Entries, State, model};
 ghost use Rattle.scheme_model.specs.ScopedExpansion.{FramedIdent, ScopedState};
 ghost use Rattle.scheme_model.specs.CountedExpansion.{counted};
 ghost use Rattle.scheme_model.specs.UnitExpansion.{unit};
-ghost use Rattle.scheme_model.specs.FormsAlike.{finish_by};
+ghost use Rattle.scheme_model.specs.Questions.{Around, Moment, Question, answer, SameAnswer, Asking, asking};
+ghost use Rattle.scheme_model.specs.Expression.{item_part, expand};
+ghost use Rattle.scheme_model.specs.FormsAlike.{finish_by, set_aside_asking, finish_asking};
 ghost use Rattle.scheme_model.specs.Live.{NameUse};
 ghost use Rattle.scheme_model.specs.Entries.{Entry};
 ghost use Rattle.scheme_model.specs.Program.{Prepared, Progress, UnitResult, ExportSpec, names_of_unit, export_all, start_of, form_trees, unit_over, prelude_unit, progress_before, forms_at_work};
 ghost use Rattle.scheme_model.specs.ScopedProgram.{ScopedProgress, scoped_start_of, scoped_unit_over, scoped_before};
 ghost use Rattle.scheme_model.specs.ProgramArrows.{program_leaves, program_keywords, arrows_with};
-ghost use Rattle.renumbering_laws.specs.Renumbering.{Renumbering, IsOneToOne, ident, named_as, result_as, left_as, parts_as, formed_as, numbered_as, IsRenumbered};
+ghost use Rattle.renumbering_laws.specs.Moving.{move_tree};
+ghost use Rattle.renumbering_laws.specs.Renumbering.{Renumbering, IsOneToOne, ident, change, named_as, result_as, left_as, parts_as, part_as, item_as, use_as, formed_as, numbered_as, IsRenumbered};
 ghost use Rattle.renumbering_laws.specs.States.{named_pending, named_pass, TablesMove, EntriesMove, StatesMove, StatesRest, StatesGo, StatesGoRest};
 ghost use Rattle.renumbering_laws.specs.ScopedStates.{IsOnto, scoped_pending, scoped_pass, ScopedMove, ScopedRest, ScopedGo, ScopedGoRest};
 ghost use Rattle.renumbering_laws.specs.NewStates.{HasInverse, state_new, scoped_state_new};
 ghost use Rattle.renumbering_laws.specs.Units.{KeepsPrelude, ProgressMoves, ScopedProgressMoves, UnitMoves, FormsMove, ScopedFormsMove, form_as};
 ghost use Rattle.renumbering_laws.specs.Exports.{entry_as, export_as, exported_as};
+ghost use Rattle.renumbering_laws.specs.Asked.{new_moment, new_question, new_answer, new_asked, new_asking, new_pass, AroundMoves, TurnsMove};
+ghost use Rattle.renumbering_laws.specs.NewSurroundings.{HasOldNumbers, around_new};
 ghost use Rattle.renumbering_laws.specs.Pairings.{ArePairs, IsAside, Sends, forth, paired};
 ghost use Rattle.renumbering_laws.specs.Arrows.{leaf_as, name_use_as, arrow_as, UnitsMove, SameMembers, UnitsMoveAround, BoundAlike, AreApart};
 
@@ -98,4 +103,27 @@ pub fn arrows_are_renumbered()
         IsOneToOne r → UnitsMoveAround r us vs → BoundAlike (map (leaf_as r) (program_leaves us)) (program_leaves vs) → SameMembers (map (name_use_as r) names) names' → TablesMove r table table' →
         SameMembers (map (arrow_as r) (arrows_with (program_leaves us) (program_keywords us) names table)) (arrows_with (program_leaves vs) (program_keywords vs) names' table') }
     ensures bound_alike { (r : Renumbering) (us vs : List UnitResult) → IsOneToOne r → UnitsMoveAround r us vs → AreApart us → BoundAlike (map (leaf_as r) (program_leaves us)) (program_leaves vs) }
+{}
+
+/// A form asks the same under other numbers (R7RS 4.3, 5.3): where its turn comes in surroundings that correspond, going through it sets the
+/// same aside and notes the same, and what it set aside is expanded to the same, each with the same questions at the same moments, all
+/// renumbered. So its macro uses are met, and each item is expanded, from any moment on. And in such surroundings each question has, at its moment, the answer that it had, renumbered. Units are renumbered one to
+/// one, and so are the forms of each; no new number needs an old one.
+pub fn questions_are_renumbered()
+    ensures set_aside { (r : Renumbering) (w v : Around) (turns : ℕ) (t : Tree Ident) → IsOneToOne r → TurnsMove r w v →
+        let p = set_aside_asking w turns t in set_aside_asking v turns (move_tree (change r) t) ≡ (new_pass r p.0, new_asking r p.1) }
+    ensures finished { (r : Renumbering) (w v : Around) (turns : ℕ) (l : Result (Left Ident) Broken) → IsOneToOne r → TurnsMove r w v →
+        let p = finish_asking w turns l in finish_asking v turns (result_as r (left_as r (ident r)) l) ≡ (result_as r (parts_as r) p.0, new_asking r p.1) }
+    ensures uses { (r : Renumbering) (w v : Around) (us : List (WaitingUse Ident)) (s : Asking) → IsOneToOne r → TurnsMove r w v → meet_all (asking v) [] (map (use_as r (ident r)) us) (new_asking r s) ≡ new_asking r (meet_all (asking w) [] us s) }
+    ensures item { (r : Renumbering) (w v : Around) (turns depth : ℕ) (i : Item Ident) (s : Asking) → IsOneToOne r → TurnsMove r w v →
+        let p = item_part (expand (asking w) turns) (asking w) depth [] i s in item_part (expand (asking v) turns) (asking v) depth [] (item_as r (ident r) i) (new_asking r s) ≡ (result_as r (part_as r) p.0, new_asking r p.1) }
+    ensures answers { (r : Renumbering) (w v : Around) (n : Moment) (q : Question) → IsOneToOne r → AroundMoves r w v → answer v (new_moment r n) (new_question r q) ≡ new_answer r (answer w n q) }
+    ensures same_answers { (r : Renumbering) (w v w' v' : Around) (q : Moment × Question) → IsOneToOne r → AroundMoves r w w' → AroundMoves r v v' → SameAnswer w v q → SameAnswer w' v' (new_asked r q) }
+{}
+
+/// All surroundings of a form correspond to some under new numbers, where the old number of each is told and definitions keep theirs. So the
+/// law above speaks of every form.
+pub fn surroundings_take_new_numbers()
+    ensures turns { (r : Renumbering) (b : HasOldNumbers r) (w : Around) → TurnsMove r w (around_new r b w) }
+    ensures one_to_one { (r : Renumbering) → HasOldNumbers r → IsOneToOne r }
 {}
