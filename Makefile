@@ -20,7 +20,8 @@ INSTALL = install
 bin = $(DESTDIR)$(PREFIX)/bin
 man = $(DESTDIR)$(PREFIX)/share/man/man1
 share = $(DESTDIR)$(PREFIX)/share/scheme_ls
-pages = docs/profile/arrows.md docs/profile/diagnostics.md docs/profile/outside.md docs/profile/reading.md docs/profile/session.md
+pages = docs/profile/arrows.md docs/profile/diagnostics.md docs/profile/includes.md docs/profile/outside.md docs/profile/reading.md \
+	docs/profile/session.md
 examples = examples/first.scm examples/main.scm examples/mistakes.scm examples/my-or.scm examples/quoted.scm examples/stack.sld
 editors = editors/README.md \
 	editors/emacs/README.md editors/emacs/scheme-ls.el editors/emacs/scheme-ls-renames.el \

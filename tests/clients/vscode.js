@@ -67,7 +67,7 @@ function uriOf(file) {
 const { default: command } = require("../../editors/vscode/package.json").contributes.configuration.properties["schemeLs.command"];
 const settings = { command: [program, ...command.slice(1)], roots: (questions.roots ?? []).map((it) => path.join(room, it)) };
 const vscode = {
-  Uri: { file: uriOf },
+  Uri: { file: uriOf, parse: (text) => uriOf(fileURLToPath(text)) },
   window: {
     showWarningMessage: (text) => said.push(text),
     showErrorMessage: (text) => said.push(text),

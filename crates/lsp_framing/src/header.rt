@@ -146,7 +146,7 @@ fn at_colon(told: Option<u32>, spelled: Option<usize>) -> Result<HeaderState, Wr
     ensures { result ≡ at_colon told spelled }
 {
     if is_length(spelled) {
-        Ok(at_length(told)?)
+        at_length(told)
     } else {
         Ok(HeaderState::Value { told })
     }
@@ -172,7 +172,7 @@ fn at_line(told: Option<u32>, byte: u8) -> Result<HeaderState, Wrong>
     ensures { result ≡ at_line told byte }
 {
     if byte == b'\r' {
-        Ok(at_empty_line(told)?)
+        at_empty_line(told)
     } else if is_name_byte(byte) {
         Ok(HeaderState::Name {
             told,
@@ -188,7 +188,7 @@ fn in_name(told: Option<u32>, spelled: Option<usize>, byte: u8) -> Result<Header
     ensures { result ≡ in_name told spelled byte }
 {
     if byte == b':' {
-        Ok(at_colon(told, spelled)?)
+        at_colon(told, spelled)
     } else if is_name_byte(byte) {
         Ok(HeaderState::Name {
             told,
@@ -217,7 +217,7 @@ fn before_digits(byte: u8) -> Result<HeaderState, Wrong>
     ensures { result ≡ before_digits byte }
 {
     if byte.is_ascii_digit() {
-        Ok(at_digit(0, byte)?)
+        at_digit(0, byte)
     } else if is_blank(byte) {
         Ok(HeaderState::BeforeDigits)
     } else {
@@ -230,9 +230,9 @@ fn in_digits(length: u32, byte: u8) -> Result<HeaderState, Wrong>
     ensures { result ≡ in_digits length byte }
 {
     if byte.is_ascii_digit() {
-        Ok(at_digit(length, byte)?)
+        at_digit(length, byte)
     } else {
-        Ok(after_digits(length, byte)?)
+        after_digits(length, byte)
     }
 }
 
@@ -283,7 +283,7 @@ fn step(place: HeaderState, byte: u8) -> Result<State, Wrong>
         HeaderState::Digits { length } => Ok(State::Header(in_digits(length, byte)?)),
         HeaderState::AfterDigits { length } => Ok(State::Header(after_digits(length, byte)?)),
         HeaderState::LineFeed { told } => Ok(State::Header(at_line_feed(told, byte)?)),
-        HeaderState::LastLineFeed { length } => Ok(at_last_line_feed(length, byte)?),
+        HeaderState::LastLineFeed { length } => at_last_line_feed(length, byte),
     }
 }
 
@@ -292,7 +292,7 @@ pub fn next(place: HeaderState, count: usize, byte: u8) -> Result<State, Wrong>
     ensures { result ≡ next place count byte }
 {
     if count < MAX_HEADER {
-        Ok(step(place, byte)?)
+        step(place, byte)
     } else {
         Err(Wrong::LongHeader)
     }

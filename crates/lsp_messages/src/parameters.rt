@@ -51,7 +51,7 @@ pub(crate) fn note(alloc: Global, method: &str, message: &Value) -> Result<Note,
 fn document(message: &Value) -> Result<&Value, ReadError>
     ensures { Gives (λ v. view v.now) result (spec.document_in (view message.now)) }
 {
-    Ok(field(field(message, "params")?, "textDocument")?)
+    field(field(message, "params")?, "textDocument")
 }
 
 /// What a client states of prepare support, where it states anything.
@@ -88,7 +88,7 @@ fn declaration(message: &Value) -> Result<bool, ReadError>
 {
     let params = field(message, "params")?;
     let context = field(params, "context")?;
-    Ok(boolean(context, "includeDeclaration")?)
+    boolean(context, "includeDeclaration")
 }
 
 /// The references of what stands at a position.

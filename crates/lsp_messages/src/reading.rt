@@ -39,8 +39,8 @@ fn message(alloc: Global, body: &[u8]) -> Result<Message, Reject>
         return Err(Reject::Invalid(valid_id(alloc, &value)?));
     }
     match value.get("method") {
-        None => Ok(response(alloc, &value)?),
-        Some(method) => Ok(named(alloc, method.as_str(), &value)?),
+        None => response(alloc, &value),
+        Some(method) => named(alloc, method.as_str(), &value),
     }
 }
 
@@ -68,7 +68,7 @@ fn valid_id(alloc: Global, message: &Value) -> Mem<Option<Id>>
 {
     match message.get("id") {
         None => Ok(None),
-        Some(value) => Ok(id(alloc, value)?),
+        Some(value) => id(alloc, value),
     }
 }
 
@@ -91,7 +91,7 @@ fn named(alloc: Global, method: Option<&str>, message: &Value) -> Result<Message
         return Err(Reject::Invalid(valid_id(alloc, message)?));
     };
     match message.get("id") {
-        None => Ok(notice(alloc, method, message)?),
+        None => notice(alloc, method, message),
         Some(value) => Ok(asked(alloc, id(alloc, value)?, method, message)?),
     }
 }
@@ -102,7 +102,7 @@ fn asked(alloc: Global, id: Option<Id>, method: &str, message: &Value) -> Result
 {
     match id {
         None => Err(Reject::Invalid(valid_id(alloc, message)?)),
-        Some(id) => Ok(request(alloc, id, method, message)?),
+        Some(id) => request(alloc, id, method, message),
     }
 }
 

@@ -44,7 +44,7 @@ fn add_form_leaves<'a>(
         None => {
             let mut found = Vec::new(alloc);
             add_form(form, &mut found)?;
-            Ok(add_placed(at, found.as_slice(), leaves)?)
+            add_placed(at, found.as_slice(), leaves)
         }
     }
 }
@@ -113,7 +113,7 @@ fn add_trace(at: FormNo, trace: &Trace, met: &mut Vec<PlacedTarget>) -> Mem<()>
         ≡ map use_of met.old.items ++ uses_at at.unit at.form (trace_targets trace.now)) }
 {
     add_targets(at, trace.keywords.as_slice(), met)?;
-    Ok(add_uses(at, trace.uses.as_slice(), met)?)
+    add_uses(at, trace.uses.as_slice(), met)
 }
 
 /// Adds what the expansion of a form met, unless it is broken.
@@ -123,7 +123,7 @@ fn add_form_met(at: FormNo, form: &UnitForm, met: &mut Vec<PlacedTarget>) -> Mem
 {
     match form.fault {
         Some(_) => Ok(()),
-        None => Ok(add_trace(at, &form.trace, met)?),
+        None => add_trace(at, &form.trace, met),
     }
 }
 
@@ -199,7 +199,7 @@ fn add_local(leaf: &PlacedLeaf<'_>, locals: &mut BTreeMap<LocalNo, Option<Occ>>)
 {
     match bound_at(leaf) {
         None => Ok(()),
-        Some((number, place)) => Ok(put_local(number, place, locals)?),
+        Some((number, place)) => put_local(number, place, locals),
     }
 }
 

@@ -33,7 +33,7 @@ fn error(alloc: Global, id: Option<Id>, code: i32, text: &str) -> Mem<Out>
         (session.Error (option_map said_id id) code text.now ∷ [])) }
 {
     let text = Text::of(alloc, text)?;
-    Ok(said(alloc, Reply::Error { id, code, text })?)
+    said(alloc, Reply::Error { id, code, text })
 }
 
 /// The reply to a body that is no JSON.
@@ -93,14 +93,14 @@ pub fn capabilities(alloc: Global, id: Id, prepare: bool, encoding: Encoding) ->
     ensures { IfOk result (λ out. Says out
         (session.Capabilities (said_id id) prepare (said_encoding encoding) ∷ [])) }
 {
-    Ok(said(
+    said(
         alloc,
         Reply::Capabilities {
             id,
             prepare,
             encoding,
         },
-    )?)
+    )
 }
 
 /// The reply with an answer.
@@ -108,7 +108,7 @@ pub fn answered(alloc: Global, id: Id, answer: Answer) -> Mem<Out>
     ensures { IfOk result (λ out. (question : Question) → IsAnswerTo question answer
         → Says out (session.Result (said_id id) question ∷ [])) }
 {
-    Ok(said(alloc, Reply::Result { id, answer })?)
+    said(alloc, Reply::Result { id, answer })
 }
 
 /// The reply to a rename: its edits.
@@ -116,21 +116,21 @@ pub fn renamed(alloc: Global, id: Id, edits: Items<DocEdits>) -> Mem<Out>
     ensures { IfOk result (λ out. out ≡ record { replies = Reply.Result id (Answer.Edits edits) ∷ []; end = None }) }
 {
     let answer = Answer::Edits(edits);
-    Ok(said(alloc, Reply::Result { id, answer })?)
+    said(alloc, Reply::Result { id, answer })
 }
 
 /// The reply to a rename that is refused.
 pub fn request_failed(alloc: Global, id: Id, text: Text) -> Mem<Out>
     ensures { IfOk result (λ out. out ≡ record { replies = Reply.Error (Some id) (session.minus 32803) text ∷ []; end = None }) }
 {
-    Ok(said(
+    said(
         alloc,
         Reply::Error {
             id: Some(id),
             code: REQUEST_FAILED,
             text,
         },
-    )?)
+    )
 }
 
 /// A text for the client's log: what is wrong, and with what.
@@ -146,5 +146,5 @@ pub fn log(alloc: Global, wrong: &str, name: &str) -> Mem<Reply>
 pub fn logged(alloc: Global, wrong: &str, name: &str) -> Mem<Out>
     ensures { IfOk result (λ out. Says out (session.Log (wrong.now ++ name.now) ∷ [])) }
 {
-    Ok(said(alloc, log(alloc, wrong, name)?)?)
+    said(alloc, log(alloc, wrong, name)?)
 }

@@ -88,8 +88,8 @@ impl Session {
             (step_ahead offsets questions self.old (said_by (message_of body.now)) (option_map said_id cancelled)).replies steps.old steps.new) }
     {
         match cancelled {
-            Some(id) => Ok(self.on_cancelled(body, id, steps)?),
-            None => Ok(self.on_body(body, steps)?),
+            Some(id) => self.on_cancelled(body, id, steps),
+            None => self.on_body(body, steps),
         }
     }
 
@@ -103,9 +103,9 @@ impl Session {
             (cancelled_step self.old.mode self.old (said_id id) (step offsets questions self.old (said_by (message_of body.now)))).replies steps.old steps.new) }
     {
         if self.running() {
-            Ok(request_cancelled(self.alloc, id)?)
+            request_cancelled(self.alloc, id)
         } else {
-            Ok(self.on_body(body, steps)?)
+            self.on_body(body, steps)
         }
     }
 
@@ -119,8 +119,8 @@ impl Session {
         ensures counted { OnOk result (AreCounted (step offsets questions self.old (said_by (message_of body.now))).replies steps.old steps.new) }
     {
         match read_message(self.alloc, body) {
-            Ok(message) => Ok(self.on_message(message, steps)?),
-            Err(reject) => Ok(self.on_reject(reject)?),
+            Ok(message) => self.on_message(message, steps),
+            Err(reject) => self.on_reject(reject),
         }
     }
 
@@ -133,8 +133,8 @@ impl Session {
         ensures counted { OnOk result (AreCounted (step offsets questions self.old (said_message message)).replies steps.old steps.new) }
     {
         match message {
-            Message::Request { id, call } => Ok(self.on_request(id, call, steps)?),
-            Message::Notice(note) => Ok(self.on_notice(note, steps)?),
+            Message::Request { id, call } => self.on_request(id, call, steps),
+            Message::Notice(note) => self.on_notice(note, steps),
             Message::Response => Ok(silent(self.alloc)),
         }
     }
@@ -147,10 +147,10 @@ impl Session {
     {
         match reject {
             Reject::Memory => Err(Memory),
-            Reject::Parse => Ok(parse_error(self.alloc)?),
-            Reject::Invalid(id) => Ok(invalid_request(self.alloc, id)?),
-            Reject::Method(id) => Ok(self.on_unknown_method(id)?),
-            Reject::Params(id) => Ok(self.on_bad_params(id)?),
+            Reject::Parse => parse_error(self.alloc),
+            Reject::Invalid(id) => invalid_request(self.alloc, id),
+            Reject::Method(id) => self.on_unknown_method(id),
+            Reject::Params(id) => self.on_bad_params(id),
         }
     }
 
@@ -160,9 +160,9 @@ impl Session {
             (step offsets questions self.now (spec.UnknownMethod (said_id id))) out self.now) }
     {
         match self.mode {
-            Mode::Fresh => Ok(not_initialized(self.alloc, id)?),
-            Mode::Running => Ok(method_not_found(self.alloc, id)?),
-            Mode::Shut => Ok(invalid_request(self.alloc, Some(id))?),
+            Mode::Fresh => not_initialized(self.alloc, id),
+            Mode::Running => method_not_found(self.alloc, id),
+            Mode::Shut => invalid_request(self.alloc, Some(id)),
         }
     }
 
@@ -172,9 +172,9 @@ impl Session {
             (step offsets questions self.now (spec.BadRequest (said_id id))) out self.now) }
     {
         match self.mode {
-            Mode::Fresh => Ok(not_initialized(self.alloc, id)?),
-            Mode::Running => Ok(invalid_params(self.alloc, id)?),
-            Mode::Shut => Ok(invalid_request(self.alloc, Some(id))?),
+            Mode::Fresh => not_initialized(self.alloc, id),
+            Mode::Running => invalid_params(self.alloc, id),
+            Mode::Shut => invalid_request(self.alloc, Some(id)),
         }
     }
 
@@ -187,9 +187,9 @@ impl Session {
         ensures counted { OnOk result (AreCounted (step offsets questions self.old (spec.Request (said_id id) (said_call call))).replies steps.old steps.new) }
     {
         match self.mode {
-            Mode::Fresh => Ok(self.on_fresh_call(id, call)?),
-            Mode::Running => Ok(self.on_call(id, call, steps)?),
-            Mode::Shut => Ok(invalid_request(self.alloc, Some(id))?),
+            Mode::Fresh => self.on_fresh_call(id, call),
+            Mode::Running => self.on_call(id, call, steps),
+            Mode::Shut => invalid_request(self.alloc, Some(id)),
         }
     }
 
@@ -270,7 +270,7 @@ impl Session {
     {
         match self.mode {
             Mode::Fresh | Mode::Shut => Ok(self.on_dropped(&note)),
-            Mode::Running => Ok(self.on_note(note, steps)?),
+            Mode::Running => self.on_note(note, steps),
         }
     }
 
@@ -301,7 +301,7 @@ impl Session {
         match note {
             Note::Exit => Ok(ended(self.alloc, self.mode.exit_code())),
             Note::Opened { uri, version, text } => {
-                Ok(self.on_event(&DocEvent::Added { uri, version, text }, steps)?)
+                self.on_event(&DocEvent::Added { uri, version, text }, steps)
             }
             Note::Changed {
                 uri,
@@ -313,10 +313,10 @@ impl Session {
                     version,
                     changes,
                 };
-                Ok(self.on_event(&event, steps)?)
+                self.on_event(&event, steps)
             }
-            Note::Closed { uri } => Ok(self.on_event(&DocEvent::Closed { uri }, steps)?),
-            Note::BadParams { method } => Ok(logged(self.alloc, BAD_PARAMS, method.as_str())?),
+            Note::Closed { uri } => self.on_event(&DocEvent::Closed { uri }, steps),
+            Note::BadParams { method } => logged(self.alloc, BAD_PARAMS, method.as_str()),
             Note::Cancel { .. } | Note::Other => Ok(silent(self.alloc)),
         }
     }

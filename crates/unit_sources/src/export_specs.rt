@@ -154,7 +154,7 @@ fn add_exports(
         return Ok(());
     }
     let home = form.home_in(unit, number);
-    Ok(add_all(alloc, specs, behind_first(&form.datum), number, home)?)
+    add_all(alloc, specs, behind_first(&form.datum), number, home)
 }
 
 /// What the forms of a unit export.

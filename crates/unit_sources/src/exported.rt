@@ -38,7 +38,7 @@ fn exported(alloc: Global, spec: &ExportSpec, entry: &Entry) -> Mem<Entry>
             origins: copy_of_origins(alloc, entry.origins.as_slice())?,
         });
     }
-    Ok(renamed(alloc, entry, &spec.outer)?)
+    renamed(alloc, entry, &spec.outer)
 }
 
 /// What an export gives of these entries, whose places are known by their names. `again` tells that an earlier export has its

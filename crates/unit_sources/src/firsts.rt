@@ -23,7 +23,7 @@ fn note_unit(
 {
     match name {
         None => Ok(()),
-        Some(name) => Ok(note_first(alloc, places, name.as_str(), place)?),
+        Some(name) => note_first(alloc, places, name.as_str(), place),
     }
 }
 

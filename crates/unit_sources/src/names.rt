@@ -143,5 +143,5 @@ pub fn pairs_in(
     if dotted {
         return Err(ShapeFault::BadForm);
     }
-    Ok(pairs_of(alloc, parts, home)?)
+    pairs_of(alloc, parts, home)
 }

@@ -43,7 +43,7 @@ fn add_imports(
         return Ok(());
     }
     let home = form.home_in(unit, number);
-    Ok(add_specs(alloc, specs, behind_first(&form.datum), home)?)
+    add_specs(alloc, specs, behind_first(&form.datum), home)
 }
 
 /// A form's number. Memory for more than 2^32 forms isn't there.
