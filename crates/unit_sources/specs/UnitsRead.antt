@@ -3,7 +3,7 @@
 use Rattle.std.specs.Prelude.{◌≡◌, ℕ, List, [], ◌∷◌, ◌++◌, map, Bool, ◌&&◌, Option, Some, None, Result, Ok, Err, codes}
 use Rattle.std.specs.Option.{option_map}
 use Rattle.scheme_model.specs.Data.{Datum}
-use Rattle.scheme_model.specs.Trees.{Tree, name}
+use Rattle.scheme_model.specs.Trees.{Tree, name, atom as atom_tree, list as list_tree, vector as vector_tree}
 use Rattle.scheme_model.specs.ExpansionFaults.{Named}
 use Rattle.scheme_model.specs.Program.{ImportSpec, ExportSpec, specs_from, exports_from}
 use Rattle.scheme_model.specs.Declarations.{UnitForm, UnitKind, IsLibrary, IsProgram, IsPart, is_headed, is_proper, unit_or}
