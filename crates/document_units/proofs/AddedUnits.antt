@@ -14,10 +14,10 @@ use Rattle.scheme_tokens.specs.LibraryNames.{library_text}
 use Rattle.core_tree.specs.Units.{kind_as}
 use Rattle.datum_reader.specs.FirstTokens.{first_token}
 use Rattle.datum_reader.specs.WellFormed.{WasRead}
-use Rattle.library_table.specs.UnitsRead.{forms_of, IsSource, IsUnitRead}
-use Rattle.library_table.specs.declared.fault.LibraryFault.{LibraryFault}
-use Rattle.library_table.specs.declared.units.UnitSource as code
-use Rattle.library_table.proofs.KnownTexts.{IfProper, name_proper}
+use Rattle.unit_sources.specs.UnitsRead.{forms_of, IsSource, IsUnitRead}
+use Rattle.unit_sources.specs.declared.fault.LibraryFault.{LibraryFault}
+use Rattle.unit_sources.specs.declared.units.UnitSource as code
+use Rattle.unit_sources.proofs.KnownTexts.{IfProper, name_proper}
 use Rattle.document_units.specs.DataRead.{AllRead, DocumentsRead, data_at}
 use Rattle.document_units.specs.Listing.{Begins, BeginsWith, IsOneOf, IsWholeOf}
 use Rattle.document_units.specs.UnitsListed.{IsBlank, IsReadFor, without_standard}

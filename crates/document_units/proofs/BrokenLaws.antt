@@ -9,9 +9,9 @@ use Rattle.scheme_model.specs.Program.{is_in}
 use Rattle.import_sets.proofs.ReachLaws.{in_push, or_none, or_right}
 use Rattle.import_sets.specs.declared.set.ImportSet as set
 use Rattle.import_sets.specs.Firsts.{first_place, place_in}
-use Rattle.library_table.specs.declared.units.UnitSource.{UnitSource}
-use Rattle.library_table.specs.Named.{with_place}
-use Rattle.library_table.specs.Orders.{ArePlaces}
+use Rattle.unit_sources.specs.declared.units.UnitSource.{UnitSource}
+use Rattle.unit_sources.specs.Named.{with_place}
+use Rattle.unit_sources.specs.Orders.{ArePlaces}
 use Rattle.document_units.specs.declared.listing.Head.{Head}
 use Rattle.document_units.specs.declared.listing.WholeFault.{WholeFault}
 use Rattle.document_units.specs.Places.{SameHead, HeadsStay, NamesKept, AreHeadsIn}

@@ -6,9 +6,9 @@ use Rattle.std.specs.Option.{is_some}
 use Rattle.std.proofs.lemmas.Bool.Decides.{nat_tests}
 use Rattle.std.proofs.lemmas.List.{take_more, length-take-le}
 use Rattle.std.proofs.lemmas.Option.{slice_get_within}
-use Rattle.library_table.specs.declared.units.ImportSpec.{ImportSpec}
-use Rattle.library_table.specs.declared.units.UnitSource.{UnitSource}
-use Rattle.library_table.specs.Named.{imported_places}
+use Rattle.unit_sources.specs.declared.units.ImportSpec.{ImportSpec}
+use Rattle.unit_sources.specs.declared.units.UnitSource.{UnitSource}
+use Rattle.unit_sources.specs.Named.{imported_places}
 use Rattle.document_units.specs.declared.listing.Head.{Head}
 use Rattle.document_units.specs.declared.listing.WholeFault.TheVariants as fault
 use Rattle.document_units.specs.Changed.{Changes}

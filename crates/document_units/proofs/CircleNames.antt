@@ -8,12 +8,12 @@ use Rattle.scheme_model.specs.Requirements.{LibraryName}
 use Rattle.scheme_model.specs.IncludedUnits.{Placed}
 use Rattle.scheme_model.specs.Program.{Prepared, prepared, prepare, imports_at, is_in, on_circle, imported_as, is_named, unit_named}
 use Rattle.import_sets.proofs.ReachLaws.{reached_within}
-use Rattle.library_table.specs.declared.units.UnitSource as code
-use Rattle.library_table.specs.Sources.{TellsNames, AreUnits}
-use Rattle.library_table.specs.Named.{place_named, with_place}
-use Rattle.library_table.specs.Orders.{with_imports, circles, name_before, names_of}
-use Rattle.library_table.specs.Repeated.{is_at}
-use Rattle.library_table.proofs.NamedLaws.{library_told, place_same}
+use Rattle.unit_sources.specs.declared.units.UnitSource as code
+use Rattle.unit_sources.specs.Sources.{TellsNames, AreUnits}
+use Rattle.unit_sources.specs.Named.{place_named, with_place}
+use Rattle.unit_sources.specs.Orders.{with_imports, circles, name_before, names_of}
+use Rattle.unit_sources.specs.Repeated.{is_at}
+use Rattle.unit_sources.proofs.NamedLaws.{library_told, place_same}
 use Rattle.document_units.specs.Libraries.{places_by}
 use Rattle.document_units.proofs.NamedUnits.{named_at, imports_hold}
 use Rattle.document_units.proofs.TurnGraph.{all_numbered}

@@ -4,9 +4,9 @@ use Rattle.std.specs.Prelude.{not}
 use Rattle.scheme_model.specs.Declarations.{UnitForm}
 use Rattle.scheme_model.specs.Program.{ExportSpec, exports_from}
 use Rattle.import_sets.specs.Given.{same_place}
-use Rattle.library_table.specs.Sources.{AreExports}
-use Rattle.library_table.specs.UnitsRead.{AreExportsRead}
-use Rattle.library_table.specs.declared.units.ExportSpec as code
+use Rattle.unit_sources.specs.Sources.{AreExports}
+use Rattle.unit_sources.specs.UnitsRead.{AreExportsRead}
+use Rattle.unit_sources.specs.declared.units.ExportSpec as code
 use Rattle.document_units.proofs.RenamedLaws.{TellRenamed, AreDeclaredRead, renamed_from}
 
 exports_told : (cs : List code.ExportSpec) (xs : List ExportSpec) → AreExportsRead cs xs → TellRenamed xs → AreExports cs xs

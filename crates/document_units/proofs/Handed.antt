@@ -11,9 +11,9 @@ use Rattle.scheme_model.specs.IncludedUnits.{EarlyFault, UnitSource, Placed}
 use Rattle.scheme_model.specs.Program.{Prepared, prepared, prepare, is_in, imported_units, name_if, unless_standard, imported_as, is_named, unit_named, WholeFault, fault_before, specs_in, specs_from, exports_in, exports_from, forms_or_none, first_ready}
 use Rattle.syntax_tree.proofs.InternLaws.{bytes_told}
 use Rattle.import_sets.specs.InTurn.{all_in, is_open, and_then, in_turn}
-use Rattle.library_table.specs.declared.units.UnitSource as code
-use Rattle.library_table.specs.Sources.{IsUnit, AreImports, AreExports, AreUnitsFrom}
-use Rattle.library_table.specs.Orders.{with_imports}
+use Rattle.unit_sources.specs.declared.units.UnitSource as code
+use Rattle.unit_sources.specs.Sources.{IsUnit, AreImports, AreExports, AreUnitsFrom}
+use Rattle.unit_sources.specs.Orders.{with_imports}
 use Rattle.document_units.specs.Turned.{waits_if, waits, turns}
 use Rattle.document_units.proofs.NamedUnits.{named_of_taken, imported_same, prepare_taken}
 

@@ -15,8 +15,8 @@ use Rattle.datum_reader.specs.declared.datum.Shape.TheVariants as shape
 use Rattle.datum_reader.specs.Views.{data_of, datum_of, end_data, leaf_of}
 use Rattle.datum_reader.proofs.DatumLaws.{place-datum}
 use Rattle.datum_reader.proofs.SeedLaws.{datum-atom, datum-list, datum-vector}
-use Rattle.library_table.specs.declared.units.UnitForm as code_form
-use Rattle.library_table.specs.UnitsRead.{form_of, forms_of}
+use Rattle.unit_sources.specs.declared.units.UnitForm as code_form
+use Rattle.unit_sources.specs.UnitsRead.{form_of, forms_of}
 use Rattle.document_units.specs.Identifiers.{all_names, end_names, occ_in, occs_in}
 use Rattle.scheme_model.specs.Sites.{name_tokens, name_tokens_all, names_in_form, names_in_forms}
 

@@ -14,14 +14,14 @@ use Rattle.scheme_model.specs.Program.{Prepared, prepared, prepare, is_in, impor
 use Rattle.core_tree.specs.Units.{imports_of}
 use Rattle.import_sets.proofs.ReachLaws.{IsWithin, same_test, reached_closed, reached_start, reached_within}
 use Rattle.base_library.specs.Texts.{SpellsStandard}
-use Rattle.library_table.specs.declared.units.UnitSource as code
-use Rattle.library_table.specs.Sources.{IsUnit, AreUnitsFrom, AreUnits}
-use Rattle.library_table.specs.Named.{place_named}
-use Rattle.library_table.specs.Orders.{with_imports, AreInTurn}
-use Rattle.library_table.specs.Repeated.{repeated_places, has_standard_name}
-use Rattle.library_table.proofs.NamedLaws.{place_same}
-use Rattle.library_table.proofs.RepeatedLaws.{repeated_are}
-use Rattle.library_table.proofs.GraphLaws.{imports_same}
+use Rattle.unit_sources.specs.declared.units.UnitSource as code
+use Rattle.unit_sources.specs.Sources.{IsUnit, AreUnitsFrom, AreUnits}
+use Rattle.unit_sources.specs.Named.{place_named}
+use Rattle.unit_sources.specs.Orders.{with_imports, AreInTurn}
+use Rattle.unit_sources.specs.Repeated.{repeated_places, has_standard_name}
+use Rattle.unit_sources.proofs.NamedLaws.{place_same}
+use Rattle.unit_sources.proofs.RepeatedLaws.{repeated_are}
+use Rattle.unit_sources.proofs.GraphLaws.{imports_same}
 use Rattle.document_units.specs.declared.listing.Head.{Head}
 use Rattle.document_units.specs.declared.listing.WholeFault.{WholeFault}
 use Rattle.document_units.specs.declared.listing.WholeFault.TheVariants as fault

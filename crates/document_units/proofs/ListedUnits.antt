@@ -22,17 +22,17 @@ use Rattle.syntax_tree.proofs.Places.{push_cases, get_within}
 use Rattle.core_tree.specs.Names.{AllMatch}
 use Rattle.core_tree.specs.Units.{kind_as, ranges_from}
 use Rattle.datum_reader.proofs.DatumLaws.{place-datum}
-use Rattle.library_table.specs.Sources.{AreImports, AreExports, IsUnit, AreUnitsFrom}
-use Rattle.library_table.specs.UnitsRead.{kind_of, forms_of, AreLost, AreSpecs, IsSource, IsUnitRead}
-use Rattle.library_table.specs.declared.fault.LibraryFault.{LibraryFault}
-use Rattle.library_table.specs.declared.fault.LibraryFault.TheVariants as library
-use Rattle.library_table.specs.declared.units.ExportSpec as code_export
-use Rattle.library_table.specs.declared.units.ImportSpec as code_import
-use Rattle.library_table.specs.declared.units.UnitForm as code_form
-use Rattle.library_table.specs.declared.units.LostString as code_lost
-use Rattle.library_table.specs.declared.units.UnitSource.{UnitSource}
-use Rattle.library_table.proofs.KnownTexts.{IfProper}
-use Rattle.library_table.proofs.SpelledSources.{imports_spelled, unit_spelled}
+use Rattle.unit_sources.specs.Sources.{AreImports, AreExports, IsUnit, AreUnitsFrom}
+use Rattle.unit_sources.specs.UnitsRead.{kind_of, forms_of, AreLost, AreSpecs, IsSource, IsUnitRead}
+use Rattle.unit_sources.specs.declared.fault.LibraryFault.{LibraryFault}
+use Rattle.unit_sources.specs.declared.fault.LibraryFault.TheVariants as library
+use Rattle.unit_sources.specs.declared.units.ExportSpec as code_export
+use Rattle.unit_sources.specs.declared.units.ImportSpec as code_import
+use Rattle.unit_sources.specs.declared.units.UnitForm as code_form
+use Rattle.unit_sources.specs.declared.units.LostString as code_lost
+use Rattle.unit_sources.specs.declared.units.UnitSource.{UnitSource}
+use Rattle.unit_sources.proofs.KnownTexts.{IfProper}
+use Rattle.unit_sources.proofs.SpelledSources.{imports_spelled, unit_spelled}
 use Rattle.document_units.specs.Broken.{told, has_standard}
 use Rattle.document_units.specs.UnitSources.{IsSourceOf, HaveOneIfSame, IsSpec}
 use Rattle.scheme_model.specs.Sites.{names_in_forms}

@@ -6,8 +6,8 @@ use Rattle.scheme_model.specs.Data.{place_of}
 use Rattle.scheme_model.specs.Declarations.{UnitForm, home_of}
 use Rattle.core_tree.specs.declared.units.TokenRange.{TokenRange}
 use Rattle.datum_reader.proofs.DatumLaws.{place-datum}
-use Rattle.library_table.specs.declared.units.UnitForm as code_form
-use Rattle.library_table.specs.UnitsRead.{form_of, forms_of}
+use Rattle.unit_sources.specs.declared.units.UnitForm as code_form
+use Rattle.unit_sources.specs.UnitsRead.{form_of, forms_of}
 use Rattle.core_tree.specs.Units.{ranges_from}
 
 abbrev range_at : (unit form : ℕ) → UnitForm → TokenRange

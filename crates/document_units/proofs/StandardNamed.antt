@@ -8,8 +8,8 @@ use Rattle.scheme_model.specs.Program.{unless_standard}
 use Rattle.base_library.specs.Texts.{names_of, SpellsStandard}
 use Rattle.base_library.proofs.TextLaws.{by_name}
 use Rattle.base_library.proofs.StandardTexts as standard_texts
-use Rattle.library_table.specs.Repeated.{has_standard_name}
-use Rattle.library_table.specs.declared.units.UnitSource as code
+use Rattle.unit_sources.specs.Repeated.{has_standard_name}
+use Rattle.unit_sources.specs.declared.units.UnitSource as code
 use Rattle.document_units.specs.Broken.{has_standard}
 use Rattle.document_units.specs.UnitsListed.{WritesProper, without_standard}
 

@@ -10,8 +10,8 @@ use Rattle.scheme_model.specs.Program.{prepared, prepare, is_in, name_if, declar
 use Rattle.datum_reader.specs.Looks.{bytes_of}
 use Rattle.core_tree.specs.Units.{imports_of}
 use Rattle.base_library.specs.Texts.{names_of}
-use Rattle.library_table.specs.declared.units.UnitSource.{UnitSource}
-use Rattle.library_table.specs.Named.{imported_places}
+use Rattle.unit_sources.specs.declared.units.UnitSource.{UnitSource}
+use Rattle.unit_sources.specs.Named.{imported_places}
 use Rattle.document_units.specs.declared.listing.Head.{Head}
 use Rattle.document_units.specs.declared.listing.WholeFault.{WholeFault}
 use Rattle.document_units.specs.declared.listing.WholeFault.TheVariants as fault

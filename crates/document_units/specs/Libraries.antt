@@ -3,7 +3,7 @@ use Rattle.std.specs.Prelude.{◌≡◌, ℕ, ◌<◌, List, [], ◌∷◌, Opti
 use Rattle.std.specs.declared.alloc.Global.{Global}
 use Rattle.std.specs.BTreeMap.{BTreeMap, get_by_text}
 use Rattle.import_sets.specs.declared.set.ImportSet.{ImportSet, Library, Only', Except', Prefix', Rename', Bad}
-use Rattle.library_table.specs.Named.{with_place}
+use Rattle.unit_sources.specs.Named.{with_place}
 
 -- ---- names
 

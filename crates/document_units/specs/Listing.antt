@@ -10,8 +10,8 @@ use Rattle.datum_reader.specs.Views.{data_of}
 use Rattle.datum_reader.specs.declared.datum.Datum as code_datum
 use Rattle.included_forms.specs.Built.{AreDocuments, IsTable}
 use Rattle.ls_base.specs.declared.places.Span.{Span}
-use Rattle.library_table.specs.declared.fault.LibraryFault.{LibraryFault}
-use Rattle.library_table.specs.declared.fault.LibraryFault.TheVariants as library
+use Rattle.unit_sources.specs.declared.fault.LibraryFault.{LibraryFault}
+use Rattle.unit_sources.specs.declared.fault.LibraryFault.TheVariants as library
 use Rattle.text_parts.specs.Parts.{IsTextPart}
 use Rattle.text_parts.specs.declared.parts.TextPart.{TextPart}
 use Rattle.document_units.specs.DataRead.{data_at, items_in, DocumentsRead}

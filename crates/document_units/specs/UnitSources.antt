@@ -5,12 +5,12 @@ use Rattle.scheme_model.specs.IncludedUnits.{Placed}
 use Rattle.scheme_model.specs.Program.{ImportSpec, ExportSpec, Prepared, prepared, prepare, WholeFault, fault_before}
 use Rattle.datum_reader.specs.Looks.{bytes_of}
 use Rattle.import_sets.specs.Sets.{IsSetOf}
-use Rattle.library_table.specs.declared.units.ImportSpec as code_import
+use Rattle.unit_sources.specs.declared.units.ImportSpec as code_import
 use Rattle.core_tree.specs.Names.{AllMatch}
 use Rattle.core_tree.specs.Units.{kind_as}
-use Rattle.library_table.specs.Sources.{AreExports}
-use Rattle.library_table.specs.UnitsRead.{forms_of, AreLost}
-use Rattle.library_table.specs.declared.units.UnitSource.{UnitSource}
+use Rattle.unit_sources.specs.Sources.{AreExports}
+use Rattle.unit_sources.specs.UnitsRead.{forms_of, AreLost}
+use Rattle.unit_sources.specs.declared.units.UnitSource.{UnitSource}
 
 -- an import set, with its unit and the bytes of the set and of its library's name
 pub record IsSpec (spelled : LibraryName → List ℕ) (c : code_import.ImportSpec) (s : ImportSpec) : Type 0 where

@@ -10,9 +10,9 @@ use Rattle.scheme_model.specs.IncludedUnits.{Placed}
 use Rattle.scheme_model.specs.Program.{prepared, imported_as, declared_fault, forms_or_none, units_of}
 use Rattle.scheme_tokens.specs.LibraryNames.{library_text, IsProper}
 use Rattle.core_tree.specs.Units.{kind_as, ranges_from}
-use Rattle.library_table.specs.Sources.{AreUnits}
-use Rattle.library_table.specs.UnitsRead.{forms_of}
-use Rattle.library_table.specs.declared.units.UnitSource.{UnitSource}
+use Rattle.unit_sources.specs.Sources.{AreUnits}
+use Rattle.unit_sources.specs.UnitsRead.{forms_of}
+use Rattle.unit_sources.specs.declared.units.UnitSource.{UnitSource}
 use Rattle.document_units.specs.Broken.{told, has_standard, IsListed, AreListed}
 use Rattle.document_units.specs.DataRead.{data_at}
 use Rattle.document_units.specs.Listing.{Begins}

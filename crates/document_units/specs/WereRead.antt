@@ -4,8 +4,8 @@ use Rattle.scheme_model.specs.declared.Home.{Home}
 use Rattle.scheme_model.specs.Data.{Datum, place_of}
 use Rattle.scheme_model.specs.Declarations.{UnitForm}
 use Rattle.datum_reader.specs.WellFormed.{WasRead}
-use Rattle.library_table.specs.UnitsRead.{forms_of}
-use Rattle.library_table.specs.declared.units.UnitSource.{UnitSource}
+use Rattle.unit_sources.specs.UnitsRead.{forms_of}
+use Rattle.unit_sources.specs.declared.units.UnitSource.{UnitSource}
 
 -- the forms that are expanded were read
 abbrev pub WereRead : List UnitForm → Type 0

@@ -7,9 +7,9 @@ ghost use Rattle.scheme_model.specs.Includes.{max_units};
 ghost use Rattle.scheme_model.specs.IncludedUnits.{Placed};
 ghost use Rattle.scheme_model.specs.Program.{Prepared, is_in, on_circle};
 ghost use Rattle.base_library.specs.Texts.{SpellsStandard};
-ghost use Rattle.library_table.specs.Named.{place_named, imported_places};
-ghost use Rattle.library_table.specs.Orders.{with_imports, AreInTurn, ArePlaces};
-ghost use Rattle.library_table.specs.Sources.{TellsNames, AreUnits};
+ghost use Rattle.unit_sources.specs.Named.{place_named, imported_places};
+ghost use Rattle.unit_sources.specs.Orders.{with_imports, AreInTurn, ArePlaces};
+ghost use Rattle.unit_sources.specs.Sources.{TellsNames, AreUnits};
 ghost use Rattle.document_units.specs.Libraries.{FindsBelow, library_of, places_by};
 ghost use Rattle.document_units.specs.Places.{HeadsStay};
 ghost use Rattle.document_units.specs.Broken.{broken_by, broken_if, Breaks, BreaksStandard, FindsImports, Forgets, AreListed, AreJudged, SourcesStay};
@@ -19,12 +19,12 @@ use crate::known::has_standard_name;
 use crate::listing::{Head, Units, WholeFault};
 use import_sets::ImportSet;
 use import_sets::firsts::{place_for, place_in};
-use library_table::firsts::first_places;
-use library_table::{ImportSpec, LibraryFault, UnitSource, order, repeated};
 use ls_base::limits::MAX_UNITS;
 use ls_base::{Items, Mem, Memory, Text};
 use std::alloc::Global;
 use std::collections::BTreeMap;
+use unit_sources::firsts::first_places;
+use unit_sources::{ImportSpec, LibraryFault, UnitSource, order, repeated};
 
 /// The places of the units that are libraries by their names: the first with each name. Units behind the most aren't among them.
 pub type Firsts = BTreeMap<String, usize>;

@@ -4,15 +4,15 @@ ghost use Rattle.std.specs.Option.{is_some};
 ghost use Rattle.scheme_model.specs.Data.{spelled};
 ghost use Rattle.scheme_model.specs.Declarations.{atom_symbol};
 ghost use Rattle.datum_reader.specs.Views.{data_of, datum_of, leaf_of};
-ghost use Rattle.library_table.specs.UnitsRead.{form_of, forms_of};
+ghost use Rattle.unit_sources.specs.UnitsRead.{form_of, forms_of};
 ghost use Rattle.document_units.specs.Identifiers.{all_names, end_names, occ_in, occs_in};
 ghost use Rattle.scheme_model.specs.Sites as sites;
 
 use datum_reader::{Atom, Datum, Shape};
-use library_table::UnitForm;
 use ls_base::{Mem, Memory};
 use scheme_model::Occ;
 use std::alloc::Global;
+use unit_sources::UnitForm;
 
 /// A form's unit and number, and the number of its first token in the text.
 #[derive(Clone, Copy)]

@@ -10,7 +10,7 @@ ghost use Rattle.core_tree.specs.Units.{ranges_from};
 ghost use Rattle.datum_reader.specs.Views.{datum_of, data_of};
 ghost use Rattle.datum_reader.specs.WellFormed.{WasRead};
 ghost use Rattle.known_libraries.specs.PartsRead.{Knows};
-ghost use Rattle.library_table.specs.UnitsRead.{forms_of};
+ghost use Rattle.unit_sources.specs.UnitsRead.{forms_of};
 ghost use Rattle.document_units.specs.Sound.{IsSound};
 ghost use Rattle.document_units.specs.DataRead.{AreOpened, AreReadIn, DataWereRead, data_at};
 ghost use Rattle.document_units.specs.Listing.{IsReader, IsAt, AreAt, CanRead, CanReadIn, CanReadAll, IsOneOf, BeginsWith, IsWholeOf};
@@ -26,15 +26,14 @@ use core_tree::units::TokenRange;
 use datum_reader::Datum;
 use datum_reader::heads::{first_token, is_headed};
 use known_libraries::KnownLibraries;
-use library_table::{
-    LibraryFault, UnitForm, UnitSource, first_of_program, read_part, read_program, read_unit,
-};
+use library_table::{first_of_program, read_part, read_program, read_unit};
 use ls_base::limits::MAX_UNITS;
 use ls_base::{Items, Mem, Memory, Span, Text};
 use scheme_model::{Home, Occ};
 use std::alloc::Global;
 use syntax_tree::units::UnitKind;
 use text_parts::{TextPart, text_parts};
+use unit_sources::{LibraryFault, UnitForm, UnitSource};
 
 /// Why a unit is broken as a whole.
 #[derive(Clone, Copy)]

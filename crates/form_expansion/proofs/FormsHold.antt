@@ -19,8 +19,8 @@ use Rattle.syntax_tree.proofs.Places.{none_some, push_cases}
 use Rattle.core_tree.specs.Units.{defined_by}
 use Rattle.datum_reader.specs.WellFormed.{WasRead}
 use Rattle.datum_reader.specs.Views.{datum_of}
-use Rattle.library_table.specs.UnitsRead.{form_of, forms_of}
-use Rattle.library_table.specs.declared.units.UnitForm as source
+use Rattle.unit_sources.specs.UnitsRead.{form_of, forms_of}
+use Rattle.unit_sources.specs.declared.units.UnitForm as source
 use Rattle.feature_requirements.specs.Judged.{Knows}
 use Rattle.unit_scopes.specs.Others.{InOrder}
 use Rattle.unit_scopes.specs.Stepped.{IsFresh}

@@ -9,8 +9,8 @@ use Rattle.syntax_tree.specs.declared.trees.Work.{Work}
 use Rattle.core_tree.specs.Units.{FormsStand, IsBlank, AreDefinitions, definitions_from}
 use Rattle.core_tree.specs.declared.cores.Binder.{Binder}
 use Rattle.core_tree.specs.declared.units.UnitForm as code
-use Rattle.library_table.specs.UnitsRead.{form_of, forms_of}
-use Rattle.library_table.specs.declared.units.UnitForm as source
+use Rattle.unit_sources.specs.UnitsRead.{form_of, forms_of}
+use Rattle.unit_sources.specs.declared.units.UnitForm as source
 use Rattle.form_expansion.specs.Ends.{numbers_of}
 use Rattle.form_expansion.specs.Forms.{AreFormed}
 use Rattle.form_expansion.specs.Refused.{refused_fault, refused_forms, refused_if}

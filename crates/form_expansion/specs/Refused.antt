@@ -3,8 +3,8 @@ use Rattle.std.specs.Prelude.{ℕ, suc, List, [], ◌∷◌, Some, None, if◌th
 use Rattle.scheme_model.specs.Program.{is_include}
 use Rattle.core_tree.specs.declared.traces.FormFault.{FormFault}
 use Rattle.core_tree.specs.declared.units.UnitForm.{UnitForm}
-use Rattle.library_table.specs.UnitsRead.{form_of}
-use Rattle.library_table.specs.declared.units.UnitForm as source
+use Rattle.unit_sources.specs.UnitsRead.{form_of}
+use Rattle.unit_sources.specs.declared.units.UnitForm as source
 
 -- it stands at the declaration's first token
 abbrev pub refused_fault : (unit form : ℕ) → FormFault

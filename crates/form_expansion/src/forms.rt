@@ -14,7 +14,7 @@ ghost use Rattle.syntax_tree.specs.Names.{KeepsNames};
 ghost use Rattle.syntax_tree.specs.Works.{IsOpened, StandsFor, KeepsTrees, SameRegions, AddsIn};
 ghost use Rattle.datum_reader.specs.WellFormed.{WasRead};
 ghost use Rattle.datum_reader.specs.Views.{datum_of};
-ghost use Rattle.library_table.specs.UnitsRead.{form_of, forms_of};
+ghost use Rattle.unit_sources.specs.UnitsRead.{form_of, forms_of};
 ghost use Rattle.core_tree.specs.Units.{IsBlank};
 ghost use Rattle.feature_requirements.specs.Judged.{Knows};
 ghost use Rattle.unit_scopes.specs.Stepped.{IsFresh};
@@ -31,12 +31,12 @@ use document_units::form_numbers::number_of;
 use expander::{
     Budget, ExpandFault, Item, Left, UnitScope, WaitingUse, declare_form, expand_item, meet_uses,
 };
-use library_table::UnitForm as SourceForm;
 use ls_base::limits::MAX_UNIT_NODES;
 use ls_base::{Items, Mem, Memory, Steps};
 use std::alloc::Global;
 use std::sync::ledger::Ledger;
 use syntax_tree::trees::{PoolFault, Region, Tree, Work};
+use unit_sources::UnitForm as SourceForm;
 
 /// What units are expanded with: the trees, the region of all that is made, and the scopes.
 #[derive(Drop)]

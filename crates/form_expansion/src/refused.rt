@@ -4,7 +4,7 @@ ghost use Rattle.scheme_model.specs.UnitExpansion.{Formed};
 ghost use Rattle.scheme_model.specs.Program.{form_trees, with_refused};
 ghost use Rattle.syntax_tree.specs.declared.trees.Work.{Work};
 ghost use Rattle.core_tree.specs.Units.{FormsStand, definitions_from};
-ghost use Rattle.library_table.specs.UnitsRead.{forms_of};
+ghost use Rattle.unit_sources.specs.UnitsRead.{forms_of};
 ghost use Rattle.form_expansion.specs.Ends.{numbers_of};
 ghost use Rattle.form_expansion.specs.Forms.{AreFormed};
 ghost use Rattle.form_expansion.specs.Refused.{refused_fault, refused_forms, refused_if};
@@ -12,10 +12,10 @@ ghost use Rattle.form_expansion.specs.Refused.{refused_fault, refused_forms, ref
 use core_tree::traces::FormFault;
 use core_tree::units::UnitForm;
 use document_units::form_numbers::number_of;
-use library_table::UnitForm as SourceForm;
-use library_table::declared::is_include;
 use ls_base::{Items, Mem};
 use scheme_model::Occ;
+use unit_sources::UnitForm as SourceForm;
+use unit_sources::declared::is_include;
 
 /// Breaks the forms of a unit that are declarations which include a text. The others are as they were expanded.
 pub fn refuse(unit: u32, sources: &[SourceForm], forms: Items<UnitForm>) -> Mem<Items<UnitForm>>

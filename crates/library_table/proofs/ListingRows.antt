@@ -22,12 +22,13 @@ use Rattle.included_forms.specs.declared.steps.FlatForm as listed
 use Rattle.included_forms.specs.declared.steps.Source.{Source}
 use Rattle.included_forms.specs.declared.units.Listed.{Listed}
 use Rattle.included_forms.specs.declared.units.Listed.TheVariants as end
-use Rattle.library_table.specs.declared.fault.LibraryFault.{LibraryFault}
-use Rattle.library_table.specs.declared.fault.LibraryFault.TheVariants as fault
+use Rattle.unit_sources.specs.declared.fault.LibraryFault.{LibraryFault}
+use Rattle.unit_sources.specs.declared.fault.LibraryFault.TheVariants as fault
 use Rattle.library_table.specs.declared.reading.Lists as code_lists
-use Rattle.library_table.specs.declared.units.UnitForm as code_form
-use Rattle.library_table.specs.declared.units.UnitSource as code
-use Rattle.library_table.specs.UnitsRead.{forms_of, forms_left, listing_left, is_import, kind_of, lost_as, AreSpecs, AreExportsRead, IsBadAt, IsListingRead, IsSource, IsUnitRead}
+use Rattle.unit_sources.specs.declared.units.UnitForm as code_form
+use Rattle.unit_sources.specs.declared.units.UnitSource as code
+use Rattle.unit_sources.specs.UnitsRead.{forms_of, is_import, kind_of, lost_as, AreSpecs, AreExportsRead, IsSource, IsUnitRead}
+use Rattle.library_table.specs.ListingsRead.{forms_left, listing_left, IsBadAt, IsListingRead}
 
 -- ---- forms
 

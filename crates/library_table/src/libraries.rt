@@ -11,11 +11,9 @@ ghost use Rattle.datum_reader.specs.Looks.{end_with};
 ghost use Rattle.datum_reader.specs.Views.{datum_of, data_of};
 ghost use Rattle.included_forms.specs.Tables.{Serve};
 ghost use Rattle.included_forms.specs.Built.{AreDocuments, IsTable};
-ghost use Rattle.library_table.specs.UnitsRead.{IsUnitRead};
+ghost use Rattle.unit_sources.specs.UnitsRead.{IsUnitRead};
 
-use crate::fault::LibraryFault;
 use crate::reading::{forms_listed, source};
-use crate::units::UnitSource;
 use datum_reader::Datum;
 use datum_reader::heads::first_token;
 use datum_reader::look::{Look, Row, look_at, row_of};
@@ -25,6 +23,8 @@ use known_libraries::library_names;
 use ls_base::{Mem, Memory, Text};
 use std::alloc::Global;
 use syntax_tree::units::UnitKind;
+use unit_sources::fault::LibraryFault;
+use unit_sources::units::UnitSource;
 
 /// The name of the library that a datum is, which doesn't depend on what stands behind it. `None` where it has no name.
 pub fn library_name(alloc: Global, datum: &Datum) -> Mem<Option<Text>>

@@ -10,17 +10,17 @@ ghost use Rattle.datum_reader.specs.FirstTokens.{first_token};
 ghost use Rattle.datum_reader.specs.Views.{datum_of, data_of};
 ghost use Rattle.included_forms.specs.Tables.{Serve};
 ghost use Rattle.included_forms.specs.Built.{AreDocuments, IsTable};
-ghost use Rattle.library_table.specs.UnitsRead.{forms_of, IsSource, IsUnitRead};
+ghost use Rattle.unit_sources.specs.UnitsRead.{forms_of, IsSource, IsUnitRead};
 
-use crate::fault::LibraryFault;
 use crate::reading::{forms_listed, push_form, source};
-use crate::units::{UnitForm, UnitSource};
 use datum_reader::Datum;
 use datum_reader::heads::is_headed;
 use included_forms::{Documents, Table};
 use ls_base::{Items, Mem, Span};
 use std::alloc::Global;
 use syntax_tree::units::UnitKind;
+use unit_sources::fault::LibraryFault;
+use unit_sources::units::{UnitForm, UnitSource};
 
 /// The first datum of a document that is no library.
 pub fn first_of_program(data: &[Datum]) -> Option<&Datum>

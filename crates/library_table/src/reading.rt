@@ -7,12 +7,9 @@ ghost use Rattle.datum_reader.specs.Views.{datum_of};
 ghost use Rattle.included_forms.specs.Counted.{lost_of};
 ghost use Rattle.included_forms.specs.Listed.{IsListed};
 ghost use Rattle.included_forms.specs.Steps.{homed_of, form_of as listed_form};
-ghost use Rattle.library_table.specs.UnitsRead.{forms_of, forms_left, is_import, lost_as, AreSpecs, AreExportsRead, IsBadAt, IsListingRead};
+ghost use Rattle.unit_sources.specs.UnitsRead.{forms_of, is_import, lost_as, AreSpecs, AreExportsRead};
+ghost use Rattle.library_table.specs.ListingsRead.{forms_left, IsBadAt, IsListingRead};
 
-use crate::export_specs::exports_read;
-use crate::fault::LibraryFault;
-use crate::parts::imports_of;
-use crate::units::{LostString, UnitForm, UnitSource};
 use datum_reader::Datum;
 use datum_reader::heads::{is_headed, is_proper};
 use included_forms::Listed;
@@ -22,6 +19,10 @@ use ls_base::{Items, Mem, Span, Text};
 use scheme_model::Home;
 use std::alloc::Global;
 use syntax_tree::units::UnitKind;
+use unit_sources::export_specs::exports_read;
+use unit_sources::fault::LibraryFault;
+use unit_sources::parts::imports_of;
+use unit_sources::units::{LostString, UnitForm, UnitSource};
 
 /// The forms of a unit, and the strings that mean no text that can be included.
 #[derive(Drop)]

@@ -21,8 +21,8 @@ use Rattle.core_tree.specs.declared.cores.Binder.{Binder}
 use Rattle.core_tree.specs.declared.units.NameUse as code_name
 use Rattle.core_tree.specs.declared.units.UnitForm as core
 use Rattle.core_tree.specs.declared.units.Unit as code
-use Rattle.library_table.specs.UnitsRead.{form_of, forms_of}
-use Rattle.library_table.specs.declared.units.UnitSource.{UnitSource}
+use Rattle.unit_sources.specs.UnitsRead.{form_of, forms_of}
+use Rattle.unit_sources.specs.declared.units.UnitSource.{UnitSource}
 use Rattle.program_expansion.specs.UnitResults.{CameTo, ComesTo, HaveCome}
 use Rattle.document_units.specs.UnitSources.{AreSourcesOf}
 use Rattle.unit_imports.specs.Collected.{IsCollected, AreCollected, IsHeadOf, AreHeadsOf}

@@ -7,7 +7,7 @@ use Rattle.scheme_model.specs.Includes.{Document}
 use Rattle.scheme_model.specs.Program.{all_names, known_in, has_name}
 use Rattle.scheme_model.specs.Requirements.{LibraryName}
 use Rattle.scheme_tokens.specs.LibraryNames.{library_text, IsProper}
-use Rattle.library_table.proofs.KnownTexts.{known_told}
+use Rattle.unit_sources.proofs.KnownTexts.{known_told}
 use Rattle.base_library.proofs.StandardTexts.{same_texts}
 use Rattle.feature_requirements.specs.Judged.{Knows}
 use Rattle.document_units.specs.KnownNames.{listed_texts}

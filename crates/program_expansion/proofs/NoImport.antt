@@ -6,8 +6,8 @@ use Rattle.scheme_model.specs.Requirements.{LibraryName}
 use Rattle.scheme_model.specs.Program.{Prepared, UnitResult, imports_nothing, is_import, is_program, result_at}
 use Rattle.scheme_model.specs.Diagnostics.{Span, at_bytes, unit_start}
 use Rattle.core_tree.specs.Units.{kind_as}
-use Rattle.library_table.specs.UnitsRead.{forms_of}
-use Rattle.library_table.specs.declared.units.UnitSource.{UnitSource}
+use Rattle.unit_sources.specs.UnitsRead.{forms_of}
+use Rattle.unit_sources.specs.declared.units.UnitSource.{UnitSource}
 use Rattle.document_units.specs.declared.findings.At.{At}
 use Rattle.document_units.specs.declared.findings.Finding.{Finding}
 use Rattle.document_units.specs.Findings.{Adds, all_told, errors_in}

@@ -6,7 +6,7 @@ use Rattle.scheme_model.specs.Program as model
 use Rattle.scheme_model.specs.IncludedUnits.{Placed}
 use Rattle.scheme_model.specs.Program.{Prepared, prepared, prepare, fault_before}
 use Rattle.scheme_model.specs.ScopedProgram.{scoped_before}
-use Rattle.library_table.specs.declared.units.UnitSource.{UnitSource}
+use Rattle.unit_sources.specs.declared.units.UnitSource.{UnitSource}
 use Rattle.document_units.specs.Broken.{told, AreJudged, without_if, Forgets}
 use Rattle.program_expansion.specs.UnitResults.{HeadsBy}
 use Rattle.document_units.specs.UnitSources.{IsSourceOf, AreSourcesOf, AreReadOf}

@@ -1,9 +1,9 @@
 -- Units stay sound while their heads and their sources stay.
 use Rattle.std.proofs.Common.{◌≡◌, ◌<◌, ℕ, zero, suc, List, [], ◌∷◌, length, slice_get, Some, refl, sym, ap, ◌∙◌, subst, arith}
 use Rattle.std.proofs.lemmas.Option.{same_Some}
-use Rattle.library_table.specs.UnitsRead.{forms_of}
-use Rattle.library_table.specs.declared.units.UnitForm as code_form
-use Rattle.library_table.specs.declared.units.UnitSource.{UnitSource}
+use Rattle.unit_sources.specs.UnitsRead.{forms_of}
+use Rattle.unit_sources.specs.declared.units.UnitForm as code_form
+use Rattle.unit_sources.specs.declared.units.UnitSource.{UnitSource}
 use Rattle.syntax_tree.proofs.Places.{none_some}
 use Rattle.document_units.specs.declared.listing.Head.{Head}
 use Rattle.document_units.specs.declared.listing.Units.{Units}

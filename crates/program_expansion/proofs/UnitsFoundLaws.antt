@@ -13,8 +13,8 @@ use Rattle.scheme_model.specs.ScopedProgram.{ScopedProgress}
 use Rattle.scheme_model.specs.Declarations.{forms_hold}
 use Rattle.scheme_model.specs.Diagnostics.{Diagnostic, document_of, bytes_of, export_diagnostics, form_diagnostics, hiding_diagnostics, is_empty, lost_diagnostics, set_diagnostics, unbound_diagnostics, unit_diagnostics}
 use Rattle.core_tree.specs.Units.{defined_by, export_errors, form_errors, set_errors, set_forms}
-use Rattle.library_table.specs.UnitsRead.{lost_as}
-use Rattle.library_table.specs.declared.units.LostString as code
+use Rattle.unit_sources.specs.UnitsRead.{lost_as}
+use Rattle.unit_sources.specs.declared.units.LostString as code
 use Rattle.unit_scopes.specs.Others.{InFront}
 use Rattle.unit_imports.specs.declared.expanded.Expanded.{Expanded}
 use Rattle.document_units.specs.declared.findings.Finding.{Finding}

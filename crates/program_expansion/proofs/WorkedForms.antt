@@ -8,9 +8,9 @@ use Rattle.syntax_tree.specs.declared.trees.Work.{Work}
 use Rattle.core_tree.specs.Units.{IsBlank, FormsStand, AreDefinitions, definitions_from, kind_as}
 use Rattle.core_tree.specs.declared.cores.Binder.{Binder}
 use Rattle.core_tree.specs.declared.units.UnitForm as core
-use Rattle.library_table.specs.UnitsRead.{forms_of}
-use Rattle.library_table.specs.declared.units.UnitForm as code
-use Rattle.library_table.specs.declared.units.UnitSource.{UnitSource}
+use Rattle.unit_sources.specs.UnitsRead.{forms_of}
+use Rattle.unit_sources.specs.declared.units.UnitForm as code
+use Rattle.unit_sources.specs.declared.units.UnitSource.{UnitSource}
 use Rattle.document_units.specs.WereRead.{WereRead}
 use Rattle.form_expansion.specs.Forms.{AreFormed}
 use Rattle.unit_imports.proofs.Collecting.{blank_stand}

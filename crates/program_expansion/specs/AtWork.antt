@@ -2,8 +2,8 @@
 use Rattle.std.specs.Prelude.{List, [], if◌then◌else◌}
 use Rattle.scheme_model.specs.Declarations.{is_part_kind}
 use Rattle.core_tree.specs.Units.{kind_as}
-use Rattle.library_table.specs.declared.units.UnitForm.{UnitForm}
-use Rattle.library_table.specs.declared.units.UnitSource.{UnitSource}
+use Rattle.unit_sources.specs.declared.units.UnitForm.{UnitForm}
+use Rattle.unit_sources.specs.declared.units.UnitSource.{UnitSource}
 
 -- those of a part are worked on where it is included
 abbrev pub worked_forms : UnitSource → List UnitForm

@@ -15,8 +15,8 @@ ghost use Rattle.syntax_tree.specs.Works.{KeepsTrees};
 ghost use Rattle.syntax_tree.specs.declared.trees.Work.{Work as AnyWork};
 ghost use Rattle.core_tree.specs.Names.{AllMatch};
 ghost use Rattle.core_tree.specs.Units.{IsBlank, FormsStand, AreDefinitions, definitions_from, defined_by, kind_as};
-ghost use Rattle.library_table.specs.Orders.{ArePlaces};
-ghost use Rattle.library_table.specs.UnitsRead.{forms_of};
+ghost use Rattle.unit_sources.specs.Orders.{ArePlaces};
+ghost use Rattle.unit_sources.specs.UnitsRead.{forms_of};
 ghost use Rattle.program_expansion.specs.AtWork.{worked_forms};
 ghost use Rattle.form_expansion.specs.Ends.{numbers_of};
 ghost use Rattle.feature_requirements.specs.Judged.{Knows};
@@ -53,7 +53,6 @@ use document_units::places::Places;
 use expander::Imported;
 use form_expansion::forms::{Bench, blank_trace, expand_forms};
 use form_expansion::refused::refuse;
-use library_table::{LostString, UnitForm as SourceForm, UnitSource};
 use ls_base::{Items, Mem, Steps};
 use program_findings::diagnosing::{add_faults, add_lost, add_unbound, whole_finding};
 use std::alloc::Global;
@@ -67,6 +66,7 @@ use unit_imports::expanded::Expanded;
 use unit_imports::exported::exports_given;
 use unit_imports::names::names_used;
 use unit_imports::seconds::seconds_in;
+use unit_sources::{LostString, UnitForm as SourceForm, UnitSource};
 
 /// Expands the units that aren't broken, in an order in which each comes after what it imports. One that counts too many nodes
 /// breaks.

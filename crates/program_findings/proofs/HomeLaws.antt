@@ -5,8 +5,8 @@ use Rattle.std.proofs.lemmas.Option.{slice_get_read}
 use Rattle.scheme_model.specs.declared.Occ.{Occ}
 use Rattle.scheme_model.specs.Declarations.{home_of, is_token_of, holds_at, forms_hold}
 use Rattle.datum_reader.specs.Views.{datum_of}
-use Rattle.library_table.specs.declared.units.UnitForm.{UnitForm}
-use Rattle.library_table.specs.UnitsRead.{form_of, forms_of}
+use Rattle.unit_sources.specs.declared.units.UnitForm.{UnitForm}
+use Rattle.unit_sources.specs.UnitsRead.{form_of, forms_of}
 
 -- what a form holds that has this number
 abbrev held : (unit number : ℕ) → UnitForm → Occ → Bool

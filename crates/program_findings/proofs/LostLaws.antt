@@ -5,8 +5,8 @@ use Rattle.std.proofs.lemmas.List.{take_more, map-append, length-map, take_all}
 use Rattle.std.proofs.lemmas.Option.{same_Some, slice_get-map, slice_get_read, slice_get_within, get_or_from_slice_get}
 use Rattle.scheme_model.specs.Diagnostics.{Diagnostic, lost_diagnostics}
 use Rattle.scheme_model.specs.Included.{LostString}
-use Rattle.library_table.specs.UnitsRead.{lost_as}
-use Rattle.library_table.specs.declared.units.LostString as code
+use Rattle.unit_sources.specs.UnitsRead.{lost_as}
+use Rattle.unit_sources.specs.declared.units.LostString as code
 use Rattle.scheme_model.specs.DiagnosticTexts.{worded}
 use Rattle.document_units.specs.declared.findings.At.{At}
 use Rattle.document_units.specs.declared.findings.Finding.{Finding}

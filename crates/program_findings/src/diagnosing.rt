@@ -15,7 +15,7 @@ ghost use Rattle.syntax_tree.specs.declared.meaning.Meaning.TheVariants as meant
 ghost use Rattle.core_tree.specs.declared.traces.FormFault.{FormFault as Fault};
 ghost use Rattle.core_tree.specs.Traces.{IsFault};
 ghost use Rattle.core_tree.specs.Units.{FormsStand, form_errors};
-ghost use Rattle.library_table.specs.UnitsRead.{forms_of, lost_as};
+ghost use Rattle.unit_sources.specs.UnitsRead.{forms_of, lost_as};
 ghost use Rattle.document_units.specs.declared.findings.At.{At as Found};
 ghost use Rattle.document_units.specs.Readings.{Read};
 ghost use Rattle.document_units.specs.Changed.{Changes};
@@ -37,13 +37,13 @@ use document_units::form_numbers::number_of;
 use document_units::listing::WholeFault;
 use document_units::places::Places;
 use document_units::wording::message;
-use library_table::{LostString, UnitForm as SourceForm};
 use ls_base::Mem;
 use scheme_model::Occ;
 use std::alloc::Global;
 use std::collections::BTreeMap;
 use syntax_tree::meaning::Meaning;
 use syntax_tree::symbols::{IdNo, Symbols};
+use unit_sources::{LostString, UnitForm as SourceForm};
 
 /// Adds the faults of the forms of a unit, which were read from these.
 pub fn add_faults(

@@ -2,10 +2,10 @@
 ghost use Rattle.std.specs.Prelude.{◌≡◌};
 ghost use Rattle.scheme_model.specs.Declarations.{forms_hold, home_of, is_token_of};
 ghost use Rattle.datum_reader.specs.Views.{datum_of};
-ghost use Rattle.library_table.specs.UnitsRead.{form_of, forms_of};
+ghost use Rattle.unit_sources.specs.UnitsRead.{form_of, forms_of};
 
-use library_table::UnitForm;
 use scheme_model::Occ;
+use unit_sources::UnitForm;
 
 /// Whether an occurrence is that of a token of a form, which has this number in a unit.
 fn holds(form: &UnitForm, unit: u32, number: u32, occ: Occ) -> bool

@@ -9,7 +9,7 @@ use Rattle.scheme_model.specs.Program.{Prepared, UnitResult, known_in, prepare, 
 use Rattle.scheme_model.specs.Requirements.{Known, LibraryName}
 use Rattle.scheme_tokens.specs.LibraryNames.{library_text, IsProper}
 use Rattle.scheme_tokens.proofs.NamesTold.{texts_tell}
-use Rattle.library_table.proofs.KnownTexts.{IfProper, name_proper}
+use Rattle.unit_sources.proofs.KnownTexts.{IfProper, name_proper}
 use Rattle.program_laws.specs.Turns.{Each}
 use Rattle.program_laws.proofs.Lists.{each_map, each_both}
 use Rattle.program_laws.proofs.Results.{results_in_order}

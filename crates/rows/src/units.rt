@@ -8,10 +8,7 @@ use import_sets::{ImportFault, ImportSet, NamePair, SetName, entries_of};
 use included_documents::Uris;
 use included_forms::{Documents, Table, Text as ReadText};
 use known_libraries::KnownLibraries;
-use library_table::{
-    ExportFault, ExportSpec, ImportSpec, LibraryFault, UnitForm, UnitSource, exports_of,
-    first_of_program, order, read_program, read_unit, repeated,
-};
+use library_table::{first_of_program, read_program, read_unit};
 use ls_base::{Items, Span, Text};
 use row_values::argument::{item, list, made, made_bytes, text};
 use row_values::fault::{Row, RowFault};
@@ -21,6 +18,10 @@ use serde_json::Value;
 use std::alloc::Global;
 use syntax_tree::symbols::Symbols;
 use syntax_tree::units::{Entry, Origin, UnitKind};
+use unit_sources::{
+    ExportFault, ExportSpec, ImportSpec, LibraryFault, UnitForm, UnitSource, exports_of, order,
+    repeated,
+};
 
 /// The most tokens of a unit's forms.
 const MAX_TOKENS: u32 = 1_048_576;

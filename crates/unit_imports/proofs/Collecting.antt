@@ -6,7 +6,7 @@ use Rattle.core_tree.specs.Units.{IsBlank, FormsStand}
 use Rattle.syntax_tree.specs.declared.trees.Work.{Work}
 use Rattle.core_tree.specs.declared.units.UnitForm.{UnitForm}
 use Rattle.core_tree.specs.declared.units.Unit as code
-use Rattle.library_table.specs.declared.units.UnitSource.{UnitSource}
+use Rattle.unit_sources.specs.declared.units.UnitSource.{UnitSource}
 use Rattle.unit_imports.specs.Collected.{Has, IsNothing, HasCome, IsCollected}
 use Rattle.unit_imports.specs.declared.expanded.Expanded.{Expanded}
 use Rattle.document_units.specs.declared.listing.Head.{Head}

@@ -6,10 +6,10 @@ use Rattle.scheme_model.specs.Program.{ExportSpec, ExportFault, NotDefined, Same
 use Rattle.scheme_model.specs.Diagnostics.{Diagnostic, Bytes, at_bytes, export_bytes, export_diagnostics}
 use Rattle.import_sets.specs.Sets.{named}
 use Rattle.import_sets.specs.Given.{same_place}
-use Rattle.library_table.specs.Exports.{IsFault, AreFaults}
-use Rattle.library_table.specs.Sources.{IsExport, AreExports}
-use Rattle.library_table.specs.declared.exporting.ExportFault as code_fault
-use Rattle.library_table.specs.declared.units.ExportSpec as code_export
+use Rattle.unit_sources.specs.Exports.{IsFault, AreFaults}
+use Rattle.unit_sources.specs.Sources.{IsExport, AreExports}
+use Rattle.unit_sources.specs.declared.exporting.ExportFault as code_fault
+use Rattle.unit_sources.specs.declared.units.ExportSpec as code_export
 use Rattle.document_units.specs.declared.findings.At.{At}
 use Rattle.document_units.specs.Findings.{told_at}
 use Rattle.document_units.specs.Places.{bytes_at}

@@ -25,9 +25,9 @@ use Rattle.import_sets.specs.declared.gather.Group.{Group}
 use Rattle.import_sets.specs.Given.{finished, Gathered, take_all}
 use Rattle.import_sets.specs.Sets.{named, IsSet, IsSetOf, TellsApart, Answers, FailsAs}
 use Rattle.import_sets.proofs.GatherLaws.{gather_stands}
-use Rattle.library_table.specs.UnitsRead.{forms_of}
-use Rattle.library_table.specs.declared.units.ImportSpec as code_spec
-use Rattle.library_table.specs.declared.units.UnitSource as code_source
+use Rattle.unit_sources.specs.UnitsRead.{forms_of}
+use Rattle.unit_sources.specs.declared.units.ImportSpec as code_spec
+use Rattle.unit_sources.specs.declared.units.UnitSource as code_source
 use Rattle.unit_imports.specs.declared.entries.Libraries as code
 use Rattle.unit_imports.specs.declared.entries.SetGives.{SetGives}
 use Rattle.unit_imports.specs.declared.entries.SetGives.TheVariants as gives

@@ -35,9 +35,9 @@ use Rattle.import_sets.specs.declared.fault.ImportFault.TheVariants as fault
 use Rattle.import_sets.specs.declared.gather.Group.{Group}
 use Rattle.import_sets.specs.declared.set.SetName.{SetName}
 use Rattle.import_sets.specs.declared.set.NamePair.{NamePair}
-use Rattle.library_table.specs.Exported.{entry_named}
-use Rattle.library_table.specs.Sources.{AreExports, IsExport}
-use Rattle.library_table.specs.declared.units.ExportSpec as code_export
+use Rattle.unit_sources.specs.Exported.{entry_named}
+use Rattle.unit_sources.specs.Sources.{AreExports, IsExport}
+use Rattle.unit_sources.specs.declared.units.ExportSpec as code_export
 use Rattle.unit_imports.specs.declared.names.Identifiers as code
 use Rattle.unit_imports.specs.Defined.{FindsNames}
 use Rattle.unit_imports.specs.NamesUsed.{AddsName, AddsNames, own_use, inner_use, external_adds, external_use, external_uses, unless_fault}

@@ -5,7 +5,7 @@ use Rattle.scheme_model.specs.IncludedUnits.{Placed}
 use Rattle.scheme_model.specs.Program.{Prepared, prepared}
 use Rattle.core_tree.specs.Units.{IsBlank, imports_of, kind_as, ranges_from, text_of}
 use Rattle.core_tree.specs.declared.units.Unit as code
-use Rattle.library_table.specs.declared.units.UnitSource.{UnitSource}
+use Rattle.unit_sources.specs.declared.units.UnitSource.{UnitSource}
 use Rattle.unit_imports.specs.declared.expanded.Expanded.{Expanded}
 use Rattle.document_units.specs.declared.listing.Head.{Head}
 

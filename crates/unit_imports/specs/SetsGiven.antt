@@ -16,8 +16,8 @@ use Rattle.import_sets.specs.Sets.{named}
 use Rattle.import_sets.specs.declared.fault.ImportFault as code_fault
 use Rattle.import_sets.specs.declared.fault.ImportFault.TheVariants as fault
 use Rattle.base_library.specs.Texts.{SpellsStandard}
-use Rattle.library_table.specs.UnitsRead.{forms_of}
-use Rattle.library_table.specs.declared.units.UnitSource as code_source
+use Rattle.unit_sources.specs.UnitsRead.{forms_of}
+use Rattle.unit_sources.specs.declared.units.UnitSource as code_source
 use Rattle.unit_imports.specs.declared.expanded.Expanded.{Expanded}
 use Rattle.unit_imports.specs.declared.entries.Libraries as code
 use Rattle.unit_imports.specs.declared.entries.SetGives.{SetGives}

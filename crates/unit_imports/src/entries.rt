@@ -16,7 +16,7 @@ ghost use Rattle.syntax_tree.specs.Names.{Names, KeepsNames};
 ghost use Rattle.syntax_tree.specs.Meant.{AreEntries, IsEntry};
 ghost use Rattle.core_tree.specs.Names.{AllMatch};
 ghost use Rattle.core_tree.specs.Units.{import_code, kind_as, set_errors, set_forms};
-ghost use Rattle.library_table.specs.UnitsRead.{form_of, forms_of};
+ghost use Rattle.unit_sources.specs.UnitsRead.{form_of, forms_of};
 ghost use Rattle.import_sets.specs.Sets.{FailsAs, IsSet, IsSetOf, TellsApart};
 ghost use Rattle.unit_imports.specs.Joining.{AreApart, GroupsMean, GroupsStand};
 ghost use Rattle.unit_imports.specs.EntriesMeant.{EachOnce, ExportsMean, HaveMeaning};
@@ -41,8 +41,6 @@ use import_sets::copy::copy_of_entries;
 use import_sets::firsts::place_for;
 use import_sets::gather::Gathering;
 use import_sets::{ImportFault, ImportSet, entries_of};
-use library_table::declared::{has_import, is_import};
-use library_table::{ImportSpec, UnitForm, UnitSource};
 use ls_base::{Items, Mem, Memory, Span, Text};
 use scheme_model::Occ;
 use std::alloc::Global;
@@ -50,6 +48,8 @@ use syntax_tree::meaning::Meaning;
 use syntax_tree::symbols::Symbols;
 use syntax_tree::trees::Work;
 use syntax_tree::units::{Entry, UnitKind};
+use unit_sources::declared::{has_import, is_import};
+use unit_sources::{ImportSpec, UnitForm, UnitSource};
 
 /// The libraries that were expanded: by a name the place of the first unit that has it, and by its place what it came to.
 #[derive(Clone, Copy)]

@@ -7,9 +7,9 @@ ghost use Rattle.scheme_model.specs.Diagnostics.{bytes_of, export_diagnostics};
 ghost use Rattle.syntax_tree.specs.Names.{Names};
 ghost use Rattle.syntax_tree.specs.Meant.{AreEntries};
 ghost use Rattle.core_tree.specs.Units.{export_errors};
-ghost use Rattle.library_table.specs.Exports.{IsFault};
-ghost use Rattle.library_table.specs.Sources.{AreExports};
-ghost use Rattle.library_table.specs.declared.fault.LibraryFault.TheVariants as faults;
+ghost use Rattle.unit_sources.specs.Exports.{IsFault};
+ghost use Rattle.unit_sources.specs.Sources.{AreExports};
+ghost use Rattle.unit_sources.specs.declared.fault.LibraryFault.TheVariants as faults;
 ghost use Rattle.unit_imports.specs.Defined.{FindsNames};
 ghost use Rattle.document_units.specs.Findings.{all_told, errors_in};
 ghost use Rattle.unit_imports.specs.EntriesMeant.{HaveMeaning};
@@ -19,10 +19,10 @@ ghost use Rattle.document_units.specs.Readings.{Read};
 use crate::entries::add_found;
 use document_units::findings::Finding;
 use document_units::places::Places;
-use library_table::{ExportFault, ExportSpec, LibraryFault, UnitSource, exports_of};
 use ls_base::{Items, Mem, Memory, Text};
 use std::alloc::Global;
 use syntax_tree::units::Entry;
+use unit_sources::{ExportFault, ExportSpec, LibraryFault, UnitSource, exports_of};
 
 /// What a unit exports of these names; what is wrong in its exports is added. Memory for 2^32 exports isn't there.
 pub fn exports_given(

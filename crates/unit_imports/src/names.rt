@@ -17,8 +17,8 @@ ghost use Rattle.core_tree.specs.Units.{AreNames, given_exports};
 ghost use Rattle.import_sets.specs.Firsts.{place_of, place_under};
 ghost use Rattle.import_sets.specs.Given as code;
 ghost use Rattle.import_sets.specs.Sets.{IsSet, IsSetOf, named, paired};
-ghost use Rattle.library_table.specs.Exported.{entry_named};
-ghost use Rattle.library_table.specs.Sources.{AreExports, IsExport};
+ghost use Rattle.unit_sources.specs.Exported.{entry_named};
+ghost use Rattle.unit_sources.specs.Sources.{AreExports, IsExport};
 ghost use Rattle.unit_imports.specs.Defined.{FindsNames};
 ghost use Rattle.unit_imports.specs.EntriesMeant.{ExportsMean};
 ghost use Rattle.unit_imports.specs.SetsGiven.{AreLibraries};
@@ -33,7 +33,6 @@ use import_sets::firsts::{EntryPlaces, entry_at, entry_place, entry_places};
 use import_sets::modify::{except, only, prefixed};
 use import_sets::rename::rename;
 use import_sets::{ImportFault, ImportSet, NamePair, SetName, copy_of_origins, lists_none};
-use library_table::{ExportSpec, ImportSpec, UnitSource};
 use ls_base::{Items, Mem, Memory};
 use std::alloc::Global;
 use std::collections::{BTreeMap, BTreeSet};
@@ -41,6 +40,7 @@ use syntax_tree::meaning::Meaning;
 use syntax_tree::symbols::{Ident, Symbols};
 use syntax_tree::trees::Work;
 use syntax_tree::units::{Entry, Origin};
+use unit_sources::{ExportSpec, ImportSpec, UnitSource};
 
 /// The entries of a unit and their places by name.
 #[derive(Clone, Copy)]

@@ -8,10 +8,10 @@ ghost use Rattle.core_tree.specs.Names.{AllMatch};
 ghost use Rattle.document_units.specs.UnitSources.{IsSpec};
 
 use import_sets::second_places;
-use library_table::ImportSpec;
 use ls_base::{Items, Mem};
 use scheme_model::Occ;
 use std::alloc::Global;
+use unit_sources::ImportSpec;
 
 /// Those of all sets, in their order.
 pub fn seconds_in(alloc: Global, specs: &[ImportSpec]) -> Mem<Items<Occ>>

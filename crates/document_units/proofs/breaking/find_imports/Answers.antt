@@ -1,7 +1,7 @@
 use Rattle.std.proofs.Common.{ℕ, List, length, refl, ap, ◌∙◌, arith}
 use Rattle.std.specs.BTreeMap.{get_by_text}
 use Rattle.std.proofs.lemmas.Option.{slice_get_read}
-use Rattle.library_table.specs.Named.{imported_places}
+use Rattle.unit_sources.specs.Named.{imported_places}
 use Rattle.document_units.proofs.BrokenSteps.{imports_none, imports_step, imports_end}
 use Rattle.document_units.proofs.breaking.find_imports.Goals as goal
 

@@ -1,7 +1,7 @@
 use Rattle.std.proofs.Common.{take, sym, ap, ◌∙◌, arith}
 use Rattle.scheme_model.specs.Includes.{max_units}
-use Rattle.library_table.specs.declared.units.UnitSource.{UnitSource}
-use Rattle.library_table.specs.Named.{is_name, place_named}
+use Rattle.unit_sources.specs.declared.units.UnitSource.{UnitSource}
+use Rattle.unit_sources.specs.Named.{is_name, place_named}
 use Rattle.document_units.proofs.BrokenLaws.{first_below, few_taken, taken_within}
 use Rattle.document_units.proofs.breaking.firsts.Goals as goal
 

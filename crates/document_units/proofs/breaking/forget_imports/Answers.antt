@@ -1,6 +1,6 @@
 use Rattle.std.proofs.Common.{Vec, Global, ◌<◌, ◌+◌, length, take, refl, sym, ◌∙◌, subst, arith}
 use Rattle.std.proofs.lemmas.Option.{slice_get_read}
-use Rattle.library_table.specs.declared.units.UnitSource.{UnitSource}
+use Rattle.unit_sources.specs.declared.units.UnitSource.{UnitSource}
 use Rattle.document_units.specs.Broken.{Forgets}
 use Rattle.document_units.proofs.BrokenSteps.{forgets_none, forgets_step, forgets_over, forgets_end}
 use Rattle.document_units.proofs.breaking.forget_imports.Goals as goal

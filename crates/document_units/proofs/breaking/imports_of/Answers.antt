@@ -1,8 +1,8 @@
 use Rattle.std.proofs.Common.{List, ℕ, refl, sym, ◌∙◌, arith}
 use Rattle.std.specs.BTreeMap.{get_by_text}
 use Rattle.import_sets.specs.Firsts.{place_in}
-use Rattle.library_table.specs.declared.units.ImportSpec.{ImportSpec}
-use Rattle.library_table.specs.Named.{imported_places}
+use Rattle.unit_sources.specs.declared.units.ImportSpec.{ImportSpec}
+use Rattle.unit_sources.specs.Named.{imported_places}
 use Rattle.scheme_model.specs.Includes.{max_units}
 use Rattle.document_units.proofs.BrokenLaws.{place_step, set_below}
 use Rattle.document_units.proofs.breaking.imports_of.Goals as goal

@@ -1,6 +1,6 @@
 use Rattle.std.proofs.Common.{◌≡◌, ◌++◌, drop}
 use Rattle.std.specs.BTreeMap.{get_by_text}
-use Rattle.library_table.specs.Named.{imported_places}
+use Rattle.unit_sources.specs.Named.{imported_places}
 use Rattle.document_units.proofs.breaking.imports_of.Given as goal
 
 -- the places so far and those that are left

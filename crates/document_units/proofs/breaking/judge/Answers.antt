@@ -3,9 +3,9 @@ use Rattle.scheme_model.specs.Requirements.{LibraryName}
 use Rattle.scheme_model.specs.Includes.{max_units}
 use Rattle.scheme_model.specs.IncludedUnits.{Placed}
 use Rattle.base_library.specs.Texts.{SpellsStandard}
-use Rattle.library_table.specs.declared.units.UnitSource.{UnitSource}
-use Rattle.library_table.specs.Named.{place_named}
-use Rattle.library_table.specs.Sources.{AreUnits}
+use Rattle.unit_sources.specs.declared.units.UnitSource.{UnitSource}
+use Rattle.unit_sources.specs.Named.{place_named}
+use Rattle.unit_sources.specs.Sources.{AreUnits}
 use Rattle.document_units.specs.declared.listing.Head.{Head}
 use Rattle.document_units.specs.Broken.{AreListed, AreJudged, Forgets, SourcesStay}
 use Rattle.document_units.proofs.BrokenLaws.{few_taken, taken_within, places_wider}

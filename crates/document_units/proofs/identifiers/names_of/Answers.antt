@@ -1,7 +1,7 @@
 -- The identifiers of one form more.
 use Rattle.std.proofs.Common.{◌≡◌, ◌<◌, length, refl, sym, subst, arith, add-one, take}
 use Rattle.std.proofs.lemmas.Option.{slice_get_read}
-use Rattle.library_table.specs.UnitsRead.{forms_of}
+use Rattle.unit_sources.specs.UnitsRead.{forms_of}
 use Rattle.scheme_model.specs.Sites.{names_in_forms}
 use Rattle.document_units.proofs.IdentifierLaws.{form_added}
 use Rattle.document_units.proofs.identifiers.names_of.Goals as goal

@@ -1,5 +1,5 @@
 use Rattle.std.proofs.Common.{◌≡◌, take}
-use Rattle.library_table.specs.UnitsRead.{forms_of}
+use Rattle.unit_sources.specs.UnitsRead.{forms_of}
 use Rattle.scheme_model.specs.Sites.{names_in_forms}
 use Rattle.document_units.proofs.identifiers.names_of.Given as goal
 

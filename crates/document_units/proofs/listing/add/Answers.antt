@@ -1,7 +1,7 @@
 -- One unit more.
 use Rattle.std.proofs.Common.{◌≡◌, ◌<◌, ◌+◌, ℕ, List, length, map, refl, ap, ◌∙◌, arith}
-use Rattle.library_table.specs.declared.units.UnitForm.{UnitForm}
-use Rattle.library_table.specs.UnitsRead.{forms_of}
+use Rattle.unit_sources.specs.declared.units.UnitForm.{UnitForm}
+use Rattle.unit_sources.specs.UnitsRead.{forms_of}
 use Rattle.scheme_model.specs.Declarations.{unit_or}
 use Rattle.scheme_model.specs.Sites.{names_in_forms}
 use Rattle.core_tree.specs.Units.{ranges_from}

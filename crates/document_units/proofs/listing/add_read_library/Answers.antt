@@ -5,9 +5,9 @@ use Rattle.scheme_model.specs.Included.{all_texts}
 use Rattle.scheme_tokens.specs.LibraryNames.{library_text}
 use Rattle.core_tree.specs.Units.{kind_as}
 use Rattle.included_forms.proofs.ServeLaws.{serve}
-use Rattle.library_table.specs.UnitsRead.{forms_of}
-use Rattle.library_table.specs.declared.units.UnitForm.{UnitForm}
-use Rattle.library_table.specs.declared.units.UnitSource.{UnitSource}
+use Rattle.unit_sources.specs.UnitsRead.{forms_of}
+use Rattle.unit_sources.specs.declared.units.UnitForm.{UnitForm}
+use Rattle.unit_sources.specs.declared.units.UnitSource.{UnitSource}
 use Rattle.datum_reader.specs.Views.{datum_of}
 use Rattle.document_units.specs.DataRead.{data_at}
 use Rattle.document_units.specs.WereRead.{WereRead}

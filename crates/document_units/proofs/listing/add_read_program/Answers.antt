@@ -7,7 +7,7 @@ use Rattle.scheme_model.specs.IncludedUnits.{program_in}
 use Rattle.scheme_model.specs.Includes.{program_data}
 use Rattle.core_tree.specs.Units.{kind_as}
 use Rattle.included_forms.proofs.ServeLaws.{serve}
-use Rattle.library_table.specs.UnitsRead.{forms_of}
+use Rattle.unit_sources.specs.UnitsRead.{forms_of}
 use Rattle.datum_reader.specs.Views.{data_of}
 use Rattle.document_units.specs.DataRead.{AllRead, data_at}
 use Rattle.document_units.specs.Listing.{IsOneOf}

@@ -1,5 +1,5 @@
 use Rattle.std.proofs.Common.{◌≡◌, take}
-use Rattle.library_table.specs.UnitsRead.{forms_of}
+use Rattle.unit_sources.specs.UnitsRead.{forms_of}
 use Rattle.core_tree.specs.Units.{ranges_from}
 use Rattle.document_units.proofs.listing.ranges_of.Given as goal
 

@@ -5,7 +5,7 @@ use Rattle.datum_reader.specs.Seeded.{seeded_as}
 use Rattle.datum_reader.specs.Views.{datum_of}
 use Rattle.syntax_tree.specs.Works.{StandsFor}
 use Rattle.syntax_tree.specs.Regions.{itself}
-use Rattle.library_table.specs.UnitsRead.{form_of}
+use Rattle.unit_sources.specs.UnitsRead.{form_of}
 use Rattle.unit_scopes.specs.Units.{declared}
 use Rattle.unit_scopes.proofs.FreshLaws.{none_count}
 use Rattle.unit_scopes.proofs.OutcomeLaws.{grows_on}

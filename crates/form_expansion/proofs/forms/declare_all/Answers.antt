@@ -2,7 +2,7 @@ use Rattle.std.proofs.Common.{◌≡◌, ℕ, suc, ◌+◌, ◌≤◌, List, dro
 use Rattle.std.proofs.lemmas.List.{length_push}
 use Rattle.scheme_model.specs.Ident.{Written}
 use Rattle.scheme_model.specs.ScopedProgram.{forms_over}
-use Rattle.library_table.specs.UnitsRead.{forms_of}
+use Rattle.unit_sources.specs.UnitsRead.{forms_of}
 use Rattle.form_expansion.specs.declared.forms.Declared as code
 use Rattle.form_expansion.proofs.BenchLaws.{grows_then, stays_itself, stays_on}
 use Rattle.form_expansion.specs.Forms.{used_by}

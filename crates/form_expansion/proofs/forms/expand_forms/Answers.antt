@@ -3,7 +3,7 @@ use Rattle.std.proofs.Common.{sym, ◌∙◌}
 use Rattle.form_expansion.proofs.BenchLaws.{grows_then, stays_on}
 use Rattle.form_expansion.proofs.FormsHold.{held_bench}
 use Rattle.form_expansion.proofs.FormsUnfold.{passing_unfolds, passing_steps, can_finish_all, finishing_unfolds, all_unfolds, all_steps}
-use Rattle.library_table.specs.UnitsRead.{forms_of}
+use Rattle.unit_sources.specs.UnitsRead.{forms_of}
 use Rattle.form_expansion.proofs.forms.expand_forms.Goals as goal
 
 pub finish_all-requires-clause-region : goal.finish_all-requires-clause-region

@@ -2,7 +2,7 @@ use Rattle.std.proofs.Common.{List, length, sym, ap, ◌∙◌, subst}
 use Rattle.core_tree.specs.Units.{FormsStand, definitions_from}
 use Rattle.core_tree.specs.declared.units.UnitForm as code
 use Rattle.scheme_model.specs.Program.{with_refused}
-use Rattle.library_table.specs.UnitsRead.{forms_of}
+use Rattle.unit_sources.specs.UnitsRead.{forms_of}
 use Rattle.form_expansion.specs.Forms.{AreFormed}
 use Rattle.form_expansion.specs.Refused.{refused_forms}
 use Rattle.form_expansion.proofs.RefusedLaws.{any_formed, refused_definitions, refused_length, refused_stand}

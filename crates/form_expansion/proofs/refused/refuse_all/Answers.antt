@@ -2,7 +2,7 @@ use Rattle.std.proofs.Common.{◌≡◌, ℕ, ◌+◌, ◌<◌, List, Some, leng
 use Rattle.std.proofs.lemmas.List.{take_all}
 use Rattle.std.proofs.lemmas.Option.{slice_get_read}
 use Rattle.core_tree.specs.declared.units.UnitForm as code
-use Rattle.library_table.specs.declared.units.UnitForm as source
+use Rattle.unit_sources.specs.declared.units.UnitForm as source
 use Rattle.form_expansion.specs.Refused.{refused_forms, refused_if}
 use Rattle.form_expansion.proofs.RefusedLaws.{refused_length, refused_step}
 use Rattle.form_expansion.proofs.refused.refuse_all.Goals as goal

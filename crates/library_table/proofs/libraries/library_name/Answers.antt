@@ -4,7 +4,7 @@ use Rattle.scheme_model.specs.Data.{Datum, place_of}
 use Rattle.scheme_model.specs.Declarations.{library_name}
 use Rattle.scheme_tokens.specs.LibraryNames.{library_text}
 use Rattle.datum_reader.specs.Views.{datum_of}
-use Rattle.library_table.proofs.NameRows.{unnamed, other_unnamed}
+use Rattle.unit_sources.proofs.NameRows.{unnamed, other_unnamed}
 use Rattle.library_table.proofs.libraries.library_name.Goals as goal
 
 pub returns-in-List : goal.returns-in-List

@@ -3,7 +3,7 @@ use Rattle.scheme_model.specs.Data.{place_of}
 use Rattle.scheme_model.specs.Declarations.{IsLibrary, behind_head, library_name}
 use Rattle.scheme_model.specs.IncludedUnits.{library_listing, own}
 use Rattle.datum_reader.specs.Views.{datum_of}
-use Rattle.library_table.specs.UnitsRead.{kind_of}
+use Rattle.unit_sources.specs.UnitsRead.{kind_of}
 use Rattle.library_table.proofs.ListingRows.{unit_ends, unit_made}
 use Rattle.library_table.proofs.libraries.read_unit.Goals as goal
 

@@ -1,5 +1,5 @@
 use Rattle.std.proofs.Common.{◌≡◌, IfOk, List, ℕ, Option, subst}
-use Rattle.library_table.proofs.NameRows.{none_behind, one_alone, second_there}
+use Rattle.unit_sources.proofs.NameRows.{none_behind, one_alone, second_there}
 use Rattle.library_table.proofs.libraries.second_name.Goals as goal
 
 pub returns-in-Empty : goal.returns-in-Empty

@@ -6,7 +6,7 @@ use Rattle.scheme_tokens.specs.LibraryNames.{library_text}
 use Rattle.datum_reader.specs.Views.{datum_of}
 use Rattle.datum_reader.specs.declared.shape_fault.ShapeFault.{ShapeFault}
 use Rattle.known_libraries.specs.PartsRead.{Fails, map_ok}
-use Rattle.library_table.proofs.NameRows.{alone, text_there, no_text}
+use Rattle.unit_sources.proofs.NameRows.{alone, text_there, no_text}
 use Rattle.library_table.proofs.libraries.text_of.Goals as goal
 
 pub returns-in-Ok : goal.returns-in-Ok

@@ -2,8 +2,8 @@ use Rattle.std.proofs.Common.{map, arith}
 use Rattle.scheme_model.specs.Declarations.{plain_form}
 use Rattle.scheme_model.specs.Includes.{program_data}
 use Rattle.datum_reader.specs.Views.{data_of}
-use Rattle.library_table.specs.UnitsRead.{forms_of}
-use Rattle.library_table.proofs.ProgramRows.{plain_more, plain_end}
+use Rattle.unit_sources.specs.UnitsRead.{forms_of}
+use Rattle.unit_sources.proofs.ProgramRows.{plain_more, plain_end}
 use Rattle.library_table.proofs.programs.plain_forms.Goals as goal
 
 pub loop-datum-preserved : goal.loop-datum-preserved

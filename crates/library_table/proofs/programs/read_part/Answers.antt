@@ -1,8 +1,8 @@
 use Rattle.std.proofs.Common.{refl, ap, ◌∙◌}
 use Rattle.scheme_model.specs.Includes.{program_data}
 use Rattle.datum_reader.specs.Views.{data_of}
-use Rattle.library_table.specs.UnitsRead.{forms_of}
-use Rattle.library_table.proofs.ProgramRows.{part_read}
+use Rattle.unit_sources.specs.UnitsRead.{forms_of}
+use Rattle.unit_sources.proofs.ProgramRows.{part_read}
 use Rattle.library_table.proofs.programs.read_part.Goals as goal
 
 pub returns : goal.returns

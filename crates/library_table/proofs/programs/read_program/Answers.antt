@@ -5,7 +5,7 @@ use Rattle.scheme_model.specs.Included.{forms_of}
 use Rattle.scheme_model.specs.IncludedUnits.{UnitSource, importing, own, source_by}
 use Rattle.scheme_model.specs.Includes.{program_data}
 use Rattle.datum_reader.specs.Views.{data_of}
-use Rattle.library_table.specs.UnitsRead.{kind_of, IsSource, IsUnitRead}
+use Rattle.unit_sources.specs.UnitsRead.{kind_of, IsSource, IsUnitRead}
 use Rattle.library_table.proofs.ListingRows.{unit_ends, unit_made, one_unit}
 use Rattle.library_table.proofs.programs.read_program.Goals as goal
 

@@ -1,6 +1,7 @@
 use Rattle.std.proofs.Common.{◌≡◌, ◌++◌, drop, map}
 use Rattle.included_forms.specs.Steps.{form_of as listed_form}
-use Rattle.library_table.specs.UnitsRead.{forms_of, forms_left}
+use Rattle.unit_sources.specs.UnitsRead.{forms_of}
+use Rattle.library_table.specs.ListingsRead.{forms_left}
 use Rattle.library_table.proofs.reading.copied.Given as goal
 
 abbrev pub invariant-loop-form : goal.invariant-loop-form

@@ -3,7 +3,8 @@ use Rattle.included_forms.specs.declared.given.LostString.{LostString}
 use Rattle.included_forms.specs.declared.steps.FlatForm.{FlatForm}
 use Rattle.included_forms.specs.Counted.{lost_of}
 use Rattle.included_forms.specs.Steps.{form_of as listed_form}
-use Rattle.library_table.specs.UnitsRead.{forms_left, lost_as}
+use Rattle.unit_sources.specs.UnitsRead.{lost_as}
+use Rattle.library_table.specs.ListingsRead.{forms_left}
 use Rattle.library_table.proofs.ListingRows.{lists_read, bad_read, long_read}
 use Rattle.library_table.proofs.reading.forms_listed.Goals as goal
 

@@ -3,8 +3,8 @@ use Rattle.std.proofs.Common.{◌≡◌, List, length, sym, ap, ◌∙◌, subst
 use Rattle.scheme_model.specs.Program.{form_trees, with_refused}
 use Rattle.core_tree.specs.Units.{FormsStand}
 use Rattle.form_expansion.specs.Ends.{numbers_of}
-use Rattle.library_table.specs.UnitsRead.{forms_of}
-use Rattle.library_table.specs.declared.units.UnitForm.{UnitForm}
+use Rattle.unit_sources.specs.UnitsRead.{forms_of}
+use Rattle.unit_sources.specs.declared.units.UnitForm.{UnitForm}
 use Rattle.program_expansion.proofs.WorkedForms.{blank_are, blank_definitions, blank_stands, other_worked, part_worked}
 use Rattle.program_expansion.proofs.expanding.all_forms.Goals as goal
 

@@ -12,8 +12,8 @@ use Rattle.core_tree.specs.Names.{AllMatch}
 use Rattle.core_tree.specs.Units.{FormsStand, AreDefinitions, definitions_from, defined_by}
 use Rattle.core_tree.specs.declared.cores.Binder.{Binder}
 use Rattle.core_tree.specs.declared.units.UnitForm as core
-use Rattle.library_table.specs.UnitsRead.{form_of, forms_of}
-use Rattle.library_table.specs.declared.units.UnitForm.{UnitForm}
+use Rattle.unit_sources.specs.UnitsRead.{form_of, forms_of}
+use Rattle.unit_sources.specs.declared.units.UnitForm.{UnitForm}
 use Rattle.unit_scopes.specs.Opened.{AreNumbered}
 use Rattle.unit_scopes.specs.State.{is_program}
 use Rattle.unit_scopes.specs.declared.scope.Imported.{Imported}

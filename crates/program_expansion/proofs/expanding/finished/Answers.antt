@@ -8,8 +8,8 @@ use Rattle.syntax_tree.specs.declared.units.Entry.{Entry}
 use Rattle.core_tree.specs.Units.{AreDefinitions, FormsStand, definitions_from, defined_by, export_errors, form_errors}
 use Rattle.core_tree.specs.declared.cores.Binder.{Binder}
 use Rattle.core_tree.specs.declared.units.UnitForm.{UnitForm}
-use Rattle.library_table.specs.declared.units.ImportSpec.{ImportSpec}
-use Rattle.library_table.specs.UnitsRead.{forms_of}
+use Rattle.unit_sources.specs.declared.units.ImportSpec.{ImportSpec}
+use Rattle.unit_sources.specs.UnitsRead.{forms_of}
 use Rattle.document_units.specs.UnitSources.{IsSpec}
 use Rattle.core_tree.specs.Names.{AllMatch}
 use Rattle.unit_scopes.proofs.ImportLaws.{same_trees}

@@ -18,7 +18,7 @@ use Rattle.document_units.specs.Places.{AreFoundIn, AreHeads, AreHeadsIn, ArePla
 use Rattle.document_units.specs.Readings.{AreDocuments, program_in}
 use Rattle.program_expansion.specs.UnitsFound.{IsTold}
 use Rattle.document_units.proofs.BrokenLaws.{heads_itself, heads_in, head_set}
-use Rattle.library_table.specs.declared.units.UnitForm.{UnitForm as SourceForm}
+use Rattle.unit_sources.specs.declared.units.UnitForm.{UnitForm as SourceForm}
 use Rattle.unit_imports.specs.Collected.{IsNothing}
 use Rattle.document_units.specs.declared.documents.Document.{Document}
 use Rattle.unit_imports.proofs.Collecting.{AreCollectedSo, none_collected, one_collected, has_come, set_other}

@@ -9,9 +9,9 @@ use Rattle.scheme_model.specs.ScopedProgram.{scoped_before, scoped_program_of}
 use Rattle.model_laws.proofs.FramePrograms.{program_law}
 use Rattle.base_library.proofs.StandardTexts as standard
 use Rattle.datum_reader.specs.Views.{data_of as code_data}
-use Rattle.library_table.specs.declared.units.UnitSource.{UnitSource}
-use Rattle.library_table.specs.Named.{place_named}
-use Rattle.library_table.specs.Orders.{ArePlaces}
+use Rattle.unit_sources.specs.declared.units.UnitSource.{UnitSource}
+use Rattle.unit_sources.specs.Named.{place_named}
+use Rattle.unit_sources.specs.Orders.{ArePlaces}
 use Rattle.unit_scopes.specs.Preluded.{prelude_state}
 use Rattle.unit_scopes.specs.declared.scope.UnitScope.{UnitScope}
 use Rattle.unit_scopes.proofs.PreludeLaws.{prelude_continues}

@@ -3,7 +3,7 @@ use Rattle.std.proofs.Common.{◌≡◌, ◌<◌, ◌+◌, ◌++◌, ◌∷◌, 
 use Rattle.std.proofs.lemmas.Option.{slice_get_read}
 use Rattle.scheme_model.specs.Declarations.{forms_hold}
 use Rattle.scheme_model.specs.Diagnostics.{bytes_of}
-use Rattle.library_table.specs.UnitsRead.{forms_of}
+use Rattle.unit_sources.specs.UnitsRead.{forms_of}
 use Rattle.core_tree.specs.Traces.{IsFault}
 use Rattle.document_units.specs.Places.{spans_of}
 use Rattle.document_units.specs.Diagnosed.{fault_found}

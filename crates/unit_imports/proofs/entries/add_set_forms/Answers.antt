@@ -1,6 +1,6 @@
 -- A declaration has a set for each part behind its head, and another form has none.
 use Rattle.std.proofs.Common.{◌++◌, List, ℕ, append-nil, sym, ap, ◌∙◌}
-use Rattle.library_table.specs.UnitsRead.{form_of}
+use Rattle.unit_sources.specs.UnitsRead.{form_of}
 use Rattle.unit_imports.proofs.SetErrors.{sets_in, no_sets_in}
 use Rattle.unit_imports.proofs.entries.add_set_forms.Goals as goal
 

@@ -5,7 +5,7 @@ use Rattle.std.proofs.lemmas.Option.{slice_get_read}
 use Rattle.scheme_model.specs.Declarations.{UnitForm}
 use Rattle.scheme_model.specs.Program.{ImportSpec, specs_in}
 use Rattle.core_tree.specs.Units.{set_forms}
-use Rattle.library_table.specs.UnitsRead.{form_of, forms_of}
+use Rattle.unit_sources.specs.UnitsRead.{form_of, forms_of}
 use Rattle.unit_imports.proofs.Collecting.{mapped_at}
 use Rattle.unit_imports.proofs.GivenLaws.{drop_past}
 use Rattle.unit_imports.proofs.SetErrors.{forms_next}

@@ -1,6 +1,6 @@
 use Rattle.std.proofs.Common.{◌≡◌, ◌++◌, ℕ, drop}
 use Rattle.core_tree.specs.Units.{set_forms}
-use Rattle.library_table.specs.UnitsRead.{forms_of}
+use Rattle.unit_sources.specs.UnitsRead.{forms_of}
 use Rattle.unit_imports.proofs.entries.set_forms.Given as goal
 
 -- the sets so far, and those of the forms that are left

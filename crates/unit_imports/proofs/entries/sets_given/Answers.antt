@@ -4,10 +4,10 @@ use Rattle.scheme_model.specs.Diagnostics.{document_of, bytes_of, set_found}
 use Rattle.scheme_model.specs.Program.{ImportSpec, import_all}
 use Rattle.core_tree.specs.Names.{AllMatch}
 use Rattle.core_tree.specs.Units.{set_errors, set_forms}
-use Rattle.library_table.specs.UnitsRead.{forms_of}
-use Rattle.library_table.specs.declared.units.UnitForm.{UnitForm}
+use Rattle.unit_sources.specs.UnitsRead.{forms_of}
+use Rattle.unit_sources.specs.declared.units.UnitForm.{UnitForm}
 use Rattle.import_sets.specs.Given.{Gathered}
-use Rattle.library_table.specs.declared.units.ImportSpec as code
+use Rattle.unit_sources.specs.declared.units.ImportSpec as code
 use Rattle.document_units.specs.Findings.{all_told, errors_in}
 use Rattle.document_units.specs.Places.{number_at, spans_of}
 use Rattle.unit_imports.specs.Joining.{AreApart, GroupsMean}

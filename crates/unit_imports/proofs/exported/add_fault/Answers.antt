@@ -3,9 +3,9 @@ use Rattle.std.proofs.lemmas.Option.{same_Some}
 use Rattle.document_units.proofs.Nths.{get_some, get_none}
 use Rattle.scheme_model.specs.Program.{NotDefined, SameExport}
 use Rattle.scheme_model.specs.Diagnostics.{bytes_of, export_diagnostics, or_start}
-use Rattle.library_table.specs.Exports.{IsFault}
-use Rattle.library_table.specs.Sources.{IsExport}
-use Rattle.library_table.specs.declared.units.ExportSpec.{ExportSpec}
+use Rattle.unit_sources.specs.Exports.{IsFault}
+use Rattle.unit_sources.specs.Sources.{IsExport}
+use Rattle.unit_sources.specs.declared.units.ExportSpec.{ExportSpec}
 use Rattle.core_tree.specs.Units.{export_errors}
 use Rattle.document_units.specs.Findings.{all_told, error_by, errors_in}
 use Rattle.document_units.specs.Places.{spans_of}

@@ -2,10 +2,10 @@ use Rattle.std.proofs.Common.{List, [], ◌+◌, ◌++◌, ◌∙◌, append-nil
 use Rattle.scheme_model.specs.Entries as model
 use Rattle.scheme_model.specs.Program as program
 use Rattle.scheme_model.specs.Diagnostics.{bytes_of}
-use Rattle.library_table.specs.Exports.{AreFaults}
-use Rattle.library_table.specs.Sources.{AreExports}
-use Rattle.library_table.specs.declared.exporting.ExportFault as code_fault
-use Rattle.library_table.specs.declared.units.ExportSpec as code_export
+use Rattle.unit_sources.specs.Exports.{AreFaults}
+use Rattle.unit_sources.specs.Sources.{AreExports}
+use Rattle.unit_sources.specs.declared.exporting.ExportFault as code_fault
+use Rattle.unit_sources.specs.declared.units.ExportSpec as code_export
 use Rattle.core_tree.specs.Units.{export_errors}
 use Rattle.document_units.specs.Findings.{all_told, errors_in}
 use Rattle.document_units.specs.Places.{spans_of}

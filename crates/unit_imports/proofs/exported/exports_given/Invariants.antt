@@ -1,8 +1,8 @@
 use Rattle.std.proofs.Common.{◌≡◌, ◌++◌, List, length, drop}
 use Rattle.scheme_model.specs.Program.{ExportSpec, ExportFault, UnitResult}
 use Rattle.scheme_model.specs.Diagnostics.{bytes_of, export_diagnostics}
-use Rattle.library_table.specs.Exports.{AreFaults}
-use Rattle.library_table.specs.Sources.{AreExports}
+use Rattle.unit_sources.specs.Exports.{AreFaults}
+use Rattle.unit_sources.specs.Sources.{AreExports}
 use Rattle.core_tree.specs.Units.{export_errors}
 use Rattle.document_units.specs.Findings.{all_told, errors_in}
 use Rattle.document_units.specs.Places.{AreFoundIn, ArePlaces, spans_of}

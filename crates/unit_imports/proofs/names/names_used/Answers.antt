@@ -4,9 +4,9 @@ use Rattle.scheme_model.specs.ProgramArrows.{import_uses}
 use Rattle.core_tree.specs.Names.{AllMatch}
 use Rattle.core_tree.specs.Units.{AreNames, given_exports}
 use Rattle.core_tree.specs.declared.units.NameUse.{NameUse}
-use Rattle.library_table.specs.Sources.{AreExports}
-use Rattle.library_table.specs.declared.units.ExportSpec.{ExportSpec}
-use Rattle.library_table.specs.declared.units.ImportSpec.{ImportSpec}
+use Rattle.unit_sources.specs.Sources.{AreExports}
+use Rattle.unit_sources.specs.declared.units.ExportSpec.{ExportSpec}
+use Rattle.unit_sources.specs.declared.units.ImportSpec.{ImportSpec}
 use Rattle.document_units.specs.UnitSources.{IsSpec}
 use Rattle.unit_imports.specs.declared.names.Identifiers.{Identifiers}
 use Rattle.unit_imports.proofs.UsedLaws.{adds_then, finds_kept, names_all}

@@ -3,7 +3,7 @@ use Rattle.scheme_model.specs.Entries.{Entry}
 use Rattle.scheme_model.specs.Live.{all_export_uses}
 use Rattle.scheme_model.specs.Program.{ExportSpec}
 use Rattle.syntax_tree.specs.Names.{KeepsNames}
-use Rattle.library_table.specs.Sources.{AreExports}
+use Rattle.unit_sources.specs.Sources.{AreExports}
 use Rattle.unit_imports.specs.Defined.{FindsNames}
 use Rattle.unit_imports.specs.NamesUsed.{AddsNames}
 use Rattle.unit_imports.proofs.names.Identifiers.add_exports.Given as goal

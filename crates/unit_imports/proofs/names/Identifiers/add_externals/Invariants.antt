@@ -3,7 +3,7 @@ use Rattle.std.specs.BTreeSet.{contains_text}
 use Rattle.scheme_model.specs.Entries.{Entry}
 use Rattle.scheme_model.specs.Program.{ExportSpec}
 use Rattle.syntax_tree.specs.Names.{KeepsNames}
-use Rattle.library_table.specs.Sources.{AreExports}
+use Rattle.unit_sources.specs.Sources.{AreExports}
 use Rattle.unit_imports.specs.Defined.{FindsNames}
 use Rattle.unit_imports.proofs.UsedLaws.{ExternalsSoFar}
 use Rattle.unit_imports.proofs.names.Identifiers.add_externals.Given as goal

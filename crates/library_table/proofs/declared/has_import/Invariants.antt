@@ -1,8 +1,0 @@
-use Rattle.std.proofs.Common.{◌≡◌, drop}
-use Rattle.std.specs.List.{list_any}
-use Rattle.scheme_model.specs.Program.{is_import}
-use Rattle.library_table.specs.UnitsRead.{forms_of}
-use Rattle.library_table.proofs.declared.has_import.Given as goal
-
-abbrev pub invariant-loop-form : goal.invariant-loop-form
-invariant-loop-form l = list_any is_import (forms_of (drop l.form-index l.forms)) ≡ list_any is_import (forms_of l.forms)

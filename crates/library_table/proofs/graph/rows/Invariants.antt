@@ -1,7 +1,0 @@
-use Rattle.std.proofs.Common.{take}
-use Rattle.std.specs.BTreeMap.{get_by_text}
-use Rattle.library_table.specs.Graphs.{SameRows, rows_of}
-use Rattle.library_table.proofs.graph.rows.Given as goal
-
-abbrev pub invariant-loop-unit : goal.invariant-loop-unit
-invariant-loop-unit l = SameRows l.rows.items (rows_of (λ s. get_by_text l.firsts s) (take l.unit-index l.units))

@@ -1,5 +1,0 @@
-use Rattle.library_table.proofs.SpelledSources.{imports_spelled, source_spelled}
-use Rattle.library_table.proofs.laws.names_are_read.Goals as goal
-
-pub returns : goal.returns
-returns c = record { imports = imports_spelled; name = source_spelled }

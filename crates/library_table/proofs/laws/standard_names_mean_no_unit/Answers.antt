@@ -1,5 +1,0 @@
-use Rattle.library_table.proofs.StandardLaws.{no_unit}
-use Rattle.library_table.proofs.laws.standard_names_mean_no_unit.Goals as goal
-
-pub returns : goal.returns
-returns c all n h = no_unit n h all 0

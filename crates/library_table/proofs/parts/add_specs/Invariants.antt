@@ -1,9 +1,0 @@
-use Rattle.std.proofs.Common.{◌∷◌, []}
-use Rattle.scheme_model.specs.Program.{spec_of}
-use Rattle.datum_reader.specs.Views.{datum_of}
-use Rattle.library_table.specs.SetsRead.{IsImportSpec}
-use Rattle.library_table.proofs.Gathering.{GatheredUpTo}
-use Rattle.library_table.proofs.parts.add_specs.Given as goal
-
-abbrev pub invariant-loop-datum : goal.invariant-loop-datum
-invariant-loop-datum l = GatheredUpTo IsImportSpec (λ k d. spec_of l.home.unit l.home.form l.home.first (datum_of d) ∷ []) l.parts l.datum-index l.initial.specs l.specs

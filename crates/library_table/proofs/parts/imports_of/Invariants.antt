@@ -1,8 +1,0 @@
-use Rattle.scheme_model.specs.Program.{specs_in}
-use Rattle.library_table.specs.SetsRead.{IsImportSpec}
-use Rattle.library_table.specs.UnitsRead.{form_of}
-use Rattle.library_table.proofs.Gathering.{GatheredUpTo}
-use Rattle.library_table.proofs.parts.imports_of.Given as goal
-
-abbrev pub invariant-loop-place : goal.invariant-loop-place
-invariant-loop-place l = GatheredUpTo IsImportSpec (λ k f. specs_in l.unit k (form_of f)) l.forms l.place l.initial.specs l.specs
