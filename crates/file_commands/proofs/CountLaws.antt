@@ -13,7 +13,7 @@ use Rattle.document_store.proofs.Events.{adds}
 use Rattle.document_units.specs.Readings.{AreReadAs, Read}
 use Rattle.program_answers.proofs.TextLists.{some_row}
 use Rattle.program_expansion.specs.UsesInTurn.{uses_in}
-use Rattle.workspace_state.specs.Events.{leaves}
+use Rattle.document_changes.specs.Events.{leaves}
 use Rattle.rename_conditions.specs.Readers.{IsReader, Reader}
 use Rattle.rename_planner.specs.ToldRenames.{rename_uses, text_uses, texts_of, uris_of}
 use Rattle.rename_planner.specs.declared.faults.RenameFault.{RenameFault}

@@ -13,7 +13,7 @@ use Rattle.program_answers.proofs.TextLists.{some_row}
 use Rattle.program_expansion.specs.UsesInTurn.{uses_in}
 use Rattle.rename_conditions.specs.Readers.{IsReader, Reader}
 use Rattle.rename_planner.proofs.ReadingLaws.{uses_one}
-use Rattle.workspace_state.specs.Events.{leaves}
+use Rattle.document_changes.specs.Events.{leaves}
 use Rattle.generated_workspace.specs.Selfrun.{uses_of}
 
 or_right : (b c : Bool) → c ≡ true → (b || c) ≡ true

@@ -17,9 +17,9 @@ use Rattle.program_differences.specs.declared.plan.Difference as code
 use Rattle.rename_model.specs.Difference.{Difference}
 use Rattle.rename_laws.proofs.GivenLaws.{exports_are_given}
 use Rattle.rename_conditions.specs.Renames.{Differs, unless}
-use Rattle.workspace_state.specs.Edited.{edited_documents, edited_texts}
+use Rattle.document_changes.specs.Edited.{edited_documents, edited_texts}
 use Rattle.workspace_state.specs.ProgramOfTexts.{IsProgramOfTexts}
-use Rattle.workspace_state.proofs.EditedLaws.{edited_entries}
+use Rattle.document_changes.proofs.EditedLaws.{edited_entries}
 use Rattle.rename_planner.specs.Planning.{ComesTo, Holds}
 use Rattle.rename_planner.specs.ToldRenames.{uris_of}
 use Rattle.rename_planner.specs.declared.faults.RenameFault.TheVariants as faults

@@ -24,7 +24,7 @@ use Rattle.text_edits.specs.Members.{class_edits, identifiers_of, members_of, na
 use Rattle.text_edits.specs.Views.{AreCuts, edit_of, edit_told}
 use Rattle.text_edits.specs.declared.edits.Edit as code
 use Rattle.class_edits.specs.DocumentEdits.{CanEditAll, all_edited, edits_from, edits_of_class, seen, told, told_of, too_long}
-use Rattle.workspace_state.specs.Edited.{CanEdit, edit_in, edited_documents, edits_for, edits_in}
+use Rattle.document_changes.specs.Edited.{CanEdit, edit_in, edited_documents, edits_for, edits_in}
 use Rattle.rename_planner.specs.ToldRenames.{texts_of}
 use Rattle.rename_planner.proofs.DistinctLaws.{uris_distinct}
 use Rattle.rename_planner.proofs.ClassEnds.{class_back, told_back}

@@ -15,7 +15,7 @@ ghost use Rattle.class_edits.specs.DocumentEdits.{CanEditAll, edits_of_class, se
 ghost use Rattle.class_edits.specs.Named.{AreNamed};
 ghost use Rattle.program_differences.specs.Exported.{changes_as};
 ghost use Rattle.rename_conditions.specs.Readers.{Reader, IsReader};
-ghost use Rattle.workspace_state.specs.Edited.{CanEdit};
+ghost use Rattle.document_changes.specs.Edited.{CanEdit};
 ghost use Rattle.rename_planner.specs.Changes.{all_changes, change_told, named_at, occ_from_end, unit_changes};
 ghost use Rattle.rename_planner.specs.Planning.{ComesTo, IsNamed, IsOpenText, IsPlanned, named_in, planned_in};
 ghost use Rattle.rename_planner.specs.ReadDocuments.{read_as};

@@ -6,7 +6,7 @@ use Rattle.document_units.specs.Readings.{documents_in, program_in}
 use Rattle.rename_model.specs.Difference as difference
 use Rattle.program_differences.specs.Differences.{AreOne, plan_as}
 use Rattle.workspace_state.specs.ProgramOfTexts.{IsProgramOfTexts}
-use Rattle.workspace_state.specs.Edited.{edited_texts}
+use Rattle.document_changes.specs.Edited.{edited_texts}
 use Rattle.rename_laws.proofs.GivenLaws.{exports_are_given}
 use Rattle.rename_planner.specs.ToldRenames.{uris_of}
 use Rattle.rename_planner.proofs.CompareLaws.{comparable, differs, new_stands, same_program}
