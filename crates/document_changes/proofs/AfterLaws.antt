@@ -6,7 +6,7 @@ use Rattle.document_store.specs.Faults.{Follows, Refused}
 use Rattle.document_store.specs.declared.faults.StoreFault.{StoreFault}
 use Rattle.document_store.specs.declared.faults.StoreFault.TheVariants as faults
 use Rattle.document_changes.specs.Events.{fault_of}
-use Rattle.document_units.specs.Stored.{IsFault, IsRefusal}
+use Rattle.read_documents.specs.Stored.{IsFault, IsRefusal}
 
 by_fault : (fault : StoreFault) (old new : Texts) (event : Texts × Option Refusal) (refused : Option StoreFault) → Refused fault old new event → IsFault fault refused →
     (new ≡ event.0) × (refused ≡ option_map fault_of event.1)

@@ -4,16 +4,16 @@ ghost use Rattle.std.specs.Option.{option_map};
 ghost use Rattle.std.specs.FinMap.{entries};
 ghost use Rattle.ls_base.specs.Limits.{max_documents};
 ghost use Rattle.ls_base.specs.Positions.{offset_of};
-ghost use Rattle.document_units.specs.Stored.{CopiesTo};
+ghost use Rattle.read_documents.specs.Stored.{CopiesTo};
 ghost use Rattle.program_answers.specs.ToldAnswers.{text_of};
 ghost use Rattle.text_edits.specs.Views.{edit_of};
 ghost use Rattle.document_changes.specs.Edited as spec;
 
 use document_store::Store;
-use document_units::opened::{Opened, nth};
 use ls_base::limits::MAX_DOCUMENTS;
 use ls_base::{DocEdits, Encoding, Mem, Memory, Span, Text, TextEdit};
 use program_answers::open::Open;
+use read_documents::opened::{Opened, nth};
 use std::alloc::Global;
 use syntax_tree::texts::same_text;
 use text_edits::{Edit, edited_text};

@@ -2,12 +2,12 @@
 ghost use Rattle.std.specs.Prelude.{◌≡◌, ◌<◌, List, length, map, IfOk, IfSome};
 ghost use Rattle.scheme_model.specs.Includes.{Document as ModelDocument};
 ghost use Rattle.included_documents.specs.Meant.{uri_at};
-ghost use Rattle.document_units.specs.DataRead.{AreOpened};
+ghost use Rattle.read_documents.specs.DataRead.{AreOpened};
 ghost use Rattle.document_changes.specs.Parts.{mark_at, meant_by, parts_in};
 
-use document_units::documents::Document;
 use document_units::included::{uris_of, views_of};
 use ls_base::{Mem, Text};
+use read_documents::documents::Document;
 use std::alloc::Global;
 use text_parts::{TextPart, text_parts};
 

@@ -5,10 +5,10 @@ ghost use Rattle.rename_model.specs.Reach as model;
 ghost use Rattle.program_differences.specs.Reached.{HaveImports};
 
 use core_tree::units::Program;
-use document_units::form_numbers::number_of;
 use ls_base::{Items, Mem};
 use program_answers::classes::{Class, ClassPart};
 use program_differences::reach::in_reach;
+use read_documents::form_numbers::number_of;
 use scheme_model::Occ;
 use std::alloc::Global;
 

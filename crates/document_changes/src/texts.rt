@@ -7,13 +7,13 @@ ghost use Rattle.ls_base.specs.Limits.{max_documents};
 ghost use Rattle.document_store.specs.Texts as texts;
 ghost use Rattle.document_store.specs.Faults.{Follows};
 ghost use Rattle.document_changes.specs.Events.{event_of, fault_of};
-ghost use Rattle.document_units.specs.Stored.{IsRefusal, CopiesTo};
+ghost use Rattle.read_documents.specs.Stored.{IsRefusal, CopiesTo};
 
 use crate::events::DocEvent;
 use document_store::{Store, StoreFault};
-use document_units::opened::{Opened, nth};
 use ls_base::limits::MAX_DOCUMENTS;
 use ls_base::{Encoding, Mem, Memory};
+use read_documents::opened::{Opened, nth};
 use std::alloc::Global;
 
 /// The documents after an event, and why it was refused, if it was.

@@ -10,7 +10,7 @@ use Rattle.ls_base.specs.declared.encoding.Encoding.TheVariants.{Utf16}
 use Rattle.ls_base.specs.declared.places.Pos.{Pos}
 use Rattle.document_store.specs.Texts.{Added, Document, Refusal, Texts, after, has_room}
 use Rattle.document_store.proofs.Events.{adds}
-use Rattle.document_units.specs.Readings.{AreReadAs, Read}
+use Rattle.read_documents.specs.Readings.{AreReadAs, Read}
 use Rattle.program_answers.proofs.TextLists.{some_row}
 use Rattle.program_expansion.specs.UsesInTurn.{uses_in}
 use Rattle.document_changes.specs.Events.{leaves}

@@ -24,12 +24,12 @@ use Rattle.core_tree.specs.declared.units.Unit as code
 use Rattle.unit_sources.specs.UnitsRead.{form_of, forms_of}
 use Rattle.unit_sources.specs.declared.units.UnitSource.{UnitSource}
 use Rattle.program_expansion.specs.UnitResults.{CameTo, ComesTo, HaveCome}
-use Rattle.document_units.specs.UnitSources.{AreSourcesOf}
+use Rattle.read_documents.specs.UnitSources.{AreSourcesOf}
 use Rattle.unit_imports.specs.Collected.{IsCollected, AreCollected, IsHeadOf, AreHeadsOf}
-use Rattle.document_units.specs.UnitFindings.{HaveErrors}
+use Rattle.read_documents.specs.UnitFindings.{HaveErrors}
 use Rattle.document_units.specs.Turned.{turns, scoped_at}
 use Rattle.unit_imports.specs.declared.expanded.Expanded.{Expanded}
-use Rattle.document_units.specs.declared.listing.Head.{Head}
+use Rattle.read_documents.specs.declared.heads.Head.{Head}
 use Rattle.program_expansion.proofs.ProgramOf.{comes_last, defined_whole, defined_broken, unit_prepared, units_stand}
 use Rattle.document_units.proofs.TurnGraph.{as_many}
 use Rattle.program_expansion.proofs.TurnResults.{scoped_units}

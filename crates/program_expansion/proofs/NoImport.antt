@@ -8,14 +8,14 @@ use Rattle.scheme_model.specs.Diagnostics.{Span, at_bytes, unit_start}
 use Rattle.core_tree.specs.Units.{kind_as}
 use Rattle.unit_sources.specs.UnitsRead.{forms_of}
 use Rattle.unit_sources.specs.declared.units.UnitSource.{UnitSource}
-use Rattle.document_units.specs.declared.findings.At.{At}
-use Rattle.document_units.specs.declared.findings.Finding.{Finding}
-use Rattle.document_units.specs.Findings.{Adds, all_told, errors_in}
-use Rattle.document_units.specs.Places.{bytes_at, start_of}
+use Rattle.read_documents.specs.declared.findings.At.{At}
+use Rattle.read_documents.specs.declared.findings.Finding.{Finding}
+use Rattle.read_documents.specs.Findings.{Adds, all_told, errors_in}
+use Rattle.read_documents.specs.Places.{bytes_at, start_of}
 use Rattle.unit_imports.specs.SetsGiven.{ImportsAs}
 use Rattle.program_expansion.specs.UnitsFound.{no_import_diagnostics}
 use Rattle.scheme_model.specs.DiagnosticTexts.{worded}
-use Rattle.document_units.proofs.DiagnosedLaws.{adds_more}
+use Rattle.read_documents.proofs.DiagnosedLaws.{adds_more}
 use Rattle.program_expansion.proofs.UnitsFoundLaws.{adds_nothing}
 
 pub imports_alike : (spelled : LibraryName → List ℕ) (c : UnitSource) (p : Prepared) → ImportsAs spelled c p → (b : Bool) → b ≡ (is_program (kind_as c.kind) && not (list_any is_import (forms_of c.forms))) → imports_nothing p ≡ b

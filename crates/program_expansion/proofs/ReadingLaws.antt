@@ -5,11 +5,11 @@ use Rattle.syntax_tree.proofs.Places.{push_cases}
 use Rattle.syntax_tree.specs.declared.trees.Work.{Work}
 use Rattle.core_tree.specs.declared.units.Unit as unit
 use Rattle.unit_imports.specs.declared.expanded.Expanded.{Expanded}
-use Rattle.document_units.specs.declared.findings.At.{At}
-use Rattle.document_units.specs.Belongs.{AreErrorsIn}
+use Rattle.read_documents.specs.declared.findings.At.{At}
+use Rattle.read_documents.specs.Belongs.{AreErrorsIn}
 use Rattle.program_leaves.specs.Formed.{IsFormed, AreFormedIn}
 use Rattle.program_expansion.specs.Formed.{CameFormed}
-use Rattle.document_units.specs.Places.{AreFoundIn}
+use Rattle.read_documents.specs.Places.{AreFoundIn}
 use Rattle.program_expansion.specs.UnitsExpanded.{AreAllFound}
 
 abbrev IsErrorIn : ℕ → Option (At × ℕ) → Type 0

@@ -5,12 +5,12 @@ use Rattle.unit_sources.specs.UnitsRead.{forms_of}
 use Rattle.unit_sources.specs.declared.units.UnitForm as code_form
 use Rattle.unit_sources.specs.declared.units.UnitSource.{UnitSource}
 use Rattle.syntax_tree.proofs.Places.{none_some}
-use Rattle.document_units.specs.declared.listing.Head.{Head}
+use Rattle.read_documents.specs.declared.heads.Head.{Head}
 use Rattle.document_units.specs.declared.listing.Units.{Units}
-use Rattle.document_units.specs.Places.{HeadsStay, AreHeadsIn}
-use Rattle.document_units.specs.WereRead.{WereRead, AreSourcesRead}
+use Rattle.read_documents.specs.Places.{HeadsStay, AreHeadsIn}
+use Rattle.read_documents.specs.WereRead.{WereRead, AreSourcesRead}
 use Rattle.document_units.specs.Sound.{IsSound}
-use Rattle.document_units.specs.Broken.{SourcesStay}
+use Rattle.read_documents.specs.Broken.{SourcesStay}
 use Rattle.document_units.proofs.BrokenLaws.{heads_in}
 use Rattle.unit_imports.proofs.MeaningLaws.{there}
 

@@ -17,14 +17,14 @@ use Rattle.unit_sources.specs.UnitsRead.{lost_as}
 use Rattle.unit_sources.specs.declared.units.LostString as code
 use Rattle.unit_scopes.specs.Others.{InFront}
 use Rattle.unit_imports.specs.declared.expanded.Expanded.{Expanded}
-use Rattle.document_units.specs.declared.findings.Finding.{Finding}
+use Rattle.read_documents.specs.declared.findings.Finding.{Finding}
 use Rattle.program_expansion.specs.UnitResults.{so_far}
-use Rattle.document_units.specs.Findings.{Adds, all_told, errors_in}
-use Rattle.document_units.specs.Places.{spans_of}
-use Rattle.document_units.specs.Readings.{Read}
+use Rattle.read_documents.specs.Findings.{Adds, all_told, errors_in}
+use Rattle.read_documents.specs.Places.{spans_of}
+use Rattle.read_documents.specs.Readings.{Read}
 use Rattle.program_expansion.specs.UnitsFound.{in_the_end, AreSetsFound, HaveFound, no_import_diagnostics}
-use Rattle.document_units.specs.UnitFindings.{IsFoundOf}
-use Rattle.document_units.proofs.ChangedLaws.{set_cases}
+use Rattle.read_documents.specs.UnitFindings.{IsFoundOf}
+use Rattle.read_documents.proofs.ChangedLaws.{set_cases}
 use Rattle.unit_imports.proofs.HidingLaws.{hiding_same}
 use Rattle.program_expansion.proofs.UnitGoes.{IsOfUnit, others_define}
 use Rattle.program_expansion.proofs.UpTo.{test, other_result, own_result}

@@ -13,9 +13,9 @@ use Rattle.unit_imports.specs.declared.expanded.Expanded.{Expanded}
 use Rattle.program_leaves.specs.Formed.{IsFormed}
 use Rattle.program_expansion.specs.Formed.{CameFormed}
 use Rattle.unit_imports.specs.EntriesMeant.{HaveMeaning, ExportsMean}
-use Rattle.document_units.specs.Places.{AreFoundIn}
+use Rattle.read_documents.specs.Places.{AreFoundIn}
 use Rattle.program_expansion.specs.UnitsExpanded.{AreAllFound}
-use Rattle.document_units.proofs.ChangedLaws.{set_cases}
+use Rattle.read_documents.proofs.ChangedLaws.{set_cases}
 use Rattle.unit_imports.proofs.Collecting.{blank_stand}
 use Rattle.unit_imports.proofs.MeaningLaws.{mean_kept}
 

@@ -8,10 +8,10 @@ use Rattle.syntax_tree.specs.declared.trees.Work.{Work}
 use Rattle.core_tree.specs.Units.{ProgramStands}
 use Rattle.core_tree.specs.declared.units.Program.{Program}
 use Rattle.program_expansion.specs.declared.program.Reading.{Reading}
-use Rattle.document_units.specs.Listed.{AreFoundOf}
-use Rattle.document_units.specs.Readings.{AreReadAs, Read, documents_in, program_in}
+use Rattle.read_documents.specs.Listed.{AreFoundOf}
+use Rattle.read_documents.specs.Readings.{AreReadAs, Read, documents_in, program_in}
 use Rattle.program_leaves.specs.Formed.{AreFormedIn}
-use Rattle.document_units.specs.Belongs.{Belongs}
+use Rattle.read_documents.specs.Belongs.{Belongs}
 
 -- the program of texts that are read so
 abbrev pub HasProgram : Texts → List Read → Work → Program → Type 0

@@ -22,14 +22,14 @@ use Rattle.base_library.specs.Texts.{SpellsStandard}
 use Rattle.feature_requirements.specs.Judged.{Knows}
 use Rattle.unit_scopes.specs.Preluded.{Continues}
 use Rattle.unit_scopes.specs.Searched.{searched_unit_over}
-use Rattle.document_units.specs.Broken.{told}
+use Rattle.read_documents.specs.Broken.{told}
 use Rattle.form_expansion.specs.Forms.{StandsAt}
 use Rattle.document_units.specs.Turned.{scoped_at}
 use Rattle.unit_imports.specs.declared.expanded.Expanded.{Expanded}
 use Rattle.form_expansion.specs.declared.forms.Bench.{Bench}
-use Rattle.document_units.specs.declared.listing.Head.{Head}
+use Rattle.read_documents.specs.declared.heads.Head.{Head}
 use Rattle.document_units.specs.declared.listing.Units.{Units}
-use Rattle.document_units.specs.UnitSources.{AreSourcesOf}
+use Rattle.read_documents.specs.UnitSources.{AreSourcesOf}
 
 -- ---- sources
 

@@ -1,7 +1,7 @@
 -- What units came to, as far as it is sure whatever the units are.
 use Rattle.std.specs.Prelude.{◌≡◌, ℕ, List, slice_get, Option, Some}
 use Rattle.unit_imports.specs.declared.expanded.Expanded.{Expanded}
-use Rattle.document_units.specs.Places.{AreFoundIn}
+use Rattle.read_documents.specs.Places.{AreFoundIn}
 
 -- what is found in each stands in so many documents
 abbrev pub AreAllFound : (count : ℕ) → List (Option Expanded) → Type 0

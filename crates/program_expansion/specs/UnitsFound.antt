@@ -8,14 +8,14 @@ use Rattle.scheme_model.specs.ScopedProgram.{ScopedProgress}
 use Rattle.scheme_model.specs.Diagnostics.{Span, Diagnostic, document_of, at_bytes, bytes_of, set_diagnostics, unit_start}
 use Rattle.core_tree.specs.Units.{set_errors, set_forms}
 use Rattle.unit_imports.specs.declared.expanded.Expanded.{Expanded}
-use Rattle.document_units.specs.declared.findings.Finding.{Finding}
-use Rattle.document_units.specs.declared.listing.Head.{Head}
-use Rattle.document_units.specs.Broken.{told}
+use Rattle.read_documents.specs.declared.findings.Finding.{Finding}
+use Rattle.read_documents.specs.declared.heads.Head.{Head}
+use Rattle.read_documents.specs.Broken.{told}
 use Rattle.program_expansion.specs.UnitResults.{so_far}
-use Rattle.document_units.specs.Findings.{Adds}
-use Rattle.document_units.specs.Readings.{Read}
-use Rattle.document_units.specs.Places.{AreHeads, spans_of}
-use Rattle.document_units.specs.UnitFindings.{IsFoundOf}
+use Rattle.read_documents.specs.Findings.{Adds}
+use Rattle.read_documents.specs.Readings.{Read}
+use Rattle.read_documents.specs.Places.{AreHeads, spans_of}
+use Rattle.read_documents.specs.UnitFindings.{IsFoundOf}
 
 -- ---- one unit
 

@@ -9,7 +9,7 @@ use Rattle.scheme_model.specs.declared.Occ.{Occ}
 use Rattle.scheme_model.specs.Program.{units_of}
 use Rattle.rename_model.specs.Difference.{Difference, first_difference}
 use Rattle.document_store.specs.Texts.{Document, Texts}
-use Rattle.document_units.specs.Readings.{Read, AreReadAs, documents_in, program_in}
+use Rattle.read_documents.specs.Readings.{Read, AreReadAs, documents_in, program_in}
 use Rattle.program_answers.specs.ToldAnswers.{name_there}
 use Rattle.program_differences.specs.Differences.{plan_as}
 use Rattle.program_differences.specs.declared.plan.Difference as code

@@ -11,7 +11,7 @@ use Rattle.scheme_model.specs.Program.{result_at}
 use Rattle.scheme_model.specs.Spelling.{is_member}
 use Rattle.rename_model.specs.SameProgram.{Plan}
 use Rattle.document_store.specs.Texts.{Document}
-use Rattle.document_units.specs.Readings.{Read}
+use Rattle.read_documents.specs.Readings.{Read}
 use Rattle.program_answers.specs.Classed.{IsClassOf}
 use Rattle.program_answers.specs.ToldAnswers.{facts_in}
 use Rattle.text_edits.specs.Members.{prefix_of, stem_of}

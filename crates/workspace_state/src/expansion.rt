@@ -1,7 +1,7 @@
 //! The program of the open documents, with the trees that it is over, and the index of it once that was collected.
 ghost use Rattle.std.specs.Prelude.{◌≡◌, ◌+◌, [], List, IfOk, OnOk};
 ghost use Rattle.std.specs.FinMap.{entries};
-ghost use Rattle.document_units.specs.Readings.{Read, AreReadAs};
+ghost use Rattle.read_documents.specs.Readings.{Read, AreReadAs};
 ghost use Rattle.program_leaves.specs.Formed.{AreFormedIn};
 ghost use Rattle.core_tree.specs.Units.{IsProgramOf};
 ghost use Rattle.workspace_state.specs.Expansions.{IsIndexFor};

@@ -6,8 +6,8 @@ mod trial;
 mod workspace;
 
 pub use document_changes::events::{DocEvent, Updated};
-pub use document_units::places::PlacedError;
 pub use program_answers::classes::{Class, ClassPart};
 pub use program_answers::publications::Published;
+pub use read_documents::places::PlacedError;
 pub use trial::Trial;
 pub use workspace::Workspace;

@@ -4,8 +4,8 @@ use Rattle.std.proofs.Common.{◌≡◌, ℕ, ℤ, List, map, slice_get, option_
 use Rattle.std.proofs.lemmas.Int.{to_z-of_z}
 use Rattle.std.specs.FinMap.{entries, insert}
 use Rattle.document_store.specs.Texts.{Document, Refusal, Texts, TooLong, TooMany, added, has_room, is_long}
-use Rattle.document_units.specs.Stored.{CopiesTo, opened}
-use Rattle.document_units.specs.declared.opened.Opened.{Opened}
+use Rattle.read_documents.specs.Stored.{CopiesTo, opened}
+use Rattle.read_documents.specs.declared.opened.Opened.{Opened}
 use Rattle.ls_base.specs.declared.answers.TextEdit.{TextEdit}
 use Rattle.program_answers.specs.ToldAnswers.{text_of}
 use Rattle.text_edits.specs.Edits.{Edit, edited}

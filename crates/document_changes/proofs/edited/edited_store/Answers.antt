@@ -5,7 +5,7 @@ use Rattle.std.specs.Cmp.Lexicographic.{slice_cmp}
 use Rattle.std.proofs.lemmas.List.{length-map, nil_from_length}
 use Rattle.std.proofs.lemmas.Option.{slice_get-map}
 use Rattle.document_store.specs.Texts.{Document, Texts}
-use Rattle.document_units.proofs.Copies.{copied_more, copied_all}
+use Rattle.read_documents.proofs.Copies.{copied_more, copied_all}
 use Rattle.document_changes.specs.Edited.{edited_document, edited_texts}
 use Rattle.document_changes.proofs.EditedLaws.{edited_entries}
 use Rattle.document_changes.proofs.edited.edited_store.Goals as goal

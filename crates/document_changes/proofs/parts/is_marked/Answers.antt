@@ -1,6 +1,6 @@
 -- The mark at the place is told, where there is one.
 use Rattle.std.proofs.Common.{sym, ap, ◌∙◌}
-use Rattle.document_units.proofs.Nths.{get_none, get_some}
+use Rattle.read_documents.proofs.Nths.{get_none, get_some}
 use Rattle.document_changes.specs.Parts.{mark_at, mark_in}
 use Rattle.document_changes.proofs.parts.is_marked.Goals as goal
 

@@ -4,7 +4,7 @@ use Rattle.std.specs.Prelude.{IfSome}
 use Rattle.std.specs.Option.{option_map}
 use Rattle.std.proofs.lemmas.List.{length-map}
 use Rattle.included_documents.specs.Meant.{meant, uri_at}
-use Rattle.document_units.specs.declared.documents.Document.{Document}
+use Rattle.read_documents.specs.declared.documents.Document.{Document}
 use Rattle.document_changes.specs.Parts.{meant_by}
 use Rattle.document_changes.proofs.PartMarks.{meant_within}
 use Rattle.document_changes.proofs.parts.meant_uri.Goals as goal

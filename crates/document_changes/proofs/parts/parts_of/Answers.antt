@@ -9,7 +9,7 @@ use Rattle.text_parts.specs.Parts.{IsTextPart}
 use Rattle.text_parts.specs.Places.{Each}
 use Rattle.text_parts.specs.declared.parts.TextPart.{TextPart}
 use Rattle.text_parts.specs.declared.texts.TextRead.{TextRead}
-use Rattle.document_units.specs.declared.documents.Document.{Document}
+use Rattle.read_documents.specs.declared.documents.Document.{Document}
 use Rattle.document_units.proofs.ViewedDocuments.{alike_length, opened_viewed}
 use Rattle.document_changes.proofs.PartMarks.{marks_are}
 use Rattle.document_changes.proofs.parts.parts_of.Goals as goal

@@ -1,7 +1,7 @@
 -- The document is there.
 use Rattle.std.proofs.Common.{length, refl, sym, ap, ◌∙◌}
 use Rattle.std.proofs.lemmas.Option.{slice_get_read}
-use Rattle.document_units.specs.declared.documents.Document.{Document}
+use Rattle.read_documents.specs.declared.documents.Document.{Document}
 use Rattle.document_changes.proofs.PartMarks.{uri_there}
 use Rattle.document_changes.proofs.parts.uri_of.Goals as goal
 

@@ -4,7 +4,7 @@ use Rattle.std.specs.FinMap.{entries, len-entries, len-empty, empty}
 use Rattle.std.specs.Cmp.Lexicographic.{slice_cmp}
 use Rattle.std.proofs.lemmas.List.{nil_from_length}
 use Rattle.document_store.specs.Texts.{Document, Texts}
-use Rattle.document_units.proofs.Copies.{copied_more, copied_all}
+use Rattle.read_documents.proofs.Copies.{copied_more, copied_all}
 use Rattle.document_changes.proofs.texts.copy_of.Goals as goal
 
 pub loop-n-init : goal.loop-n-init

@@ -1,8 +1,8 @@
 -- The finding stands where the unit does.
 use Rattle.std.proofs.Common.{length, ap, ◌∙◌}
-use Rattle.document_units.specs.Places.{spans_of}
-use Rattle.document_units.specs.declared.findings.Finding.{Finding}
-use Rattle.document_units.proofs.FoundLaws.{found_at}
+use Rattle.read_documents.specs.Places.{spans_of}
+use Rattle.read_documents.specs.declared.findings.Finding.{Finding}
+use Rattle.read_documents.proofs.FoundLaws.{found_at}
 use Rattle.program_expansion.proofs.NoImport.{imports_alike, import_there, no_import_told}
 use Rattle.program_expansion.proofs.expanding.add_no_import.Goals as goal
 

@@ -1,8 +1,8 @@
 use Rattle.std.proofs.Common.{[], cond, sym, subst}
 use Rattle.scheme_model.specs.Diagnostics.{bytes_of, unbound_diagnostics}
 use Rattle.scheme_model.specs.Live.{unit_leaves}
-use Rattle.document_units.specs.Findings.{Adds}
-use Rattle.document_units.specs.Places.{spans_of}
+use Rattle.read_documents.specs.Findings.{Adds}
+use Rattle.read_documents.specs.Places.{spans_of}
 use Rattle.program_expansion.proofs.UnitsFoundLaws.{adds_nothing}
 use Rattle.program_expansion.proofs.expanding.add_unbound_if.Goals as goal
 

@@ -2,12 +2,12 @@
 use Rattle.std.proofs.Common.{◌≡◌, List, [], ◌∷◌, ◌++◌, length, sym, ap, ◌∙◌, subst}
 use Rattle.scheme_model.specs.Diagnostics.{document_of, whole_fault}
 use Rattle.scheme_model.specs.Program.{whole_code}
-use Rattle.document_units.specs.declared.listing.WholeFault.{WholeFault}
-use Rattle.document_units.specs.declared.findings.Finding.{Finding}
-use Rattle.document_units.specs.Diagnosed.{IsWhole}
-use Rattle.document_units.specs.Findings.{Adds}
-use Rattle.document_units.specs.Places.{AreFoundIn, spans_of}
-use Rattle.document_units.proofs.FoundLaws.{found_none, found_more}
+use Rattle.read_documents.specs.declared.heads.WholeFault.{WholeFault}
+use Rattle.read_documents.specs.declared.findings.Finding.{Finding}
+use Rattle.read_documents.specs.Diagnosed.{IsWhole}
+use Rattle.read_documents.specs.Findings.{Adds}
+use Rattle.read_documents.specs.Places.{AreFoundIn, spans_of}
+use Rattle.read_documents.proofs.FoundLaws.{found_none, found_more}
 use Rattle.program_expansion.proofs.UnitsTurns.{blank_formed}
 use Rattle.program_findings.proofs.WholeLaws.{whole_found, whole_of}
 use Rattle.program_expansion.proofs.expanding.broken.Goals as goal

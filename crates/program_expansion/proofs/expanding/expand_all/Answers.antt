@@ -17,7 +17,7 @@ use Rattle.program_expansion.specs.UnitsExpanded.{AreAllFound}
 use Rattle.program_expansion.specs.UsesInTurn.{uses_at}
 use Rattle.program_expansion.specs.UnitsFound.{HaveFound}
 use Rattle.document_units.proofs.BrokenLaws.{heads_itself, heads_on, names_itself, names_then}
-use Rattle.document_units.proofs.HeadsKept.{heads_kept}
+use Rattle.read_documents.proofs.HeadsKept.{heads_kept}
 use Rattle.program_expansion.proofs.SoundKept.{sound_with}
 use Rattle.program_expansion.proofs.Turns.{in_at, later_hold}
 use Rattle.program_expansion.proofs.UpTo.{none_come}

@@ -5,20 +5,20 @@ use Rattle.std.specs.Option.{is_some as is_there}
 use Rattle.std.proofs.lemmas.Option.{slice_get_read, same_Some}
 use Rattle.scheme_model.specs.Program as model
 use Rattle.scheme_model.specs.Program.{prepared, unit_entries}
-use Rattle.document_units.specs.declared.listing.WholeFault.{WholeFault}
-use Rattle.document_units.specs.declared.listing.WholeFault.TheVariants as fault
+use Rattle.read_documents.specs.declared.heads.WholeFault.{WholeFault}
+use Rattle.read_documents.specs.declared.heads.WholeFault.TheVariants as fault
 use Rattle.unit_imports.specs.declared.entries.Libraries.{Libraries}
 use Rattle.unit_imports.specs.declared.expanded.Expanded.{Expanded}
-use Rattle.document_units.specs.declared.listing.Head.{Head}
-use Rattle.document_units.specs.Broken.{broken_if}
+use Rattle.read_documents.specs.declared.heads.Head.{Head}
+use Rattle.read_documents.specs.Broken.{broken_if}
 use Rattle.program_expansion.specs.UnitResults.{HaveCome}
-use Rattle.document_units.specs.UnitSources.{IsSourceOf}
+use Rattle.read_documents.specs.UnitSources.{IsSourceOf}
 use Rattle.unit_imports.specs.SetsGiven.{AreLibraries}
 use Rattle.document_units.specs.Turned.{scoped_at}
 use Rattle.program_expansion.specs.UnitsFound.{AreSetsFound}
 use Rattle.program_leaves.specs.Formed.{IsFormed}
 use Rattle.unit_imports.specs.EntriesMeant.{ExportsMean, HaveMeaning}
-use Rattle.document_units.specs.Places.{SameHead, AreHeads, AreHeadsIn, AreFoundIn, ArePlaces}
+use Rattle.read_documents.specs.Places.{SameHead, AreHeads, AreHeadsIn, AreFoundIn, ArePlaces}
 use Rattle.unit_scopes.proofs.ImportLaws.{same_trees}
 use Rattle.unit_scopes.proofs.OutcomeLaws.{grows_itself, grows_on, trees_on}
 use Rattle.form_expansion.proofs.BenchLaws.{bench_in, grows_named}

@@ -25,8 +25,8 @@ use Rattle.program_expansion.specs.AtWork.{worked_forms}
 use Rattle.program_expansion.specs.UnitResults.{expanded_after, with_unit}
 use Rattle.form_expansion.specs.Forms.{AreFormed, Unfolds}
 use Rattle.program_expansion.specs.UnitsFound.{in_the_end}
-use Rattle.document_units.specs.UnitFindings.{IsFoundOf}
-use Rattle.document_units.specs.WereRead.{WereRead}
+use Rattle.read_documents.specs.UnitFindings.{IsFoundOf}
+use Rattle.read_documents.specs.WereRead.{WereRead}
 use Rattle.form_expansion.proofs.BenchLaws.{bench_in, grows_named, grows_twice}
 use Rattle.program_expansion.proofs.ImportedNames.{are_numbered}
 use Rattle.program_expansion.proofs.CameKept.{libraries_kept}

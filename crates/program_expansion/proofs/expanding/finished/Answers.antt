@@ -10,18 +10,18 @@ use Rattle.core_tree.specs.declared.cores.Binder.{Binder}
 use Rattle.core_tree.specs.declared.units.UnitForm.{UnitForm}
 use Rattle.unit_sources.specs.declared.units.ImportSpec.{ImportSpec}
 use Rattle.unit_sources.specs.UnitsRead.{forms_of}
-use Rattle.document_units.specs.UnitSources.{IsSpec}
+use Rattle.read_documents.specs.UnitSources.{IsSpec}
 use Rattle.core_tree.specs.Names.{AllMatch}
 use Rattle.unit_scopes.proofs.ImportLaws.{same_trees}
 use Rattle.expansion_laws.proofs.PartsStay.{forms_on}
 use Rattle.unit_imports.specs.Defined.{AreKnown, FindsNames}
 use Rattle.unit_imports.specs.EntriesMeant.{HaveMeaning}
-use Rattle.document_units.specs.Findings.{Adds, all_told}
-use Rattle.document_units.specs.Places.{spans_of}
+use Rattle.read_documents.specs.Findings.{Adds, all_told}
+use Rattle.read_documents.specs.Places.{spans_of}
 use Rattle.unit_imports.specs.SetsGiven.{ImportsAs}
 use Rattle.program_findings.specs.StandIn.{StandIn}
 use Rattle.program_expansion.specs.UnitsFound.{no_import_diagnostics}
-use Rattle.document_units.specs.declared.findings.Finding.{Finding}
+use Rattle.read_documents.specs.declared.findings.Finding.{Finding}
 use Rattle.program_expansion.proofs.CameKept.{came_of, finds_kept}
 use Rattle.program_expansion.proofs.NamesKept.{definitions_kept}
 use Rattle.unit_imports.proofs.MeaningLaws.{entries_kept, mean_kept, names_itself}

@@ -4,10 +4,10 @@ use Rattle.std.specs.Prelude.{unwrap_or}
 use Rattle.std.proofs.lemmas.Option.{same_Some, slice_get_read}
 use Rattle.scheme_model.specs.Program.{result_at}
 use Rattle.program_leaves.specs.Formed.{IsFormed}
-use Rattle.document_units.specs.Broken.{told as told_as}
-use Rattle.document_units.specs.declared.listing.WholeFault.{WholeFault}
-use Rattle.document_units.specs.declared.listing.WholeFault.TheVariants as fault
-use Rattle.document_units.specs.declared.listing.Head.{Head}
+use Rattle.read_documents.specs.Broken.{told as told_as}
+use Rattle.read_documents.specs.declared.heads.WholeFault.{WholeFault}
+use Rattle.read_documents.specs.declared.heads.WholeFault.TheVariants as fault
+use Rattle.read_documents.specs.declared.heads.Head.{Head}
 use Rattle.program_expansion.proofs.program.broken_at.Goals as goal
 
 pub returns-clause-formed : goal.returns-clause-formed

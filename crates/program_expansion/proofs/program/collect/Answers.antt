@@ -8,27 +8,27 @@ use Rattle.std.proofs.lemmas.Option.{slice_get_read}
 use Rattle.core_tree.specs.declared.units.UnitForm.{UnitForm}
 use Rattle.core_tree.specs.declared.units.Unit.{Unit as CodeUnit}
 use Rattle.unit_imports.specs.declared.expanded.Expanded.{Expanded}
-use Rattle.document_units.specs.declared.findings.Finding.{Finding}
-use Rattle.document_units.specs.declared.findings.At.{At}
-use Rattle.document_units.specs.declared.listing.Head.{Head}
-use Rattle.document_units.specs.Belongs.{AreErrorsIn}
+use Rattle.read_documents.specs.declared.findings.Finding.{Finding}
+use Rattle.read_documents.specs.declared.findings.At.{At}
+use Rattle.read_documents.specs.declared.heads.Head.{Head}
+use Rattle.read_documents.specs.Belongs.{AreErrorsIn}
 use Rattle.program_leaves.specs.Formed.{IsFormed, AreFormedIn}
-use Rattle.document_units.specs.Findings.{AreKept, all_told, first_error_in}
-use Rattle.document_units.specs.Places.{AreFoundIn, AreHeads, AreHeadsIn, ArePlaces, HaveTokens}
-use Rattle.document_units.specs.Readings.{AreDocuments, program_in}
+use Rattle.read_documents.specs.Findings.{AreKept, all_told, first_error_in}
+use Rattle.read_documents.specs.Places.{AreFoundIn, AreHeads, AreHeadsIn, ArePlaces, HaveTokens}
+use Rattle.read_documents.specs.Readings.{AreDocuments, program_in}
 use Rattle.program_expansion.specs.UnitsFound.{IsTold}
 use Rattle.document_units.proofs.BrokenLaws.{heads_itself, heads_in, head_set}
 use Rattle.unit_sources.specs.declared.units.UnitForm.{UnitForm as SourceForm}
 use Rattle.unit_imports.specs.Collected.{IsNothing}
-use Rattle.document_units.specs.declared.documents.Document.{Document}
+use Rattle.read_documents.specs.declared.documents.Document.{Document}
 use Rattle.unit_imports.proofs.Collecting.{AreCollectedSo, none_collected, one_collected, has_come, set_other}
 use Rattle.program_expansion.proofs.CollectLaws.{get}
 use Rattle.form_expansion.proofs.Enumerated.{all_placed, next_placed}
-use Rattle.document_units.proofs.HeadsKept.{heads_kept}
+use Rattle.read_documents.proofs.HeadsKept.{heads_kept}
 use Rattle.program_expansion.proofs.ReadingLaws.{errors_none, errors_more, found_in, formed_at, formed_none, formed_more}
 use Rattle.program_expansion.proofs.SoundKept.{some_document}
 use Rattle.program_findings.proofs.StopsLaws.{kept_of_all}
-use Rattle.document_units.proofs.ToldUnits.{none_told, more_told, kept_all, firsts_all, result_of}
+use Rattle.read_documents.proofs.ToldUnits.{none_told, more_told, kept_all, firsts_all, result_of}
 use Rattle.program_expansion.proofs.UnitsTurns.{of_some}
 use Rattle.program_expansion.proofs.program.collect.Goals as goal
 use Rattle.program_expansion.proofs.program.collect.Goals.{In-Some, In-None}

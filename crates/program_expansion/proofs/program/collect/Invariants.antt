@@ -1,15 +1,15 @@
 use Rattle.std.proofs.Common.{◌≡◌, ℕ, ◌≤◌, List, length, map, slice_get, vec_len}
-use Rattle.document_units.specs.Belongs.{AreErrorsIn}
+use Rattle.read_documents.specs.Belongs.{AreErrorsIn}
 use Rattle.program_leaves.specs.Formed.{AreFormedIn}
 use Rattle.syntax_tree.specs.declared.trees.Work.{Work}
 use Rattle.program_expansion.specs.Formed.{CameFormed}
 use Rattle.scheme_model.specs.Program.{Program}
-use Rattle.document_units.specs.Places.{HeadsStay, HaveTokens}
-use Rattle.document_units.specs.Readings.{Read}
+use Rattle.read_documents.specs.Places.{HeadsStay, HaveTokens}
+use Rattle.read_documents.specs.Readings.{Read}
 use Rattle.program_expansion.specs.UnitsFound.{AreTold}
-use Rattle.document_units.specs.declared.documents.Document.{Document}
+use Rattle.read_documents.specs.declared.documents.Document.{Document}
 use Rattle.unit_imports.proofs.Collecting.{AreCollectedSo}
-use Rattle.document_units.proofs.ToldUnits.{AreToldTo}
+use Rattle.read_documents.proofs.ToldUnits.{AreToldTo}
 use Rattle.program_expansion.proofs.program.collect.Given as goal
 
 -- heads stay, what is found of the units so far stands in the documents, and their forms stand for something

@@ -1,8 +1,8 @@
 -- The unit has what it came to, and its document's uri.
 use Rattle.std.proofs.Common.{◌∙◌, Some, length, refl, ap, sym}
 use Rattle.std.proofs.lemmas.Option.{slice_get_read}
-use Rattle.document_units.specs.Findings.{errors_in}
-use Rattle.document_units.specs.declared.documents.Document.{Document}
+use Rattle.read_documents.specs.Findings.{errors_in}
+use Rattle.read_documents.specs.declared.documents.Document.{Document}
 use Rattle.unit_imports.proofs.Collecting.{mapped_at}
 use Rattle.program_expansion.proofs.program.unit_of.Goals as goal
 

@@ -2,7 +2,7 @@ use Rattle.std.proofs.Common.{sym, subst, map}
 use Rattle.std.specs.FinMap.{entries}
 use Rattle.scheme_model.specs.Program.{units_of}
 use Rattle.scheme_tokens.specs.LibraryNames.{library_text}
-use Rattle.document_units.specs.Readings.{documents_in, program_in}
+use Rattle.read_documents.specs.Readings.{documents_in, program_in}
 use Rattle.rename_model.specs.Difference as difference
 use Rattle.program_differences.specs.Differences.{AreOne, plan_as}
 use Rattle.workspace_state.specs.ProgramOfTexts.{IsProgramOfTexts}

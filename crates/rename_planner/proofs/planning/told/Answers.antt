@@ -7,7 +7,7 @@ use Rattle.scheme_model.specs.Program.{units_of}
 use Rattle.scheme_model.specs.Spelling.{is_member}
 use Rattle.scheme_tokens.specs.LibraryNames.{library_text}
 use Rattle.document_store.specs.Texts.{Document}
-use Rattle.document_units.specs.Readings.{documents_in, program_in}
+use Rattle.read_documents.specs.Readings.{documents_in, program_in}
 use Rattle.program_answers.specs.ToldAnswers.{facts_in}
 use Rattle.text_edits.specs.Edits.{Edit}
 use Rattle.text_edits.specs.Views.{occ_cmp}

@@ -2,7 +2,7 @@
 use Rattle.std.proofs.Common.{◌≡◌, ◌<◌, ℕ, List, Bool, Option, Some, length, sym, ap, ◌∙◌, subst, arith}
 use Rattle.std.specs.Prelude.{IfSome}
 use Rattle.std.specs.FinMap.{entries}
-use Rattle.document_units.specs.Readings.{AreReadAs, documents_in}
+use Rattle.read_documents.specs.Readings.{AreReadAs, documents_in}
 use Rattle.program_answers.specs.ToldAnswers.{number_of}
 use Rattle.document_changes.specs.Parts.{is_part_at, mark_at, parts_in}
 use Rattle.workspace_state.specs.State.{State}
