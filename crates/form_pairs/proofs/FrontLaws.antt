@@ -6,9 +6,9 @@ use Rattle.std.proofs.lemmas.List.{drop_more, get_or-reverse, length-reverse}
 use Rattle.std.proofs.Math.Seq.{drop-nil}
 use Rattle.scheme_model.specs.Trees.{Tree}
 use Rattle.unit_sources.specs.declared.units.UnitForm.{UnitForm}
-use Rattle.form_pairs.specs.Alike.{same_tree}
+use Rattle.carried_forms.specs.Alike.{same_tree}
 use Rattle.form_pairs.specs.Fronts.{front_of}
-use Rattle.form_pairs.specs.Paired.{FormText, common_front}
+use Rattle.carried_forms.specs.Paired.{FormText, common_front}
 use Rattle.form_pairs.specs.Units.{form_as}
 
 -- ---- one step
@@ -42,7 +42,7 @@ from_end xs n a lt at =
     drop_more (reverse xs) n a (omega (arith, lt, length-reverse xs)) ∙ ap (λ (x : UnitForm). x ∷ drop (n + 1) (reverse xs)) (get_or-reverse xs n a lt ∙ sym at)
 
 module _ (xs ys : List UnitForm) (n : ℕ) (a b : UnitForm) (r : Bool) (first : n < length xs) (second : n < length ys) (there : a ≡ get_or xs (length xs - 1 - n) a) (too : b ≡ get_or ys (length ys - 1 - n) b)
-  (same : r ≡ same_tree bytes_eq (form_as a) (form_as b)) (so_far : front_of (reverse xs) (reverse ys) ≡ n + front_of (drop n (reverse xs)) (drop n (reverse ys))) where
+    (same : r ≡ same_tree bytes_eq (form_as a) (form_as b)) (so_far : front_of (reverse xs) (reverse ys) ≡ n + front_of (drop n (reverse xs)) (drop n (reverse ys))) where
   step : front_of (drop n (reverse xs)) (drop n (reverse ys)) ≡ cond r (suc (front_of (drop (n + 1) (reverse xs)) (drop (n + 1) (reverse ys)))) 0
   step = at_step (reverse xs) (reverse ys) n a b r (from_end xs n a first there) (from_end ys n b second too) same
 

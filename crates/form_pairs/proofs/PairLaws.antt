@@ -7,7 +7,8 @@ use Rattle.std.proofs.Math.ListN.{drop_of_length-le}
 use Rattle.unit_sources.specs.UnitsRead.{forms_of}
 use Rattle.unit_sources.specs.declared.units.UnitForm.{UnitForm}
 use Rattle.form_pairs.specs.Found.{pair_seen, pair_there, pair_if, pair_from, pair_in}
-use Rattle.form_pairs.specs.Paired.{FormText, UnitText, UnitPair, form_pairs, form_texts, is_same_unit, pair_of, pairs_from, unit_pairs, with_forms}
+use Rattle.carried_forms.specs.Paired.{FormText, UnitText, UnitPair, form_pairs, is_same_unit, pair_of, pairs_from, unit_pairs, with_forms}
+use Rattle.carried_forms.specs.Worked.{form_texts}
 use Rattle.form_pairs.specs.Units.{IsUnitText, AreUnits, uri_in, forms_if, texts_at}
 use Rattle.form_pairs.specs.declared.pairs.UnitPair as code_pair
 use Rattle.form_pairs.specs.declared.units.UnitText as code
@@ -26,7 +27,7 @@ forms_there cs us k c lt at t =
     from_none = omega arith
 
 module _ (cs ds : List code.UnitText) (us vs : List UnitText) (are : AreUnits cs us) (too : AreUnits ds vs) (b a : ℕ) (c d : code.UnitText) (first : b < length cs) (at : c ≡ get_or cs b c)
-  (second : a < length ds) (there : d ≡ get_or ds a d) (r : Bool) (same : (f g : ℕ → List ℕ) (n m : ℕ) (u v : UnitText) → IsUnitText f n c u → IsUnitText g m d v → r ≡ is_same_unit u v) where
+    (second : a < length ds) (there : d ≡ get_or ds a d) (r : Bool) (same : (f g : ℕ → List ℕ) (n m : ℕ) (u v : UnitText) → IsUnitText f n c u → IsUnitText g m d v → r ≡ is_same_unit u v) where
   before : UnitThere (uri_in cs) 0 b c us
   before = unit_there (uri_in cs) 0 cs us are b c first at
 

@@ -16,7 +16,7 @@ use Rattle.datum_reader.specs.declared.datum.Datum as code
 use Rattle.datum_reader.specs.declared.datum.Shape.TheVariants as shape
 use Rattle.datum_reader.proofs.LeafLaws.{encoded-same}
 use Rattle.datum_reader.proofs.SeedLaws.{datum-list, datum-vector}
-use Rattle.form_pairs.specs.Alike.{same_tree, same_trees, same_tail}
+use Rattle.carried_forms.specs.Alike.{same_tree, same_trees, same_tail}
 use Rattle.form_pairs.specs.Trees.{token_at, tree_as, parts_as, end_as, atom_as}
 
 -- ---- atoms

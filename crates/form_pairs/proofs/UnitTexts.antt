@@ -18,9 +18,10 @@ use Rattle.scheme_tokens.proofs.EveryName.{text_of, text_tells, text_of-proper}
 use Rattle.unit_sources.proofs.NamedLaws.{texts_same}
 use Rattle.unit_sources.specs.UnitsRead.{form_of, forms_of}
 use Rattle.unit_sources.specs.declared.units.UnitForm.{UnitForm}
-use Rattle.form_pairs.specs.Alike.{same_option, same_list, same_tree}
+use Rattle.carried_forms.specs.Alike.{same_option, same_list, same_tree}
 use Rattle.form_pairs.specs.Fronts.{front_of, is_included, runs}
-use Rattle.form_pairs.specs.Paired.{FormText, UnitText, is_same_at_home, common_front, in_step, by_ends, form_pairs, form_text, form_texts, pair_of, with_forms, pairs_from}
+use Rattle.carried_forms.specs.Paired.{FormText, UnitText, is_same_at_home, common_front, in_step, by_ends, form_pairs, pair_of, with_forms, pairs_from}
+use Rattle.carried_forms.specs.Worked.{form_text, form_texts}
 use Rattle.form_pairs.specs.Trees.{tree_as}
 use Rattle.form_pairs.specs.Units.{form_as, first_of, IsNameOf, IsUnitText, AreUnitTexts, uri_in, forms_in, texts_at, form_at}
 use Rattle.form_pairs.specs.declared.units.UnitText as code
@@ -90,14 +91,13 @@ module _ (uri_of other : ℕ → List ℕ) (unit with : ℕ) (fs gs : List UnitF
       go (x ∷ xs) (y ∷ ys) h = both_false (is_same_at_home x y) (same_list is_same_at_home xs ys) (go xs ys (λ e. h (ap suc e)))
 
   module _ (k : ℕ) (f g : UnitForm) (first : k < length fs) (second : k < length gs) (there : f ≡ get_or fs k f) (too : g ≡ get_or gs k g) (b : Bool)
-    (same : b ≡ is_same_at_home (form_text uri_of (home_of unit k (form_of f)) (form_of f)) (form_text other (home_of with k (form_of g)) (form_of g)))
-    (so_far : same_list is_same_at_home left right ≡ same_list is_same_at_home (drop k left) (drop k right)) where
+      (same : b ≡ is_same_at_home (form_text uri_of (home_of unit k (form_of f)) (form_of f)) (form_text other (home_of with k (form_of g)) (form_of g)))
+      (so_far : same_list is_same_at_home left right ≡ same_list is_same_at_home (drop k left) (drop k right)) where
     step : same_list is_same_at_home (drop k left) (drop k right) ≡ b && same_list is_same_at_home (drop (k + 1) left) (drop (k + 1) right)
     step =
         (λ j. same_list is_same_at_home (next_text uri_of unit 0 fs k f first there j) (next_text other with 0 gs k g second too j))
         ∙ ap (λ (n : ℕ). is_same_at_home (text_at uri_of unit n f) (text_at other with n g) && same_list is_same_at_home (drop (k + 1) left) (drop (k + 1) right)) from_none
         ∙ ap (λ (c : Bool). c && same_list is_same_at_home (drop (k + 1) left) (drop (k + 1) right)) (sym same)
-
       where
         from_none : 0 + k ≡ k
         from_none = omega arith
@@ -150,7 +150,7 @@ module _ (uri_of other : ℕ → List ℕ) (unit with : ℕ) (fs gs : List UnitF
       ends =
           (λ j. common_front (reverse (drop (fronts j) left_texts)) (reverse (drop (fronts j) right_texts)))
           ∙ same_front (reverse (drop front left_texts)) (reverse (drop front right_texts)) (reverse (drop front fs)) (reverse (drop front gs))
-            (from_end_trees left_texts fs (trees_are uri_of unit 0 fs) front) (from_end_trees right_texts gs (trees_are other with 0 gs) front)
+          (from_end_trees left_texts fs (trees_are uri_of unit 0 fs) front) (from_end_trees right_texts gs (trees_are other with 0 gs) front)
           ∙ sym e
 
   pub all_found : (same : Bool) → (mine || yours) ≡ true → same ≡ same_list is_same_at_home left_texts right_texts → same ≡ true → Some (runs (length fs) (length gs) (length fs) 0) ≡ form_pairs left_texts right_texts

@@ -1,7 +1,7 @@
 -- Pairs of units as the code has them.
 use Rattle.std.specs.Prelude.{ℕ, List, [], ◌∷◌, length, slice_get, Option, Some, None}
 use Rattle.form_pairs.specs.Fronts.{runs}
-use Rattle.form_pairs.specs.Paired.{UnitText, UnitPair, form_pairs, pair_of, with_forms}
+use Rattle.carried_forms.specs.Paired.{UnitText, UnitPair, form_pairs, pair_of, with_forms}
 use Rattle.form_pairs.specs.Units.{texts_at}
 use Rattle.form_pairs.specs.declared.pairs.UnitPair as code
 use Rattle.form_pairs.specs.declared.units.Side.{Side}

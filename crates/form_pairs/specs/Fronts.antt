@@ -3,8 +3,8 @@ use Rattle.std.specs.Prelude.{ℕ, suc, ◌-◌, List, [], ◌∷◌, ◌++◌, 
 use Rattle.std.specs.Str.{bytes_eq}
 use Rattle.scheme_model.specs.Order.{is_some}
 use Rattle.unit_sources.specs.declared.units.UnitForm.{UnitForm}
-use Rattle.form_pairs.specs.Alike.{same_tree}
-use Rattle.form_pairs.specs.Paired.{in_step}
+use Rattle.carried_forms.specs.Alike.{same_tree}
+use Rattle.carried_forms.specs.Paired.{in_step}
 use Rattle.form_pairs.specs.Units.{form_as, forms_in}
 use Rattle.form_pairs.specs.declared.forms.Runs.{Runs}
 use Rattle.form_pairs.specs.declared.units.Side.{Side}

@@ -9,7 +9,8 @@ use Rattle.scheme_tokens.specs.LibraryNames.{library_text, IsProper}
 use Rattle.unit_sources.specs.UnitsRead.{form_of, forms_of}
 use Rattle.unit_sources.specs.declared.units.UnitForm.{UnitForm}
 use Rattle.form_pairs.specs.declared.units.UnitText as code
-use Rattle.form_pairs.specs.Paired.{FormText, UnitText, form_text, form_texts}
+use Rattle.carried_forms.specs.Paired.{FormText, UnitText}
+use Rattle.carried_forms.specs.Worked.{form_text, form_texts}
 use Rattle.form_pairs.specs.Trees.{tree_as}
 
 -- the first token of a form's text, at its home

@@ -3,8 +3,8 @@ ghost use Rattle.std.specs.Prelude.{◌≡◌, ◌≤◌, drop, length, reverse,
 ghost use Rattle.std.specs.List.{list_any};
 ghost use Rattle.std.specs.Option.{option_map};
 ghost use Rattle.std.specs.Str.{bytes_eq};
-ghost use Rattle.form_pairs.specs.Alike.{same_list, same_tree};
-ghost use Rattle.form_pairs.specs.Paired as paired;
+ghost use Rattle.carried_forms.specs.Alike.{same_list, same_tree};
+ghost use Rattle.carried_forms.specs.Paired as paired;
 ghost use Rattle.form_pairs.specs.Fronts.{front_of, is_included, runs_in};
 ghost use Rattle.form_pairs.specs.Units.{form_as, form_at, texts_at};
 

@@ -1,7 +1,7 @@
 //! Which units go on in the next program, each with its forms that do.
 ghost use Rattle.std.specs.Prelude.{◌≡◌, ◌<◌, List, length, map, IfOk};
 ghost use Rattle.form_pairs.specs.Found.{pair_in, pair_made, pair_seen, pair_there};
-ghost use Rattle.form_pairs.specs.Paired as paired;
+ghost use Rattle.carried_forms.specs.Paired as paired;
 ghost use Rattle.form_pairs.specs.Units.{AreUnits};
 
 use crate::forms::{Runs, form_runs};
@@ -38,11 +38,7 @@ fn pair_at(alloc: Global, before: &Side<'_>, after: &Side<'_>) -> Mem<Option<Uni
 }
 
 /// The pair of a unit with the first one as which it goes on. `None` where there is none.
-fn pair_of<'a>(
-    alloc: Global,
-    before: &Side<'a>,
-    after: &'a [UnitText<'a>],
-) -> Mem<Option<UnitPair>>
+fn pair_of<'a>(alloc: Global, before: &Side<'a>, after: &'a [UnitText<'a>]) -> Mem<Option<UnitPair>>
     requires { before.now.unit < length before.now.units.now }
     ensures { (us vs : List paired.UnitText) → AreUnits before.now.units.now us → AreUnits after.now vs →
         IfOk result (λ p. pair_there p ≡ pair_in us before.now.unit vs) }

@@ -1,14 +1,14 @@
 //! Data that are the same up to where they stand: each part begins at the same token, counted from its form's first.
-ghost use Rattle.std.specs.Prelude.{◌≡◌, ◌&&◌, string_bytes, IfOk};
+ghost use Rattle.std.specs.Prelude.{◌≡◌, ◌&&◌, IfOk};
 ghost use Rattle.std.specs.Str.{bytes_eq};
 ghost use Rattle.scheme_model.specs.declared.Occ.{Occ};
 ghost use Rattle.scheme_model.specs.DataTrees.{mark_symbol};
 ghost use Rattle.scheme_model.specs.Entries.{same_occ};
 ghost use Rattle.datum_reader.specs.Views.{mark_of};
-ghost use Rattle.form_pairs.specs.Alike.{same_tail, same_tree, same_trees};
+ghost use Rattle.carried_forms.specs.Alike.{same_tail, same_tree, same_trees};
 ghost use Rattle.form_pairs.specs.Trees.{atom_as, bytes_as, end_as, parts_as, token_at, tree_as};
 
-use datum_reader::{Atom, Datum, Mark, Shape};
+use datum_reader::{Atom, Datum, Mark, Shape, joined};
 use ls_base::{Mem, Text};
 use std::alloc::Global;
 
@@ -107,21 +107,4 @@ fn are_same_bytes(alloc: Global, a: &[Text], b: &[Text]) -> Mem<bool>
     let x = joined(alloc, a)?;
     let y = joined(alloc, b)?;
     Ok(x.as_str() == y.as_str())
-}
-
-/// Texts with one space between each two.
-fn joined(alloc: Global, texts: &[Text]) -> Mem<String>
-    ensures { IfOk result (λ text. string_bytes text ≡ bytes_as texts.now) }
-{
-    match texts {
-        [] => Ok(String::new(alloc)),
-        [first, rest @ ..] => {
-            let mut text = String::from_str(alloc, first.as_str())?;
-            for more in rest {
-                text.push(' ')?;
-                text.push_str(more.as_str())?;
-            }
-            Ok(text)
-        }
-    }
 }

@@ -2,8 +2,8 @@
 ghost use Rattle.std.specs.Prelude.{◌≡◌, ℕ, List, Option};
 ghost use Rattle.scheme_model.specs.Requirements.{LibraryName, same_library};
 ghost use Rattle.scheme_model.specs.Declarations.{home_of as model_home};
-ghost use Rattle.form_pairs.specs.Alike.{same_option};
-ghost use Rattle.form_pairs.specs.Paired as paired;
+ghost use Rattle.carried_forms.specs.Alike.{same_option};
+ghost use Rattle.carried_forms.specs.Paired as paired;
 ghost use Rattle.form_pairs.specs.Units.{first_of, IsNameOf, forms_in, IsUnitText, uri_in};
 ghost use Rattle.unit_sources.specs.UnitsRead.{form_of};
 
@@ -43,8 +43,7 @@ pub fn is_same_unit(a: &UnitText<'_>, b: &UnitText<'_>) -> bool
 {
     !a.broken
         & (!b.broken
-            & ((a.uri == b.uri)
-                & ((a.is_library == b.is_library) & is_same_name(a.name, b.name))))
+            & ((a.uri == b.uri) & ((a.is_library == b.is_library) & is_same_name(a.name, b.name))))
 }
 
 /// Whether two libraries have one name.

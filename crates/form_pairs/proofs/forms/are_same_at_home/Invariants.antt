@@ -1,6 +1,6 @@
 use Rattle.std.proofs.Common.{◌≡◌, drop}
-use Rattle.form_pairs.specs.Alike.{same_list}
-use Rattle.form_pairs.specs.Paired.{is_same_at_home}
+use Rattle.carried_forms.specs.Alike.{same_list}
+use Rattle.carried_forms.specs.Paired.{is_same_at_home}
 use Rattle.form_pairs.specs.Units.{texts_at}
 use Rattle.form_pairs.proofs.forms.are_same_at_home.Given as goal
 

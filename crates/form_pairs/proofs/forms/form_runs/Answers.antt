@@ -17,7 +17,7 @@ returns-then-not-includes c =
     (c.in_ok-by_ends.ensures.end ∙ (λ j. front_of (reverse (drop c.in_ok-by_ends.field-0.front (c.forms_at-old.ensures j))) (reverse (drop c.in_ok-by_ends.field-0.front (c.forms_at-new.ensures j)))))
 
 pub returns-then-not-branch : goal.returns-then-not-branch
-returns-then-not-branch c = 
+returns-then-not-branch c =
     let before = c.args.before.now in
     let after = c.args.after.now in
     none_found (uri_in before.units.now) (uri_in after.units.now) before.unit after.unit (forms_in before.units.now before.unit) (forms_in after.units.now after.unit) c.includes.result c.includes-2.result

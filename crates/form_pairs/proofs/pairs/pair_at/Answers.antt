@@ -1,7 +1,7 @@
 use Rattle.std.proofs.Common.{◌∙◌, ℕ, List, [], ◌∷◌, length, Option, Some, sym, ap}
 use Rattle.std.specs.Option.{option_map}
 use Rattle.form_pairs.specs.Fronts.{runs, runs_in}
-use Rattle.form_pairs.specs.Paired.{UnitPair, with_forms}
+use Rattle.carried_forms.specs.Paired.{UnitPair, with_forms}
 use Rattle.form_pairs.specs.Units.{forms_in}
 use Rattle.form_pairs.specs.declared.forms.Runs.{Runs}
 use Rattle.form_pairs.proofs.UnitTexts.{many_texts}

@@ -11,9 +11,9 @@ returns-then-is_same_unit c us vs are too =
     let b = c.args.before.now.unit in
     by_answer (λ (p : Option UnitPair). pair_there p ≡ pair_made c.args.before.now (record { units = c.args.after; unit = c.loop-number.number })) (λ (p : Option UnitPair). pair_there p ≡ pair_in us b vs)
     (λ p is.
-        pair_found cs c.args.after.now us vs are too b c.loop-number.number (get_or cs b c.index-before-before.result) c.index-after-number.result c.requires
-        (ap (λ (x : UnitText). get_or cs b x) c.index-before-before.is)
-        c.loop-number-test.true c.index-after-number.is c.is_same_unit.result c.is_same_unit.ensures (pair_there p) is (c.loop-number.invariant us vs are too) c.if-is_same_unit.true)
+    pair_found cs c.args.after.now us vs are too b c.loop-number.number (get_or cs b c.index-before-before.result) c.index-after-number.result c.requires
+    (ap (λ (x : UnitText). get_or cs b x) c.index-before-before.is)
+    c.loop-number-test.true c.index-after-number.is c.is_same_unit.result c.is_same_unit.ensures (pair_there p) is (c.loop-number.invariant us vs are too) c.if-is_same_unit.true)
     c.pair_at.result c.pair_at.ensures
 
 pub loop-number-preserved : goal.loop-number-preserved

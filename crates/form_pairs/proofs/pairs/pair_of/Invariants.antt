@@ -1,6 +1,6 @@
 use Rattle.std.proofs.Common.{◌≡◌, List, drop}
 use Rattle.form_pairs.specs.Found.{pair_in, pair_from}
-use Rattle.form_pairs.specs.Paired.{UnitText}
+use Rattle.carried_forms.specs.Paired.{UnitText}
 use Rattle.form_pairs.specs.Units.{AreUnits}
 use Rattle.form_pairs.proofs.pairs.pair_of.Given as goal
 

@@ -1,6 +1,6 @@
 use Rattle.std.proofs.Common.{◌≡◌, ◌++◌, List, map, drop}
 use Rattle.form_pairs.specs.Found.{pair_seen}
-use Rattle.form_pairs.specs.Paired as paired
+use Rattle.carried_forms.specs.Paired as paired
 use Rattle.form_pairs.specs.Units.{AreUnits}
 use Rattle.form_pairs.proofs.pairs.unit_pairs.Given as goal
 

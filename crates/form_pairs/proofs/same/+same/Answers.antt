@@ -1,6 +1,6 @@
 use Rattle.std.proofs.Common.{◌∙◌, sym}
 use Rattle.std.specs.Str.{bytes_eq}
-use Rattle.form_pairs.specs.Alike.{same_trees}
+use Rattle.carried_forms.specs.Alike.{same_trees}
 use Rattle.form_pairs.specs.Trees.{parts_as}
 use Rattle.form_pairs.proofs.SameTrees.{lengths_differ, vectors_same, lists_same}
 use Rattle.form_pairs.proofs.same.+same.Goals as goal
