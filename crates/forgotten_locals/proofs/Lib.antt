@@ -1,1 +1,4 @@
-
+pub mod Outsides
+pub mod Asks
+pub mod OneTurn
+pub mod Turns

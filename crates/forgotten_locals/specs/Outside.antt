@@ -1,6 +1,6 @@
 -- A state outside of all forms (R7RS 4.3, 5.3): what units define and import, their macros, and what each form has counted, without what
 -- forms bind inside.
-use Rattle.std.specs.Prelude.{◌≡◌, List, [], Bool, true, false, filter}
+use Rattle.std.specs.Prelude.{◌≡◌, List, [], Bool, true, false, filter, Option}
 use Rattle.scheme_model.specs.Meaning.{Meaning, Local, Global, Standard, Free}
 use Rattle.scheme_model.specs.ScopedExpansion.{ScopedMacro, ScopedState}
 use Rattle.scheme_model.specs.Questions.{Around}
