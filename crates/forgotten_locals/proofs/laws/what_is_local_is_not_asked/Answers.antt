@@ -1,4 +1,3 @@
-use Rattle.forgotten_locals.proofs.Turns.{all_kept}
 use Rattle.forgotten_locals.proofs.Outsides.{form_outside, rest_outside}
 use Rattle.forgotten_locals.proofs.OneTurn.{pass_answers, left_answers, pass_kept, rest_kept_too}
 use Rattle.forgotten_locals.proofs.laws.what_is_local_is_not_asked.Goals as goal
