@@ -4,18 +4,17 @@ use Rattle.std.proofs.Common.{◌≡◌, ◌↔◌, ℕ, List, [], ◌∷◌, ma
 use Rattle.scheme_model.specs.Ident.{Ident}
 use Rattle.scheme_model.specs.Trees.{Tree}
 use Rattle.scheme_model.specs.Requirements.{Known}
-use Rattle.scheme_model.specs.RulesShape.{option_map}
 use Rattle.scheme_model.specs.Cores.{Parts}
 use Rattle.scheme_model.specs.Steps.{Broken}
 use Rattle.scheme_model.specs.Order.{Left, Note, Pass}
 use Rattle.scheme_model.specs.Expression.{expand}
-use Rattle.scheme_model.specs.UnitExpansion.{Formed, Work, ◌then◌, going, unless_over, passes, finished, unit}
+use Rattle.scheme_model.specs.UnitExpansion.{Work, ◌then◌, going, unless_over, passes, finished, unit}
 use Rattle.scheme_model.specs.ScopedExpansion.{FramedIdent, ScopedState}
 use Rattle.scheme_model.specs.CountedExpansion.{counted}
-use Rattle.scheme_model.specs.FormsAlike.{set_aside, start}
-use Rattle.form_laws.specs.Begins.{Each, FormBegins, RestBegins}
-use Rattle.kept_forms.specs.KeptForms.{FormOrKept, form_of, LeftOrKept, around_form, goes_through, comes_to, rest_kept, passes_keeping, numbers_of, counts_at}
-use Rattle.kept_forms.specs.Carried.{Onwards, FormFits, PassesKept, RestsKept, UnitKept, PassesBegin, RestsBegin, UnitBegins, no_counts}
+use Rattle.scheme_model.specs.FormsAlike.{set_aside}
+use Rattle.form_laws.specs.Begins.{Each}
+use Rattle.kept_forms.specs.KeptForms.{FormOrKept, form_of, LeftOrKept, around_form, goes_through, comes_to, passes_keeping, numbers_of, counts_at}
+use Rattle.kept_forms.specs.Carried.{Onwards, FormFits, PassesKept, RestsKept, UnitKept, PassesBegin, RestsBegin, UnitBegins}
 use Rattle.forgotten_locals.specs.Ways.{anew, keeping, left_of, firsts_by, seconds_by, unit_by, AtFirsts, AtSeconds, IsKept, IsRestKept, AllKept, CanBegin, RestCanBegin, AllBegin}
 
 onwards_map : {S X : Type 0} (P Q : X → S → Type 0) → ((x : X) (s : S) → P x s → Q x s) → (q : Option X × S) → Onwards P q → Onwards Q q
@@ -103,15 +102,19 @@ module _ (known : Known) (turns : ℕ) (fs : List ℕ) where
 
   firsts_begin : (xs : List FormOrKept) (ns : List (Note FramedIdent)) (s : ScopedState) → PassesBegin known turns fs (map unkept xs) ns s → AtFirsts CanBegin (anew turns) known fs xs ns s
   firsts_begin [] ns s h = tt
-  firsts_begin (x ∷ xs) ns s h =
-      ((h.0, h.1), onwards_map (λ p t. PassesBegin known turns fs (map unkept xs) p.notes t) (λ p t. AtFirsts CanBegin (anew turns) known fs xs p.notes t) (λ p t k. firsts_begin xs p.notes t k)
-      (unless_over (counted known) fs (set_aside (around_form known x.form ns s) turns x.tree)) h.2)
+  firsts_begin (x ∷ xs) ns s h = (
+    (h.0, h.1),
+    onwards_map (λ p t. PassesBegin known turns fs (map unkept xs) p.notes t) (λ p t. AtFirsts CanBegin (anew turns) known fs xs p.notes t) (λ p t k. firsts_begin xs p.notes t k)
+        (unless_over (counted known) fs (set_aside (around_form known x.form ns s) turns x.tree)) h.2,
+  )
 
   seconds_begin : (rs : List LeftOrKept) (s : ScopedState) → RestsBegin known turns fs (map rest_unkept rs) s → AtSeconds RestCanBegin (anew turns) known fs rs s
   seconds_begin [] s h = tt
-  seconds_begin (r ∷ rs) s h =
-      ((h.0, h.1), onwards_map (λ p t. RestsBegin known turns fs (map rest_unkept rs) t) (λ p t. AtSeconds RestCanBegin (anew turns) known fs rs t) (λ p t k. seconds_begin rs t k)
-      (comes_to (around_form known r.form [] s) turns fs r.left None) h.2)
+  seconds_begin (r ∷ rs) s h = (
+    (h.0, h.1),
+    onwards_map (λ p t. RestsBegin known turns fs (map rest_unkept rs) t) (λ p t. AtSeconds RestCanBegin (anew turns) known fs rs t) (λ p t k. seconds_begin rs t k)
+        (comes_to (around_form known r.form [] s) turns fs r.left None) h.2,
+  )
 
   -- ---- what is kept is put into its place
 
@@ -127,15 +130,19 @@ module _ (known : Known) (turns : ℕ) (fs : List ℕ) where
 
   firsts_to : (xs : List FormOrKept) (ns : List (Note FramedIdent)) (s : ScopedState) → PassesKept known turns fs xs ns s → AtFirsts (IsKept turns) (keeping turns) known fs xs ns s
   firsts_to [] ns s h = tt
-  firsts_to (x ∷ xs) ns s h =
-      (h.0, onwards_map (λ p t. PassesKept known turns fs xs p.notes t) (λ p t. AtFirsts (IsKept turns) (keeping turns) known fs xs p.notes t) (λ p t k. firsts_to xs p.notes t k)
-      (unless_over (counted known) fs (goes_through (around_form known x.form ns s) turns x.tree x.kept)) h.1)
+  firsts_to (x ∷ xs) ns s h = (
+    h.0,
+    onwards_map (λ p t. PassesKept known turns fs xs p.notes t) (λ p t. AtFirsts (IsKept turns) (keeping turns) known fs xs p.notes t) (λ p t k. firsts_to xs p.notes t k)
+        (unless_over (counted known) fs (goes_through (around_form known x.form ns s) turns x.tree x.kept)) h.1,
+  )
 
   firsts_from : (xs : List FormOrKept) (ns : List (Note FramedIdent)) (s : ScopedState) → AtFirsts (IsKept turns) (keeping turns) known fs xs ns s → PassesKept known turns fs xs ns s
   firsts_from [] ns s h = tt
-  firsts_from (x ∷ xs) ns s h =
-      (h.0, onwards_map (λ p t. AtFirsts (IsKept turns) (keeping turns) known fs xs p.notes t) (λ p t. PassesKept known turns fs xs p.notes t) (λ p t k. firsts_from xs p.notes t k)
-      (unless_over (counted known) fs (goes_through (around_form known x.form ns s) turns x.tree x.kept)) h.1)
+  firsts_from (x ∷ xs) ns s h = (
+    h.0,
+    onwards_map (λ p t. AtFirsts (IsKept turns) (keeping turns) known fs xs p.notes t) (λ p t. PassesKept known turns fs xs p.notes t) (λ p t k. firsts_from xs p.notes t k)
+        (unless_over (counted known) fs (goes_through (around_form known x.form ns s) turns x.tree x.kept)) h.1,
+  )
 
   seconds_to : (rs : List LeftOrKept) (s : ScopedState) → RestsKept known turns fs rs s → AtSeconds (IsRestKept turns) (keeping turns) known fs rs s
   seconds_to [] s h = tt
@@ -189,19 +196,29 @@ module _ (known : Known) (turns : ℕ) (xs : List FormOrKept) (s : ScopedState) 
 
   pub plain_begin : UnitBegins known turns plain s → AllBegin (anew turns) known xs s
   plain_begin h =
-      let k = subst BeginsBy plain_numbers h in
-      (firsts_begin known turns fs xs [] s k.0, onwards_mapped (rest_unkept known turns fs) (λ rs t. RestsBegin known turns fs rs t) (λ rs t. AtSeconds RestCanBegin (anew turns) known fs rs t) (λ rs t b. seconds_begin known turns fs rs t b)
-      (firsts_by (anew turns) known fs xs [] s) (subst (Onwards (λ rs t. RestsBegin known turns fs rs t)) (firsts_unkept known turns fs xs [] s) k.1))
+      let k = subst BeginsBy plain_numbers h in (
+        firsts_begin known turns fs xs [] s k.0,
+        onwards_mapped (rest_unkept known turns fs) (λ rs t. RestsBegin known turns fs rs t) (λ rs t. AtSeconds RestCanBegin (anew turns) known fs rs t) (λ rs t b. seconds_begin known turns fs rs t b)
+            (firsts_by (anew turns) known fs xs [] s) (subst (Onwards (λ rs t. RestsBegin known turns fs rs t)) (firsts_unkept known turns fs xs [] s) k.1),
+      )
 
   keeping_in : AllKept (keeping turns) turns known xs s → UnitKept known turns xs s
-  keeping_in k =
-      (k.0, firsts_from known turns fs xs [] s k.1.0, subst (Onwards (λ rs t. RestsKept known turns fs rs t)) (firsts_keeping known turns fs xs [] s)
-      (onwards_map (λ rs t. AtSeconds (IsRestKept turns) (keeping turns) known fs rs t) (λ rs t. RestsKept known turns fs rs t) (λ rs t b. seconds_from known turns fs rs t b) (firsts_by (keeping turns) known fs xs [] s) k.1.1))
+  keeping_in k = (
+    k.0,
+    firsts_from known turns fs xs [] s k.1.0,
+    subst (Onwards (λ rs t. RestsKept known turns fs rs t)) (firsts_keeping known turns fs xs [] s)
+        (onwards_map (λ rs t. AtSeconds (IsRestKept turns) (keeping turns) known fs rs t) (λ rs t. RestsKept known turns fs rs t) (λ rs t b. seconds_from known turns fs rs t b) (firsts_by (keeping turns) known fs xs [] s) k.1.1),
+  )
 
   keeping_out : UnitKept known turns xs s → AllKept (keeping turns) turns known xs s
-  keeping_out k =
-      (k.0, (firsts_to known turns fs xs [] s k.1, onwards_map (λ rs t. RestsKept known turns fs rs t) (λ rs t. AtSeconds (IsRestKept turns) (keeping turns) known fs rs t) (λ rs t b. seconds_to known turns fs rs t b)
-      (firsts_by (keeping turns) known fs xs [] s) (subst (Onwards (λ rs t. RestsKept known turns fs rs t)) (sym (firsts_keeping known turns fs xs [] s)) k.2)))
+  keeping_out k = (
+    k.0,
+    (
+      firsts_to known turns fs xs [] s k.1,
+      onwards_map (λ rs t. RestsKept known turns fs rs t) (λ rs t. AtSeconds (IsRestKept turns) (keeping turns) known fs rs t) (λ rs t b. seconds_to known turns fs rs t b)
+          (firsts_by (keeping turns) known fs xs [] s) (subst (Onwards (λ rs t. RestsKept known turns fs rs t)) (sym (firsts_keeping known turns fs xs [] s)) k.2),
+    ),
+  )
 
   pub keeping_kept : UnitKept known turns xs s ↔ AllKept (keeping turns) turns known xs s
   keeping_kept = (keeping_out, keeping_in)

@@ -1,5 +1,5 @@
 -- A form asks for the rules of no local macro: those are its own.
-use Rattle.std.proofs.Common.{◌≡◌, ℕ, List, [], ◌∷◌, ◌++◌, Option, Some, None, Result, Ok, Err, refl, sym, subst}
+use Rattle.std.proofs.Common.{ℕ, List, [], ◌∷◌, ◌++◌, Option, Some, None, Result, Ok, Err, refl, sym, subst}
 use Rattle.scheme_model.specs.Identifiers.{Number}
 use Rattle.scheme_model.specs.Ident.{Ident}
 use Rattle.scheme_model.specs.Trees.{Tree}
@@ -8,7 +8,7 @@ use Rattle.scheme_model.specs.Steps.{Broken}
 use Rattle.scheme_model.specs.Order.{Left, Asked, Meant, Headed, RulesOf, Alike, Assigns, Library}
 use Rattle.scheme_model.specs.ScopedExpansion.{Frames, body_around}
 use Rattle.scheme_model.specs.OwnAnswers.{own_local}
-use Rattle.scheme_model.specs.Questions.{Moment, Around, own_at, Question, LooksUp, UsesRules, Compares, IsAssigned, Requires, Defines, unless_own, unless_local, in_unit, left_to_ask, dated, all_left, Asking}
+use Rattle.scheme_model.specs.Questions.{Moment, Around, own_at, Question, LooksUp, Compares, IsAssigned, Defines, unless_own, unless_local, in_unit, left_to_ask, dated, all_left, Asking}
 use Rattle.scheme_model.specs.FormsAlike.{questions_of_pass, questions_of_left}
 use Rattle.form_laws.specs.Begins.{Each}
 use Rattle.form_laws.proofs.AskingSides.{NoLocals}

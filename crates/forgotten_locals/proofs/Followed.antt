@@ -1,6 +1,6 @@
 -- Two ways follow the work in which every form is expanded: that in which kept forms are put into their places, and that in which what is
 -- local is forgotten besides.
-use Rattle.std.proofs.Common.{◌≡◌, ◌↔◌, ℕ, List, [], Option, Some, None, Result, Ok, Err, refl, sym}
+use Rattle.std.proofs.Common.{◌≡◌, ◌↔◌, ℕ, [], Option, Some, None, Result, Ok, Err, sym}
 use Rattle.scheme_model.specs.Ident.{Ident}
 use Rattle.scheme_model.specs.Steps.{Broken}
 use Rattle.scheme_model.specs.Order.{Left}

@@ -5,4 +5,6 @@ pub mod Turns
 pub mod Followed
 pub mod Anew
 pub mod Units
+pub mod StaysOutside
 pub mod WholePrograms
+pub mod ForgottenRows

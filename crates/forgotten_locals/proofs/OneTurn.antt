@@ -1,29 +1,29 @@
 -- One turn of a form in surroundings without what is local: it may be kept there where it may be kept with it, and comes to the same.
-use Rattle.std.proofs.Common.{◌≡◌, ◌↔◌, ℕ, List, [], ◌∷◌, map, ◌+◌, Option, Some, None, Result, Ok, Err, refl, sym, ap, ◌∙◌}
+use Rattle.std.proofs.Common.{◌≡◌, ◌↔◌, ℕ, List, [], ◌∷◌, ◌+◌, Option, Some, None, Result, Ok, Err, refl, sym, ap, ◌∙◌}
 use Rattle.scheme_model.specs.Ident.{Ident}
 use Rattle.scheme_model.specs.Trees.{Tree}
-use Rattle.scheme_model.specs.Cores.{Part, Parts, no_parts}
+use Rattle.scheme_model.specs.Cores.{Part, no_parts}
 use Rattle.scheme_model.specs.Steps.{Broken}
-use Rattle.scheme_model.specs.Order.{Left, Pass}
+use Rattle.scheme_model.specs.Order.{Left}
 use Rattle.scheme_model.specs.Substitution.{definition_count}
 use Rattle.scheme_model.specs.Requirements.{Known}
-use Rattle.scheme_model.specs.UnitExpansion.{Work, going, ◌then◌, nodes_in, unless_over, with_part, before_parts}
-use Rattle.scheme_model.specs.ScopedExpansion.{FramedIdent, ScopedState}
+use Rattle.scheme_model.specs.UnitExpansion.{going, nodes_in, with_part, before_parts}
+use Rattle.scheme_model.specs.ScopedExpansion.{ScopedState}
 use Rattle.scheme_model.specs.CountedExpansion.{counted}
-use Rattle.scheme_model.specs.Questions.{Moment, Around, Question, SameAnswer}
-use Rattle.scheme_model.specs.FormsAlike.{bound_moved, set_aside, start, set_aside_asking, questions_of_pass, questions_of_left, again, bare_note, bare_state}
-use Rattle.model_laws.proofs.UnitEnds.{Both, both_end, both_go, both_at, both_then, both_over}
-use Rattle.form_laws.specs.Begins.{Each, Begins, FormBegins, LeftBegins, RestBegins}
+use Rattle.scheme_model.specs.Questions.{Moment, Around, SameAnswer}
+use Rattle.scheme_model.specs.FormsAlike.{bound_moved, set_aside, start, set_aside_asking, questions_of_pass, questions_of_left, again, bare_state}
+use Rattle.model_laws.proofs.UnitEnds.{Both, both_end, both_go, both_then, both_over}
+use Rattle.form_laws.specs.Begins.{Each, Begins, FormBegins, RestBegins}
 use Rattle.form_laws.proofs.FormLaws.{set_itself, set_law}
-use Rattle.kept_forms.specs.KeptForms.{KeptForm, KeptItem, KeptParts, goes_through, put_items, put_parts, comes_to}
-use Rattle.kept_forms.specs.Carried.{kept_parts, PassStays, RestStays, PassKept, RestKept, no_counts}
+use Rattle.kept_forms.specs.KeptForms.{KeptForm, KeptItem, KeptParts, goes_through, put_items, comes_to}
+use Rattle.kept_forms.specs.Carried.{kept_parts, PassKept, RestKept, no_counts}
 use Rattle.kept_forms.proofs.Bares.{bare_around, answers_too, answers_itself}
 use Rattle.kept_forms.proofs.Fronts.{EndedLike, GivesLike, nodes_like}
 use Rattle.kept_forms.proofs.MayBeKept.{rest_itself}
 use Rattle.kept_forms.proofs.Numbers.{LeftIs}
 use Rattle.kept_forms.proofs.OneForm.{moved_none, rest_still, PassLike, pass_like, BegunAt, rest_like}
 use Rattle.forgotten_locals.specs.Outside.{outside, around_outside, forgotten}
-use Rattle.forgotten_locals.proofs.Outsides.{answers_outside, answers_inside, begins_outside, form_outside, rest_outside, same_outside, no_locals, outside_alike, outside_twice, again_outside}
+use Rattle.forgotten_locals.proofs.Outsides.{answers_outside, answers_inside, form_outside, rest_outside, same_outside, no_locals, outside_alike, outside_twice, again_outside}
 use Rattle.forgotten_locals.proofs.Asks.{pass_asks, left_asks_outside}
 
 -- ---- questions

@@ -1,7 +1,7 @@
 -- Surroundings without what is local: a form that may begin in them with it may begin in them without it, and they give the questions of a
 -- form the same answers.
-use Rattle.std.proofs.Common.{◌≡◌, ℕ, List, [], ◌∷◌, ◌++◌, map, filter, Bool, true, false, cond, Option, Some, None, Result, Ok, Err, refl, sym, ap, ◌∙◌, subst}
-use Rattle.scheme_model.specs.Identifiers.{Number, same_number}
+use Rattle.std.proofs.Common.{◌≡◌, List, [], ◌∷◌, ◌++◌, map, filter, Bool, true, false, cond, Option, Some, None, Result, Ok, Err, refl, sym, ap, ◌∙◌}
+use Rattle.scheme_model.specs.Identifiers.{Number}
 use Rattle.scheme_model.specs.Ident.{Ident, Written, Inserted}
 use Rattle.scheme_model.specs.Trees.{Tree}
 use Rattle.scheme_model.specs.Meaning.{Meaning, Local, Global, Standard, Free, same_meaning}
@@ -14,7 +14,7 @@ use Rattle.scheme_model.specs.Questions.{Moment, Around, at_moment, Question, Lo
 use Rattle.scheme_model.specs.FormsAlike.{again, bare_kept, bare_state}
 use Rattle.model_laws.proofs.EntryLaws.{NoLocal}
 use Rattle.model_laws.proofs.IdentKinds.{tree_kind, rules_kind, item_kind, use_kind}
-use Rattle.form_laws.specs.Begins.{Each, RulesWith, ItemWith, UseWith, IsMade, IsRooted, IsNoLocal, MacroStands, Begins, PlaceStands, NoteStands, FormBegins, LeftBegins, RestBegins, SameForm}
+use Rattle.form_laws.specs.Begins.{Each, ItemWith, UseWith, IsMade, IsRooted, MacroStands, Begins, PlaceStands, NoteStands, FormBegins, LeftBegins, RestBegins, SameForm}
 use Rattle.form_laws.proofs.AskingSides.{NoLocals, root_no}
 use Rattle.form_laws.proofs.OwnStates.{entry_given}
 use Rattle.kept_forms.proofs.Bares.{with_more}

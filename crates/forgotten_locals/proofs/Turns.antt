@@ -1,19 +1,18 @@
 -- A unit worked on in a way that follows the work in which every form is expanded: what is kept may be kept in one where it may be kept in
 -- the other, each form may begin where its turns come, and both come to the same.
-use Rattle.std.proofs.Common.{◌≡◌, ◌↔◌, ℕ, ◌+◌, List, [], ◌∷◌, map, Bool, true, false, cond, Option, Some, None, Result, Ok, Err, refl, sym, ap, ◌∙◌, subst}
+use Rattle.std.proofs.Common.{◌≡◌, ◌↔◌, ℕ, ◌+◌, List, [], ◌∷◌, map, Bool, true, false, cond, Option, Some, None, Result, refl, sym, ap, ◌∙◌, subst}
 use Rattle.std.specs.Prelude.{nat_lt}
 use Rattle.scheme_model.specs.Ident.{Ident}
 use Rattle.scheme_model.specs.Trees.{Tree}
 use Rattle.scheme_model.specs.Requirements.{Known}
-use Rattle.scheme_model.specs.Cores.{Parts}
 use Rattle.scheme_model.specs.Steps.{Broken}
 use Rattle.scheme_model.specs.RulesShape.{option_map}
 use Rattle.scheme_model.specs.Order.{Left, Note, Pass}
 use Rattle.scheme_model.specs.Substitution.{definition_count}
-use Rattle.scheme_model.specs.UnitExpansion.{Formed, Work, ◌then◌, going, unless_over, max_total, nodes_in}
+use Rattle.scheme_model.specs.UnitExpansion.{unless_over, max_total, nodes_in}
 use Rattle.scheme_model.specs.ScopedExpansion.{FramedIdent, ScopedMacro, UsePlace, BodyDefinitions, ScopedState}
 use Rattle.scheme_model.specs.CountedExpansion.{counted}
-use Rattle.scheme_model.specs.Questions.{Moment, Around}
+use Rattle.scheme_model.specs.Questions.{Around}
 use Rattle.scheme_model.specs.FormsAlike.{bound_moved, set_aside, start, bare_note, bare_state}
 use Rattle.model_laws.proofs.FrameAsks.{AllOf}
 use Rattle.model_laws.proofs.UnitEnds.{Both, both_end, both_go, both_at, both_then, both_over}
@@ -310,21 +309,35 @@ module _ (f : List ScopedMacro → List ScopedMacro) (g : List UsePlace → List
         both_at refl (ap (λ (l : List LeftOrKept). seconds_by way known fs l u2) z.1.1.1) (rests x y u u2 z.0 z.1).both)
 
     pub all_begin : AllKept way turns known xs s → AllBegin way known xs s
-    all_begin k = ((gone k).begins, right_onwards (λ y u. AtSeconds RestCanBegin way known fs y u)
-        (λ u u2 x y z. subst (λ (l : List LeftOrKept). AtSeconds RestCanBegin way known fs l u2) (sym z.1.1.1) (rests x y u u2 z.0 z.1).begins) (onwards_right (λ y u. AtSeconds (IsRestKept turns) way known fs y u) k.1.1 (firsts_behind k)))
+    all_begin k = (
+      (gone k).begins,
+      right_onwards (λ y u. AtSeconds RestCanBegin way known fs y u)
+          (λ u u2 x y z. subst (λ (l : List LeftOrKept). AtSeconds RestCanBegin way known fs l u2) (sym z.1.1.1) (rests x y u u2 z.0 z.1).begins) (onwards_right (λ y u. AtSeconds (IsRestKept turns) way known fs y u) k.1.1 (firsts_behind k)),
+    )
 
     all_in : AllKept way turns known xs s → AllKept (anew turns) turns known xs t
-    all_in k = (k.0, (firsts_in turns way law known fs xs [] [] s t e refl b.0 k.1.0, left_onwards (λ x u. AtSeconds (IsRestKept turns) (anew turns) known fs x u)
-        (λ u u2 x y z. seconds_in turns way law known fs x u2 u z.1.1.0 z.1.0 z.1.1.2 (subst (λ (l : List LeftOrKept). AtSeconds (IsRestKept turns) way known fs l u2) z.1.1.1 z.0))
-        (onwards_right (λ y u. AtSeconds (IsRestKept turns) way known fs y u) k.1.1 (firsts_behind k))))
+    all_in k = (
+      k.0,
+      (
+        firsts_in turns way law known fs xs [] [] s t e refl b.0 k.1.0,
+        left_onwards (λ x u. AtSeconds (IsRestKept turns) (anew turns) known fs x u)
+            (λ u u2 x y z. seconds_in turns way law known fs x u2 u z.1.1.0 z.1.0 z.1.1.2 (subst (λ (l : List LeftOrKept). AtSeconds (IsRestKept turns) way known fs l u2) z.1.1.1 z.0))
+            (onwards_right (λ y u. AtSeconds (IsRestKept turns) way known fs y u) k.1.1 (firsts_behind k)),
+      ),
+    )
 
     all_out : AllKept (anew turns) turns known xs t → AllKept way turns known xs s
     all_out k =
         let first = firsts_out turns way law known fs xs [] [] s t e refl b.0 k.1.0 in
-        let like = firsts_like turns way law known fs xs [] [] s t e refl b.0 k.0 first in
-        (k.0, (first, right_onwards (λ y u. AtSeconds (IsRestKept turns) way known fs y u)
-        (λ u u2 x y z. subst (λ (l : List LeftOrKept). AtSeconds (IsRestKept turns) way known fs l u2) (sym z.1.1.1) (seconds_out turns way law known fs x u2 u z.1.1.0 z.1.0 z.1.1.2 z.0))
-        (onwards_left (λ x u. AtSeconds (IsRestKept turns) (anew turns) known fs x u) k.1.1 (onwards_left (λ x u. AtSeconds RestCanBegin (anew turns) known fs x u) b.1 like.both))))
+        let like = firsts_like turns way law known fs xs [] [] s t e refl b.0 k.0 first in (
+          k.0,
+          (
+            first,
+            right_onwards (λ y u. AtSeconds (IsRestKept turns) way known fs y u)
+                (λ u u2 x y z. subst (λ (l : List LeftOrKept). AtSeconds (IsRestKept turns) way known fs l u2) (sym z.1.1.1) (seconds_out turns way law known fs x u2 u z.1.1.0 z.1.0 z.1.1.2 z.0))
+                (onwards_left (λ x u. AtSeconds (IsRestKept turns) (anew turns) known fs x u) k.1.1 (onwards_left (λ x u. AtSeconds RestCanBegin (anew turns) known fs x u) b.1 like.both)),
+          ),
+        )
 
     pub all_kept : AllKept way turns known xs s ↔ AllKept (anew turns) turns known xs t
     all_kept = (all_in, all_out)

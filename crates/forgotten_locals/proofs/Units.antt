@@ -1,5 +1,5 @@
 -- Each unit of a program may forget what is local, whatever was worked on before it.
-use Rattle.std.proofs.Common.{◌≡◌, ◌↔◌, ℕ, List, [], map, false, Option, Some, None, refl, sym, ap, ◌∙◌, subst}
+use Rattle.std.proofs.Common.{◌≡◌, ◌↔◌, ℕ, List, [], map, false, Option, Some, sym, ap, ◌∙◌, subst}
 use Rattle.scheme_model.specs.Ident.{Ident, Written}
 use Rattle.scheme_model.specs.Trees.{Tree}
 use Rattle.scheme_model.specs.Requirements.{Known}

@@ -4,16 +4,15 @@ use Rattle.scheme_model.specs.Requirements.{Known}
 use Rattle.scheme_model.specs.Prelude.{PreludeMacro, prelude}
 use Rattle.scheme_model.specs.Ident.{Written, Written as WrittenIdent}
 use Rattle.scheme_model.specs.Meaning.{Global, Standard}
-use Rattle.scheme_model.specs.ScopedExpansion.{UsePlace, ScopedMacro, ScopedState}
+use Rattle.scheme_model.specs.ScopedExpansion.{UsePlace, ScopedState}
 use Rattle.scheme_model.specs.FormsAlike.{bare_kept, bare_place}
 use Rattle.scheme_model.specs.Includes.{Document}
 use Rattle.scheme_model.specs.IncludedUnits.{Placed}
 use Rattle.scheme_model.specs.Program.{known_in, units_of, Prepared, prepare, WholeFault, fault_before, broken_result, unit_result, unit_entries, with_entries, enough_turns, is_ready, first_ready, in_order, program_of, forms_at_work, is_standard, prelude_unit, prelude_meaning}
 use Rattle.scheme_model.specs.ScopedProgram.{ScopedProgress, forms_over, scoped_unit_over, scoped_start_after, scoped_by_fault, scoped_worked, scoped_work, scoped_before, scoped_prelude_macro, scoped_program_of}
 use Rattle.model_laws.proofs.FramePrograms.{work_gone, between_before, program_law, Between as BetweenUnits}
-use Rattle.kept_forms.specs.KeptForms.{FormOrKept, form_of}
+use Rattle.kept_forms.specs.KeptForms.{form_of}
 use Rattle.kept_forms.specs.Carried.{UnitKept}
-use Rattle.kept_forms.specs.Worked.{uses_not_kept}
 use Rattle.kept_forms.specs.KeptPrograms.{Keeping, kept_worked, UnitKeeps, WorkKeeps, ProgramKeeps, SameProgress, program_not_kept, unit_not_kept, work_not_kept}
 use Rattle.kept_forms.proofs.Programs.{PlacesDone, work_placed, OrReady, first_is, new_unit, not_kept_same}
 use Rattle.kept_forms.proofs.WholePrograms.{itself, worked_alike}
@@ -140,9 +139,10 @@ module _ (all : List Placed) (ps : List Prepared) (known : Known) (keep : Keepin
 
   work_in : (n : ℕ) (g h : ScopedProgress) → BetweenUnits g → PlacesDone g → IsProgressOutside g h → AtUnits all ps Kept step n h → AtUnits all ps KeptAnew (scoped_worked all ps known) n g
   work_in zero g h b d o k = tt
-  work_in (suc n) g h b d o k =
-      (kept_unit g h b d o (first_of g) (ready g h b d o) (subst (λ (z : Option Prepared). AtUnit all ps Kept z h) (next g h b d o) k.0),
-      work_in n (scoped_worked all ps known (first_of g) g) (step (first_of h) h) (gone g b) (work_placed all ps known 1 g d) (then_outside g h b d o k.0) k.1)
+  work_in (suc n) g h b d o k = (
+    kept_unit g h b d o (first_of g) (ready g h b d o) (subst (λ (z : Option Prepared). AtUnit all ps Kept z h) (next g h b d o) k.0),
+    work_in n (scoped_worked all ps known (first_of g) g) (step (first_of h) h) (gone g b) (work_placed all ps known 1 g d) (then_outside g h b d o k.0) k.1,
+  )
 
   work_out : (n : ℕ) (g h : ScopedProgress) → BetweenUnits g → PlacesDone g → IsProgressOutside g h → AtUnits all ps KeptAnew (scoped_worked all ps known) n g → AtUnits all ps Kept step n h
   work_out zero g h b d o k = tt
@@ -171,10 +171,10 @@ module _ (all : List Placed) (ps : List Prepared) (known : Known) (keep : Keepin
 
   module _ (g h : ScopedProgress) (b : BetweenUnits g) (placed : PlacesDone g) (alike : SameProgress h g) where
     keeps_start : (p : Prepared) → is_ready all ps g.results p ≡ true → (f : Option WholeFault) → UnitKeeps all known keep p f h ↔ AtStart all KeptAnew p f g
-    keeps_start p ready (Some f) = ((λ k. tt), (λ k. tt))
-    keeps_start p ready None =
+    keeps_start p r (Some f) = ((λ k. tt), (λ k. tt))
+    keeps_start p r None =
         let x : map form_of (keep p.number) ≡ forms_over (Written p.number) p.number 0 (forms_at_work p) → UnitKept known enough_turns (keep p.number) (scoped_start_after all p h) ↔ AllKept (anew enough_turns) enough_turns known (keep p.number) (scoped_start_after all p g)
-        = λ forms. keeping_is all ps known g b placed p (new_unit all ps known g p ready) (keep p.number) forms h alike in
+        = λ forms. keeping_is all ps known g b placed p (new_unit all ps known g p r) (keep p.number) forms h alike in
         ((λ k. (k.0, (x k.0).0 k.1)), (λ k. (k.0, (x k.0).1 k.1)))
 
     keeps_unit : (q : Option Prepared) → OrReady all ps known (is_ready all ps g.results) q → WorkKeeps all ps known keep q h ↔ AtUnit all ps KeptAnew q g

@@ -19,6 +19,10 @@ macros_outside ks = filter (λ k. is_outside k.meaning) ks
 abbrev pub outside : ScopedState → ScopedState
 outside s = record s { macros = macros_outside s.macros; places = []; definitions = [] }
 
+-- nothing local is there
+abbrev pub IsOutside : ScopedState → Type 0
+IsOutside s = outside s ≡ s
+
 abbrev pub around_outside : Around → Around
 around_outside w = record { state = outside w.state; known = w.known; notes = w.notes }
 

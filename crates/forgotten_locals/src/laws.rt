@@ -15,8 +15,8 @@ ghost use Rattle.form_laws.specs.Begins.{Each, Begins, FormBegins, RestBegins};
 ghost use Rattle.kept_forms.specs.KeptForms.{FormOrKept, KeptForm, KeptParts, form_of};
 ghost use Rattle.kept_forms.specs.Carried.{UnitKept, PassKept, RestKept};
 ghost use Rattle.kept_forms.specs.KeptPrograms.{Keeping, ProgramKeeps, program_not_kept, SameProgress};
-ghost use Rattle.forgotten_locals.specs.Outside.{around_outside, ForgetsLocals};
-ghost use Rattle.forgotten_locals.specs.Ways.{anew, forgetting, unit_by, AllKept, AllBegin};
+ghost use Rattle.forgotten_locals.specs.Outside.{IsOutside, around_outside, ForgetsLocals};
+ghost use Rattle.forgotten_locals.specs.Ways.{anew, forgetting, unit_by, AtTurns, AllKept, AllBegin};
 ghost use Rattle.forgotten_locals.specs.Programs.{forgetting_work, forgetting_worked, forgetting_program_of, AtUnits, UnitIsKept, units_sum, uses_forgetting, IsProgressOutside};
 
 /// What is local is asked of nothing that is around a form (R7RS 4.3, 5.3): whatever the form asks has the same answer where it is
@@ -33,8 +33,9 @@ pub fn what_is_local_is_not_asked()
 {}
 
 /// A unit of a program of which some forms are kept may forget what is local behind each form's turn (R7RS 4.3, 5.1, 5.3). It comes to what
-/// it comes to where every form is expanded and nothing is forgotten, and to that state outside of all forms. What may be kept of a form is all one whether what is local is
-/// forgotten, and whether other forms are kept. Each form may begin where its turns come, so what it comes to there may be kept in turn.
+/// it comes to where every form is expanded and nothing is forgotten, and goes to that state outside of all forms. Nothing local is there
+/// when a turn comes; each form may begin there, so what it comes to may be kept in turn. What may be kept of a form is told by the unit of
+/// which every form is expanded, whatever else is kept, and whether what is local is forgotten or not.
 pub fn units_may_forget_what_is_local()
     ensures same { (all : List Placed) (units : List Prepared) (known : Known) (n : ℕ) (h : ScopedProgress) (p : Prepared) (xs : List FormOrKept) →
         let g = scoped_work all units known n scoped_before in let s = scoped_start_after all p h in
@@ -44,6 +45,8 @@ pub fn units_may_forget_what_is_local()
         let g = scoped_work all units known n scoped_before in let s = scoped_start_after all p h in
         IsProgressOutside g h → is_ready all units g.results p ≡ true → map form_of xs ≡ forms_over (Written p.number) p.number 0 (forms_at_work p) → AllKept (forgetting enough_turns) enough_turns known xs s →
         AllBegin (forgetting enough_turns) known xs s }
+    ensures outside { (all : List Placed) (p : Prepared) (known : Known) (turns : ℕ) (g h : ScopedProgress) (xs : List FormOrKept) → IsProgressOutside g h →
+        AtTurns (λ v x. IsOutside v.state) (λ v r. IsOutside v.state) (forgetting turns) known xs (scoped_start_after all p h) }
     ensures kept { (all : List Placed) (units : List Prepared) (known : Known) (n : ℕ) (h : ScopedProgress) (p : Prepared) (xs : List FormOrKept) →
         let g = scoped_work all units known n scoped_before in
         IsProgressOutside g h → is_ready all units g.results p ≡ true → map form_of xs ≡ forms_over (Written p.number) p.number 0 (forms_at_work p) →
