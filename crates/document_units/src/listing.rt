@@ -29,6 +29,7 @@ use library_table::{first_of_program, read_part, read_program, read_unit};
 use ls_base::limits::MAX_UNITS;
 use ls_base::{Items, Mem, Memory, Span, Text};
 use read_documents::documents::Document;
+use read_documents::heads::{Head, WholeFault};
 use scheme_model::{Home, Occ};
 use std::alloc::Global;
 use syntax_tree::units::UnitKind;
