@@ -1,8 +1,8 @@
 -- Entries under new numbers stand for identifiers under new numbers.
-use Rattle.std.proofs.Common.{◌≡◌, ℕ, ◌<◌, List, map, take, length, slice_get, Option, Some, refl, sym, ap, ◌∙◌, subst, arith}
+use Rattle.std.proofs.Common.{◌≡◌, ℕ, ◌<◌, List, map, take, length, slice_get, Some, sym, ap, ◌∙◌, arith}
 use Rattle.std.specs.Option.{option_map}
-use Rattle.std.proofs.lemmas.List.{length-take-le, length-map}
-use Rattle.std.proofs.lemmas.Option.{slice_get-map, slice_get_within, same_Some}
+use Rattle.std.proofs.lemmas.List.{length-map}
+use Rattle.std.proofs.lemmas.Option.{slice_get-map, slice_get_within}
 use Rattle.scheme_model.specs.Identifiers.{Number}
 use Rattle.scheme_model.specs.Ident.{Ident as Identifier, Written, Inserted}
 use Rattle.scheme_model.specs.Meaning as model

@@ -1,12 +1,12 @@
 -- Nodes under new numbers.
-use Rattle.std.proofs.Common.{◌≡◌, ◌≢◌, ◌⊎◌, ℕ, ◌+◌, ◌<◌, ◌≤◌, Option, Some, None, refl, sym, ap, ◌∙◌, subst, inl, inr, arith}
+use Rattle.std.proofs.Common.{◌≡◌, ◌≢◌, ℕ, ◌+◌, ◌<◌, ◌≤◌, Option, Some, None, refl, sym, ap, ◌∙◌, inl, inr, arith}
 use Rattle.std.specs.Prelude.{IsSome, is_some}
 use Rattle.std.specs.Option.{option_map}
 use Rattle.std.specs.FinMap as finite
 use Rattle.std.proofs.lemmas.Bool.{cases_eq, cases_lt}
 use Rattle.std.proofs.lemmas.Option.{none-some}
 use Rattle.scheme_model.specs.declared.Occ.{Occ}
-use Rattle.syntax_tree.specs.Nodes.{Shape, Lived, Nodes, shape_at}
+use Rattle.syntax_tree.specs.Nodes.{Lived, Nodes, shape_at}
 use Rattle.syntax_tree.specs.NodePlaces.{place_in, placed_at}
 use Rattle.syntax_tree.proofs.NodeLaws.{map_some}
 use Rattle.syntax_tree.proofs.SeenLaws.{got_here, got_there}

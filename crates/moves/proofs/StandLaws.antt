@@ -1,13 +1,13 @@
 -- What stands in a work under new numbers.
-use Rattle.std.proofs.Common.{◌≡◌, ◌⊎◌, ℕ, ◌<◌, Bool, true, false, List, [], ◌∷◌, map, length, slice_get, Option, Some, None, refl, sym, ap, ◌∙◌, subst, arith}
-use Rattle.std.specs.Prelude.{IsSome, ◌==◌}
+use Rattle.std.proofs.Common.{◌≡◌, ℕ, Bool, true, false, List, [], ◌∷◌, map, slice_get, Option, Some, None, refl, sym, ap, ◌∙◌, subst, arith}
+use Rattle.std.specs.Prelude.{IsSome}
 use Rattle.std.specs.Option.{option_map}
 use Rattle.std.specs.FinMap as finite
 use Rattle.std.proofs.lemmas.List.{length-map}
 use Rattle.std.proofs.lemmas.Option.{slice_get-map}
 use Rattle.syntax_tree.proofs.Places.{get_within}
 use Rattle.scheme_model.specs.declared.Occ.{Occ}
-use Rattle.scheme_model.specs.Trees.{Character, Boolean, Numeral, Quoted, Bytes, Tree, name, atom, list, vector, Trees, no_trees, tree, Tail, proper, dotted}
+use Rattle.scheme_model.specs.Trees.{Numeral, Quoted, Bytes, Tree, name, atom, list, vector, Trees, no_trees, tree, Tail, proper, dotted}
 use Rattle.scheme_model.specs.Identifiers.{Number}
 use Rattle.scheme_model.specs.Ident.{Ident as Identifier, Written, Inserted, same_ident}
 use Rattle.syntax_tree.specs.Names.{Names, AreToldApart}
@@ -22,7 +22,7 @@ use Rattle.syntax_tree.proofs.NodeLaws.{map_some}
 use Rattle.syntax_tree.proofs.SeenLaws.{same_finite}
 use Rattle.syntax_tree.proofs.InternLaws.{ident_told, ident_itself}
 use Rattle.renumbering_laws.specs.Moving.{move_tree, move_trees, move_tail}
-use Rattle.renumbering_laws.specs.Renumbering.{Renumbering, IsOneToOne, number, occ_at, place, ident, change}
+use Rattle.renumbering_laws.specs.Renumbering.{Renumbering, IsOneToOne, number, place, ident, change}
 use Rattle.renumbering_laws.proofs.OneToOne.{ident_moved}
 use Rattle.moves.specs.Numbers.{IsBack}
 use Rattle.moves.specs.Works.{lived_as, NamesMove, TreesMove, WorkMoves}

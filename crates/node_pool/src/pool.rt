@@ -211,7 +211,15 @@ impl<N: Drop> Pool<N> {
         let number = id.number as usize;
         let held = self.nodes.get(number);
         let (region, rank, before) = (held.region, held.rank, held.before);
-        let held = self.nodes.replace(number, Held { node, region, rank, before });
+        let held = self.nodes.replace(
+            number,
+            Held {
+                node,
+                region,
+                rank,
+                before,
+            },
+        );
         held.node
     }
 

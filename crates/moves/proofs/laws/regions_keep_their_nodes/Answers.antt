@@ -1,4 +1,4 @@
-use Rattle.std.proofs.Common.{◌∙◌, ap}
+use Rattle.std.proofs.Common.{◌∙◌}
 use Rattle.moves.specs.Works.{lived_as}
 use Rattle.moves.proofs.StandLaws.{lives_there, lies_there, outlives_there, open_there, named_there}
 use Rattle.moves.proofs.laws.regions_keep_their_nodes.Goals as goal

@@ -1,7 +1,7 @@
 use Rattle.std.proofs.Common.{is_some, sym, ap, ◌∙◌}
 use Rattle.std.specs.FinMap as map
 use Rattle.node_pool.specs.Chains.{lived_as}
-use Rattle.node_pool.proofs.MapLaws.{get_map, some_mapped}
+use Rattle.node_pool.proofs.MapLaws.{some_mapped}
 use Rattle.node_pool.proofs.pool.Pool.lives.Goals as goal
 
 pub returns : goal.returns

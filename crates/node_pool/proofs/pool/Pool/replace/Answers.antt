@@ -1,8 +1,7 @@
-use Rattle.std.proofs.Common.{List, Option, Some, sym, ap, subst, ◌∙◌}
+use Rattle.std.proofs.Common.{List, Option, sym, ap, subst, ◌∙◌}
 use Rattle.std.specs.Prelude.{IsSome}
 use Rattle.std.specs.Option.{option_map}
 use Rattle.std.specs.FinMap as map
-use Rattle.node_pool.specs.NodePool.{NodePool}
 use Rattle.node_pool.specs.Chains.{nodes_of, AreChained}
 use Rattle.node_pool.specs.declared.pool.Held.{Held}
 use Rattle.node_pool.proofs.PoolLaws.{is_held, lived_at}
