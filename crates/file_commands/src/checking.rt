@@ -17,10 +17,11 @@ use document_store::{Store, StoreFault};
 use ls_base::{Encoding, Items, Mem, Memory, Steps, Text};
 use program_answers::lists::{Lists, lists};
 use program_answers::open::Open;
-use program_expansion::program::{Reading, read_program};
+use program_expansion::program::read_program;
 use std::alloc::Global;
 use std::sync::ledger::Ledger;
 use syntax_tree::trees::Work;
+use unit_results::collecting::Reading;
 
 /// The version of a document that no client has opened.
 const VERSION: i64 = 0;

@@ -191,19 +191,6 @@ fn blank(alloc: Global) -> Declared
     }
 }
 
-/// A trace of nothing.
-pub fn blank_trace(alloc: Global) -> Trace
-    ensures definitions { result.definitions ≡ [] }
-    ensures keywords { result.keywords ≡ [] }
-    ensures uses { result.uses ≡ [] }
-{
-    Trace {
-        definitions: Items::new(alloc),
-        keywords: Items::new(alloc),
-        uses: Items::new(alloc),
-    }
-}
-
 /// Goes through the tree of a form.
 fn declare_tree<L: Ledger>(
     bench: &mut Bench,

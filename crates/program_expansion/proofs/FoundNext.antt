@@ -13,7 +13,7 @@ use Rattle.expansion_laws.proofs.OtherForms.{none_in_front}
 use Rattle.program_expansion.specs.UnitResults.{IsCome, IsUpTo, expanded_after, so_far, with_unit}
 use Rattle.read_documents.specs.Readings.{Read}
 use Rattle.document_units.specs.Turned.{turns, scoped_at}
-use Rattle.program_expansion.specs.UnitsFound.{in_the_end, HaveFound}
+use Rattle.unit_results.specs.UnitsFound.{in_the_end, HaveFound}
 use Rattle.read_documents.specs.UnitFindings.{IsFoundOf}
 use Rattle.unit_imports.specs.declared.expanded.Expanded.{Expanded}
 use Rattle.form_expansion.specs.declared.forms.Bench.{Bench}

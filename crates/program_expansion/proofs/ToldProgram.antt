@@ -20,9 +20,9 @@ use Rattle.program_expansion.specs.UnitResults.{HaveCome, HeadsBy, IsCome, fault
 use Rattle.read_documents.specs.Places.{AreHeads}
 use Rattle.read_documents.specs.Readings.{Read}
 use Rattle.document_units.specs.Turned.{turns, scoped_at}
-use Rattle.program_expansion.specs.UnitsFound.{AreResultsOf, AreTold, HaveFound, IsTold}
+use Rattle.unit_results.specs.UnitsFound.{AreResultsOf, AreTold, HaveFound, IsTold}
 use Rattle.read_documents.specs.UnitFindings.{IsFoundOf}
-use Rattle.program_expansion.proofs.CollectLaws.{get}
+use Rattle.unit_results.proofs.ReadingLaws.{get}
 use Rattle.program_expansion.proofs.ProgramOf.{comes_last, low, program_at, table_is, unit_prepared}
 use Rattle.document_units.proofs.TurnGraph.{as_many}
 use Rattle.program_expansion.proofs.TurnResults.{scoped_left, scoped_result, scoped_units}

@@ -14,3 +14,4 @@ pub mod HeadsKept  -- Heads that stay are those of the same units
 pub mod ToldUnits  -- Units of a program one by one
 pub mod TokenPlaces  -- The bytes of a datum's first token are those of the token with its number (R7RS 7.1.2)
 pub mod OpenedLaws  -- The documents that are opened are those that their texts are read as
+pub mod Enumerated  -- The items of a list with their places

@@ -15,11 +15,12 @@ use arrow_index::index::Index;
 use core_tree::units::Program;
 use document_store::Store;
 use ls_base::{Items, Mem, Steps};
-use program_expansion::program::{Reading, read_program};
+use program_expansion::program::read_program;
 use std::alloc::Global;
 use std::marker::Model;
 use std::sync::ledger::Ledger;
 use syntax_tree::trees::Work;
+use unit_results::collecting::Reading;
 
 /// The units of all documents, with the trees and names that they are over, and their index, if it was collected. The forms of each
 /// unit stand for something of the definitions. Contracts don't see the index.

@@ -44,7 +44,7 @@ use program_answers::asked::Asked;
 use program_answers::classes::{Class, class_at, standard_at};
 use program_answers::lists::{Lists, lists, published};
 use program_answers::open::Open;
-use program_expansion::program::{Reading, read_program};
+use program_expansion::program::read_program;
 use read_documents::findings::Sorted;
 use read_documents::places::PlacedError;
 use scheme_model::Occ;
@@ -53,6 +53,7 @@ use std::collections::BTreeMap;
 use std::marker::Model;
 use std::sync::ledger::Ledger;
 use syntax_tree::trees::Work;
+use unit_results::collecting::Reading;
 
 /// The open documents, the program that they are with the trees that it is over, their diagnostics, which of them are parts of others,
 /// and the encoding of positions.

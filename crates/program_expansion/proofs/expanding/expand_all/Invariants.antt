@@ -9,14 +9,14 @@ use Rattle.unit_scopes.specs.Outcomes.{Grows}
 use Rattle.program_expansion.specs.UnitResults.{FindsLibraries, GoesOn, HeadsBy, IsUpTo}
 use Rattle.read_documents.specs.UnitSources.{AreSourcesOf}
 use Rattle.document_units.specs.Turned.{scoped_at, turns}
-use Rattle.program_expansion.specs.Formed.{CameFormed}
+use Rattle.unit_results.specs.Formed.{CameFormed}
 use Rattle.form_expansion.specs.Forms.{IsBench}
 use Rattle.unit_imports.specs.EntriesMeant.{ExportsMean}
 use Rattle.read_documents.specs.Places.{AreHeads, HeadsStay, NamesKept, HaveTokens}
 use Rattle.read_documents.specs.Readings.{Read}
-use Rattle.program_expansion.specs.UnitsExpanded.{AreAllFound}
+use Rattle.unit_results.specs.UnitsExpanded.{AreAllFound}
 use Rattle.program_expansion.specs.UsesInTurn.{uses_at}
-use Rattle.program_expansion.specs.UnitsFound.{AreLostIn, AreResultsOf, HaveFound}
+use Rattle.unit_results.specs.UnitsFound.{AreLostIn, AreResultsOf, HaveFound}
 use Rattle.program_expansion.proofs.expanding.expand_all.Given as goal
 
 -- the units so far came to something, and those to come are still to be begun

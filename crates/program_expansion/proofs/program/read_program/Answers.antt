@@ -13,8 +13,8 @@ use Rattle.read_documents.specs.DataRead.{AreOpened, AreReadIn}
 use Rattle.read_documents.specs.Places.{AreHeadsIn, HaveTokens}
 use Rattle.read_documents.specs.Readings.{AreDocuments, AreReadAs, Read, documents_in, program_in}
 use Rattle.document_units.specs.Sound.{IsSound}
-use Rattle.program_expansion.specs.UnitsExpanded.{AreAllFound}
-use Rattle.program_expansion.specs.UnitsFound.{AreTold}
+use Rattle.unit_results.specs.UnitsExpanded.{AreAllFound}
+use Rattle.unit_results.specs.UnitsFound.{AreTold}
 use Rattle.read_documents.specs.declared.documents.Document.{Document}
 use Rattle.program_expansion.proofs.CollectLaws.{program_stands}
 use Rattle.read_documents.proofs.OpenedLaws.{documents_opened}

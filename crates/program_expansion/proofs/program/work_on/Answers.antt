@@ -21,13 +21,13 @@ use Rattle.read_documents.specs.DataRead.{HaveData}
 use Rattle.read_documents.specs.Libraries.{FindsBelow}
 use Rattle.read_documents.specs.Places.{AreHeads}
 use Rattle.read_documents.specs.Readings.{documents_in}
-use Rattle.program_expansion.specs.UnitsFound.{AreLostIn, AreTold}
+use Rattle.unit_results.specs.UnitsFound.{AreLostIn, AreTold}
 use Rattle.document_units.proofs.JudgedLaws.{unit_found}
 use Rattle.program_expansion.proofs.KnownLaws.{known_listed}
 use Rattle.read_documents.specs.declared.documents.Document.{Document}
 use Rattle.program_expansion.proofs.LostStand.{units_lost}
 use Rattle.program_expansion.proofs.ReadUnits.{judged_heads, forgotten_sources}
-use Rattle.program_expansion.proofs.SoundKept.{sound_kept, sound_with}
+use Rattle.unit_results.proofs.SoundKept.{sound_kept, sound_with}
 use Rattle.read_documents.proofs.HeadsKept.{heads_kept}
 use Rattle.program_expansion.proofs.HeadsStand.{heads_stand}
 use Rattle.read_documents.proofs.OpenedLaws.{documents_opened}

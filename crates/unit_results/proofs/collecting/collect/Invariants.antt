@@ -2,15 +2,15 @@ use Rattle.std.proofs.Common.{◌≡◌, ℕ, ◌≤◌, List, length, map, slic
 use Rattle.read_documents.specs.Belongs.{AreErrorsIn}
 use Rattle.program_leaves.specs.Formed.{AreFormedIn}
 use Rattle.syntax_tree.specs.declared.trees.Work.{Work}
-use Rattle.program_expansion.specs.Formed.{CameFormed}
+use Rattle.unit_results.specs.Formed.{CameFormed}
 use Rattle.scheme_model.specs.Program.{Program}
 use Rattle.read_documents.specs.Places.{HeadsStay, HaveTokens}
 use Rattle.read_documents.specs.Readings.{Read}
-use Rattle.program_expansion.specs.UnitsFound.{AreTold}
+use Rattle.unit_results.specs.UnitsFound.{AreTold}
 use Rattle.read_documents.specs.declared.documents.Document.{Document}
 use Rattle.unit_imports.proofs.Collecting.{AreCollectedSo}
 use Rattle.read_documents.proofs.ToldUnits.{AreToldTo}
-use Rattle.program_expansion.proofs.program.collect.Given as goal
+use Rattle.unit_results.proofs.collecting.collect.Given as goal
 
 -- heads stay, what is found of the units so far stands in the documents, and their forms stand for something
 abbrev pub invariant-loop-place : goal.invariant-loop-place

@@ -16,22 +16,22 @@ use Rattle.program_leaves.specs.Formed.{IsFormed, AreFormedIn}
 use Rattle.read_documents.specs.Findings.{AreKept, all_told, first_error_in}
 use Rattle.read_documents.specs.Places.{AreFoundIn, AreHeads, AreHeadsIn, ArePlaces, HaveTokens}
 use Rattle.read_documents.specs.Readings.{AreDocuments, program_in}
-use Rattle.program_expansion.specs.UnitsFound.{IsTold}
+use Rattle.unit_results.specs.UnitsFound.{IsTold}
 use Rattle.document_units.proofs.BrokenLaws.{heads_itself, heads_in, head_set}
 use Rattle.unit_sources.specs.declared.units.UnitForm.{UnitForm as SourceForm}
 use Rattle.unit_imports.specs.Collected.{IsNothing}
 use Rattle.read_documents.specs.declared.documents.Document.{Document}
 use Rattle.unit_imports.proofs.Collecting.{AreCollectedSo, none_collected, one_collected, has_come, set_other}
-use Rattle.program_expansion.proofs.CollectLaws.{get}
-use Rattle.form_expansion.proofs.Enumerated.{all_placed, next_placed}
+use Rattle.unit_results.proofs.ReadingLaws.{get}
+use Rattle.read_documents.proofs.Enumerated.{all_placed, next_placed}
 use Rattle.read_documents.proofs.HeadsKept.{heads_kept}
-use Rattle.program_expansion.proofs.ReadingLaws.{errors_none, errors_more, found_in, formed_at, formed_none, formed_more}
-use Rattle.program_expansion.proofs.SoundKept.{some_document}
+use Rattle.unit_results.proofs.ReadingLaws.{errors_none, errors_more, found_in, formed_at, formed_none, formed_more}
+use Rattle.unit_results.proofs.SoundKept.{some_document}
 use Rattle.program_findings.proofs.StopsLaws.{kept_of_all}
 use Rattle.read_documents.proofs.ToldUnits.{none_told, more_told, kept_all, firsts_all, result_of}
-use Rattle.program_expansion.proofs.UnitsTurns.{of_some}
-use Rattle.program_expansion.proofs.program.collect.Goals as goal
-use Rattle.program_expansion.proofs.program.collect.Goals.{In-Some, In-None}
+use Rattle.unit_results.proofs.UnitsTurns.{of_some}
+use Rattle.unit_results.proofs.collecting.collect.Goals as goal
+use Rattle.unit_results.proofs.collecting.collect.Goals.{In-Some, In-None}
 
 -- the unit's place, and what it came to
 turn : (c : In-Some) → (c.in-Some.place ≡ length c.loop-place.yielded) × (slice_get c.args.expanded.items (length c.loop-place.yielded) ≡ Some c.in-Some.came) × (length c.loop-place.yielded < length c.args.expanded.items)

@@ -8,9 +8,9 @@ use Rattle.read_documents.specs.Diagnosed.{IsWhole}
 use Rattle.read_documents.specs.Findings.{Adds}
 use Rattle.read_documents.specs.Places.{AreFoundIn, spans_of}
 use Rattle.read_documents.proofs.FoundLaws.{found_none, found_more}
-use Rattle.program_expansion.proofs.UnitsTurns.{blank_formed}
+use Rattle.unit_results.proofs.UnitsTurns.{blank_formed}
 use Rattle.program_findings.proofs.WholeLaws.{whole_found, whole_of}
-use Rattle.program_expansion.proofs.expanding.broken.Goals as goal
+use Rattle.unit_results.proofs.results.broken.Goals as goal
 
 pub returns-clause-findings : goal.returns-clause-findings
 returns-clause-findings c =

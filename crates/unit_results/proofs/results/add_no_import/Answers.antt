@@ -3,8 +3,8 @@ use Rattle.std.proofs.Common.{length, ap, ◌∙◌}
 use Rattle.read_documents.specs.Places.{spans_of}
 use Rattle.read_documents.specs.declared.findings.Finding.{Finding}
 use Rattle.read_documents.proofs.FoundLaws.{found_at}
-use Rattle.program_expansion.proofs.NoImport.{imports_alike, import_there, no_import_told}
-use Rattle.program_expansion.proofs.expanding.add_no_import.Goals as goal
+use Rattle.unit_results.proofs.NoImport.{imports_alike, import_there, no_import_told}
+use Rattle.unit_results.proofs.results.add_no_import.Goals as goal
 
 pub returns-in_ok-push-clause-inside : goal.returns-in_ok-push-clause-inside
 returns-in_ok-push-clause-inside c = λ found.

@@ -7,7 +7,7 @@ use Rattle.scheme_tokens.specs.LibraryNames.{library_text}
 use Rattle.syntax_tree.specs.declared.trees.Work.{Work}
 use Rattle.core_tree.specs.Units.{ProgramStands}
 use Rattle.core_tree.specs.declared.units.Program.{Program}
-use Rattle.program_expansion.specs.declared.program.Reading.{Reading}
+use Rattle.unit_results.specs.declared.collecting.Reading.{Reading}
 use Rattle.read_documents.specs.Listed.{AreFoundOf}
 use Rattle.read_documents.specs.Readings.{AreReadAs, Read, documents_in, program_in}
 use Rattle.program_leaves.specs.Formed.{AreFormedIn}

@@ -8,7 +8,7 @@ use Rattle.read_documents.specs.Broken.{told as told_as}
 use Rattle.read_documents.specs.declared.heads.WholeFault.{WholeFault}
 use Rattle.read_documents.specs.declared.heads.WholeFault.TheVariants as fault
 use Rattle.read_documents.specs.declared.heads.Head.{Head}
-use Rattle.program_expansion.proofs.program.broken_at.Goals as goal
+use Rattle.unit_results.proofs.collecting.broken_at.Goals as goal
 
 pub returns-clause-formed : goal.returns-clause-formed
 returns-clause-formed c = λ work. subst (λ (n : ℕ). IsFormed work n c.in_ok-broken.field-0.forms) c.in_ok-unit.ensures (c.in_ok-broken.ensures.formed work)

@@ -3,8 +3,8 @@ use Rattle.scheme_model.specs.Diagnostics.{bytes_of, unbound_diagnostics}
 use Rattle.scheme_model.specs.Live.{unit_leaves}
 use Rattle.read_documents.specs.Findings.{Adds}
 use Rattle.read_documents.specs.Places.{spans_of}
-use Rattle.program_expansion.proofs.UnitsFoundLaws.{adds_nothing}
-use Rattle.program_expansion.proofs.expanding.add_unbound_if.Goals as goal
+use Rattle.unit_results.proofs.FoundParts.{adds_nothing}
+use Rattle.unit_results.proofs.results.add_unbound_if.Goals as goal
 
 pub returns-in_ok-add_unbound-clause-exact : goal.returns-in_ok-add_unbound-clause-exact
 returns-in_ok-add_unbound-clause-exact c = λ rs us work unit fs are kept stand.

@@ -11,10 +11,10 @@ use Rattle.core_tree.specs.declared.units.UnitForm.{UnitForm}
 use Rattle.expansion_laws.proofs.PartsStay.{forms_on}
 use Rattle.unit_imports.specs.declared.expanded.Expanded.{Expanded}
 use Rattle.program_leaves.specs.Formed.{IsFormed}
-use Rattle.program_expansion.specs.Formed.{CameFormed}
+use Rattle.unit_results.specs.Formed.{CameFormed}
 use Rattle.unit_imports.specs.EntriesMeant.{HaveMeaning, ExportsMean}
 use Rattle.read_documents.specs.Places.{AreFoundIn}
-use Rattle.program_expansion.specs.UnitsExpanded.{AreAllFound}
+use Rattle.unit_results.specs.UnitsExpanded.{AreAllFound}
 use Rattle.read_documents.proofs.ChangedLaws.{set_cases}
 use Rattle.unit_imports.proofs.Collecting.{blank_stand}
 use Rattle.unit_imports.proofs.MeaningLaws.{mean_kept}

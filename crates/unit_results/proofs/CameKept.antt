@@ -18,13 +18,13 @@ use Rattle.syntax_tree.specs.declared.trees.Work.{Work}
 use Rattle.syntax_tree.specs.declared.units.Entry.{Entry}
 use Rattle.core_tree.specs.Units.{FormsStand, definitions_from, defined_by, externals, given_exports, AreDefinitions, AreNames}
 use Rattle.expansion_laws.proofs.PartsStay.{forms_on}
-use Rattle.program_expansion.specs.UnitResults.{CameTo, ComesTo, IsCome, HaveCome, so_far}
+use Rattle.unit_results.specs.Came.{CameTo, ComesTo, IsCome, HaveCome, so_far}
 use Rattle.unit_imports.specs.Defined.{FindsNames}
 use Rattle.unit_imports.specs.SetsGiven.{AreEntriesIf, AreLibraries, exports_at}
 use Rattle.unit_imports.specs.declared.entries.Libraries.{Libraries}
 use Rattle.unit_imports.specs.declared.expanded.Expanded.{Expanded}
 use Rattle.unit_imports.proofs.MeaningLaws.{entries_kept}
-use Rattle.program_expansion.proofs.NamesKept.{definitions_kept, names_kept}
+use Rattle.unit_results.proofs.NamesKept.{definitions_kept, names_kept}
 
 module _ (old new : Work) (trees : KeepsTrees old new) (names : KeepsNames old.symbols new.symbols) where
   pub came_kept : (all : List Placed) (p : Program) (c : Expanded) (r : UnitResult) → CameTo all p old c r → CameTo all p new c r

@@ -13,10 +13,10 @@ use Rattle.read_documents.specs.declared.findings.Finding.{Finding}
 use Rattle.read_documents.specs.Findings.{Adds, all_told, errors_in}
 use Rattle.read_documents.specs.Places.{bytes_at, start_of}
 use Rattle.unit_imports.specs.SetsGiven.{ImportsAs}
-use Rattle.program_expansion.specs.UnitsFound.{no_import_diagnostics}
+use Rattle.unit_results.specs.UnitsFound.{no_import_diagnostics}
 use Rattle.scheme_model.specs.DiagnosticTexts.{worded}
 use Rattle.read_documents.proofs.DiagnosedLaws.{adds_more}
-use Rattle.program_expansion.proofs.UnitsFoundLaws.{adds_nothing}
+use Rattle.unit_results.proofs.FoundParts.{adds_nothing}
 
 pub imports_alike : (spelled : LibraryName → List ℕ) (c : UnitSource) (p : Prepared) → ImportsAs spelled c p → (b : Bool) → b ≡ (is_program (kind_as c.kind) && not (list_any is_import (forms_of c.forms))) → imports_nothing p ≡ b
 imports_alike spelled c p h b is = (λ i. is_program (sym h.kind i) && not (list_any is_import (h.forms i))) ∙ sym is

@@ -20,14 +20,14 @@ use Rattle.read_documents.specs.Findings.{Adds, all_told}
 use Rattle.read_documents.specs.Places.{spans_of}
 use Rattle.unit_imports.specs.SetsGiven.{ImportsAs}
 use Rattle.program_findings.specs.StandIn.{StandIn}
-use Rattle.program_expansion.specs.UnitsFound.{no_import_diagnostics}
+use Rattle.unit_results.specs.UnitsFound.{no_import_diagnostics}
 use Rattle.read_documents.specs.declared.findings.Finding.{Finding}
-use Rattle.program_expansion.proofs.CameKept.{came_of, finds_kept}
-use Rattle.program_expansion.proofs.NamesKept.{definitions_kept}
+use Rattle.unit_results.proofs.CameKept.{came_of, finds_kept}
+use Rattle.unit_results.proofs.NamesKept.{definitions_kept}
 use Rattle.unit_imports.proofs.MeaningLaws.{entries_kept, mean_kept, names_itself}
-use Rattle.program_expansion.proofs.UnitLaws.{formed_known, formed_in, known_kept}
-use Rattle.program_expansion.proofs.UnitsFoundLaws.{all_found, none_lost}
-use Rattle.program_expansion.proofs.expanding.finished.Goals as goal
+use Rattle.unit_results.proofs.FormsKnown.{formed_known, formed_in, known_kept}
+use Rattle.unit_results.proofs.FoundParts.{all_found, none_lost}
+use Rattle.unit_results.proofs.results.finished.Goals as goal
 
 pub names_of-requires-clause-known : goal.names_of-requires-clause-known
 names_of-requires-clause-known c =

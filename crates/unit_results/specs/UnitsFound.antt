@@ -11,7 +11,7 @@ use Rattle.unit_imports.specs.declared.expanded.Expanded.{Expanded}
 use Rattle.read_documents.specs.declared.findings.Finding.{Finding}
 use Rattle.read_documents.specs.declared.heads.Head.{Head}
 use Rattle.read_documents.specs.Broken.{told}
-use Rattle.program_expansion.specs.UnitResults.{so_far}
+use Rattle.unit_results.specs.Came.{so_far}
 use Rattle.read_documents.specs.Findings.{Adds}
 use Rattle.read_documents.specs.Readings.{Read}
 use Rattle.read_documents.specs.Places.{AreHeads, spans_of}

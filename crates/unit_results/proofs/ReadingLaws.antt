@@ -1,5 +1,5 @@
 -- The program of documents, one unit more.
-use Rattle.std.proofs.Common.{◌≡◌, ◌<◌, ◌⊎◌, inl, inr, ℕ, List, [], ◌∷◌, ◌++◌, length, slice_get, Option, Some, None, sym, ◌∙◌, subst}
+use Rattle.std.proofs.Common.{arith, ◌≡◌, ◌<◌, ◌⊎◌, inl, inr, ℕ, List, [], ◌∷◌, ◌++◌, length, slice_get, Option, Some, None, sym, ◌∙◌, subst}
 use Rattle.std.specs.Prelude.{IfSome}
 use Rattle.syntax_tree.proofs.Places.{push_cases}
 use Rattle.syntax_tree.specs.declared.trees.Work.{Work}
@@ -8,9 +8,9 @@ use Rattle.unit_imports.specs.declared.expanded.Expanded.{Expanded}
 use Rattle.read_documents.specs.declared.findings.At.{At}
 use Rattle.read_documents.specs.Belongs.{AreErrorsIn}
 use Rattle.program_leaves.specs.Formed.{IsFormed, AreFormedIn}
-use Rattle.program_expansion.specs.Formed.{CameFormed}
+use Rattle.unit_results.specs.Formed.{CameFormed}
 use Rattle.read_documents.specs.Places.{AreFoundIn}
-use Rattle.program_expansion.specs.UnitsExpanded.{AreAllFound}
+use Rattle.unit_results.specs.UnitsExpanded.{AreAllFound}
 
 abbrev IsErrorIn : ℕ → Option (At × ℕ) → Type 0
 IsErrorIn count o = IfSome o (λ e. e.0.document < count)
@@ -48,3 +48,9 @@ formed_more work us new u place pushed long here are = subst (λ (xs : List unit
     go : (n : ℕ) (v : unit.Unit) → (slice_get us n ≡ Some v) ⊎ ((n ≡ length us) × (v ≡ u)) → IsFormed work n v.forms
     go n v (inl k) = are n v k
     go n v (inr k) = subst (λ (m : ℕ). IsFormed work m v.forms) (sym (k.0 ∙ long)) (subst (λ (w : unit.Unit). IsFormed work place w.forms) (sym k.1) here)
+
+-- an item of a list that is long enough
+pub get : {A : Type 0} (xs : List A) (n : ℕ) → n < length xs → (x : A) × (slice_get xs n ≡ Some x)
+get [] n lt = absurd (omega arith)
+get (x ∷ xs) zero lt = (x, refl)
+get (x ∷ xs) (suc n) lt = get xs n (omega arith)

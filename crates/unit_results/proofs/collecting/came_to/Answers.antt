@@ -1,8 +1,8 @@
 -- It came so, or is broken as a whole.
 use Rattle.std.proofs.Common.{Option, subst}
-use Rattle.program_expansion.specs.UnitsFound.{IsTold}
+use Rattle.unit_results.specs.UnitsFound.{IsTold}
 use Rattle.unit_imports.specs.declared.expanded.Expanded.{Expanded}
-use Rattle.program_expansion.proofs.program.came_to.Goals as goal
+use Rattle.unit_results.proofs.collecting.came_to.Goals as goal
 
 pub returns-in-Some-clause-told : goal.returns-in-Some-clause-told
 returns-in-Some-clause-told c = λ rs p h r places at head told. subst (λ (o : Option Expanded). IsTold rs p h o r) c.in-Some.is told

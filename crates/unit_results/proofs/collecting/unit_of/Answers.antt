@@ -4,7 +4,7 @@ use Rattle.std.proofs.lemmas.Option.{slice_get_read}
 use Rattle.read_documents.specs.Findings.{errors_in}
 use Rattle.read_documents.specs.declared.documents.Document.{Document}
 use Rattle.unit_imports.proofs.Collecting.{mapped_at}
-use Rattle.program_expansion.proofs.program.unit_of.Goals as goal
+use Rattle.unit_results.proofs.collecting.unit_of.Goals as goal
 
 pub returns-clause-has : goal.returns-clause-has
 returns-clause-has c = record { forms = c.forms.view_is; names = c.names.view_is; seconds = c.seconds.view_is; entries = c.from_vec.ensures; exports = c.exports.view_is }
