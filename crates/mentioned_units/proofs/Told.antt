@@ -4,14 +4,13 @@ use Rattle.std.specs.Prelude.{◌&&◌, ◌||◌, not}
 use Rattle.scheme_model.specs.Ident.{Ident, Written, Inserted, same_ident}
 use Rattle.scheme_model.specs.ExpansionFaults.{Named}
 use Rattle.scheme_model.specs.Meaning.{Meaning, Local, Global, Standard, Free, same_meaning}
-use Rattle.scheme_model.specs.Requirements.{LibraryName}
 use Rattle.scheme_model.specs.RulesShape.{Rules, option_map}
 use Rattle.scheme_model.specs.Order.{Note, LookedUp, Compared, Transformer, is_some}
-use Rattle.scheme_model.specs.Substitution.{Table, Entries, Defined, defined_in, definition_count, is_variable, any, is_refused, differ}
+use Rattle.scheme_model.specs.Substitution.{Table, Defined, defined_in, definition_count, is_variable, any, is_refused, differ}
 use Rattle.scheme_model.specs.Scopes.{defined_or, given_or, local_or}
 use Rattle.scheme_model.specs.ScopedExpansion.{Frames, FramedIdent, ScopedMacro, ScopedState, means_outside, macro_at, macro_added}
 use Rattle.scheme_model.specs.OwnAnswers.{root_means, own_means, own_local}
-use Rattle.scheme_model.specs.Questions.{Moment, Around, at_moment, own_at, found, outcome_by, Question, LooksUp, UsesRules, Compares, IsAssigned, Requires, Defines, Answer, Means, Expands, Says, Ends, bare_macro, answer, SameAnswer}
+use Rattle.scheme_model.specs.Questions.{Moment, Around, at_moment, own_at, found, outcome_by, Question, LooksUp, UsesRules, Compares, IsAssigned, Requires, Defines, Means, Expands, Says, Ends, bare_macro, answer, SameAnswer}
 use Rattle.scheme_model.specs.FormsAlike.{bare_ident, bare_note}
 use Rattle.form_laws.specs.Begins.{Each}
 use Rattle.form_laws.proofs.Bare.{some_mapped, own_bare, any_bare}

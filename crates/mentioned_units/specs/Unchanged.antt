@@ -1,6 +1,6 @@
 -- Surroundings that are the same as far as some units go (R7RS 5.2, 5.3): of each, which identifiers it defines and which of these are
 -- keywords, what it imports, and the rules of its macros.
-use Rattle.std.specs.Prelude.{◌≡◌, ℕ, List, [], map, Bool, true, Option}
+use Rattle.std.specs.Prelude.{◌≡◌, ℕ, List, map, Bool, true, Option}
 use Rattle.scheme_model.specs.Ident.{Ident}
 use Rattle.scheme_model.specs.Meaning.{Meaning, Global, Standard, Free}
 use Rattle.scheme_model.specs.Requirements.{Known, LibraryName}
