@@ -28,22 +28,22 @@ use Rattle.forgotten_locals.specs.Ways.{Way, anew, left_of, firsts_by, seconds_b
 
 -- ---- where work goes to
 
-onwards_left : {S T X Y : Type 0} {Ended : S → T → Type 0} {Going : S → T → X → Y → Type 0} {q : Option X × S} {m : Option Y × T} (P : X → S → Type 0)
+pub onwards_left : {S T X Y : Type 0} {Ended : S → T → Type 0} {Going : S → T → X → Y → Type 0} {q : Option X × S} {m : Option Y × T} (P : X → S → Type 0)
     → Onwards P q → Both Ended Going q m → Both Ended (λ s t x y. P x s × Going s t x y) q m
 onwards_left P k (both_end s t e d h) = both_end s t e d h
 onwards_left P k (both_go x y s t e d h) = both_go x y s t e d (subst (Onwards P) e k, h)
 
-onwards_right : {S T X Y : Type 0} {Ended : S → T → Type 0} {Going : S → T → X → Y → Type 0} {q : Option X × S} {m : Option Y × T} (P : Y → T → Type 0)
+pub onwards_right : {S T X Y : Type 0} {Ended : S → T → Type 0} {Going : S → T → X → Y → Type 0} {q : Option X × S} {m : Option Y × T} (P : Y → T → Type 0)
     → Onwards P m → Both Ended Going q m → Both Ended (λ s t x y. P y t × Going s t x y) q m
 onwards_right P k (both_end s t e d h) = both_end s t e d h
 onwards_right P k (both_go x y s t e d h) = both_go x y s t e d (subst (Onwards P) d k, h)
 
-left_onwards : {S T X Y : Type 0} {Ended : S → T → Type 0} {Going : S → T → X → Y → Type 0} {q : Option X × S} {m : Option Y × T} (P : X → S → Type 0)
+pub left_onwards : {S T X Y : Type 0} {Ended : S → T → Type 0} {Going : S → T → X → Y → Type 0} {q : Option X × S} {m : Option Y × T} (P : X → S → Type 0)
     → ((s : S) (t : T) (x : X) (y : Y) → Going s t x y → P x s) → Both Ended Going q m → Onwards P q
 left_onwards P f (both_end s t e d h) = subst (Onwards P) (sym e) tt
 left_onwards P f (both_go x y s t e d h) = subst (Onwards P) (sym e) (f s t x y h)
 
-right_onwards : {S T X Y : Type 0} {Ended : S → T → Type 0} {Going : S → T → X → Y → Type 0} {q : Option X × S} {m : Option Y × T} (P : Y → T → Type 0)
+pub right_onwards : {S T X Y : Type 0} {Ended : S → T → Type 0} {Going : S → T → X → Y → Type 0} {q : Option X × S} {m : Option Y × T} (P : Y → T → Type 0)
     → ((s : S) (t : T) (x : X) (y : Y) → Going s t x y → P y t) → Both Ended Going q m → Onwards P m
 right_onwards P f (both_end s t e d h) = subst (Onwards P) (sym d) tt
 right_onwards P f (both_go x y s t e d h) = subst (Onwards P) (sym d) (f s t x y h)
@@ -59,7 +59,7 @@ rest_is : (v : Around) (o : Option KeptForm) → rest_kept v o ≡ rest_at (defi
 rest_is v None = refl
 rest_is v (Some k) = refl
 
-rest_same : (v w : Around) (o : Option KeptForm) → definition_count v.state.table v.state.unit ≡ definition_count w.state.table w.state.unit → rest_kept v o ≡ rest_kept w o
+pub rest_same : (v w : Around) (o : Option KeptForm) → definition_count v.state.table v.state.unit ≡ definition_count w.state.table w.state.unit → rest_kept v o ≡ rest_kept w o
 rest_same v w o e = rest_is v o ∙ ap (λ n. rest_at n o) e ∙ sym (rest_is w o)
 
 -- what is kept of the rest is of what is left, from what was counted by then
@@ -75,13 +75,13 @@ begun_at v turns t (Some k) h = go k.parts h
     go (Some p) h = counts_here v k.aside.moment ∙ sym h.0
 
 module _ (w : Around) (turns : ℕ) (t : Tree Ident) (o : Option KeptForm) (new : start w.state ≡ no_counts) (h : FormBegins w t) (k : PassKept w turns t o) (f : FormFits o) where
-  abbrev as_kept : PassLike (set_aside w turns t) (goes_through w turns t o)
+  abbrev pub as_kept : PassLike (set_aside w turns t) (goes_through w turns t o)
   as_kept = pass_like w w refl turns t o new h k
 
-  left_fits : LeftIs (set_aside w turns t).0.left (rest_kept w o)
+  pub left_fits : LeftIs (set_aside w turns t).0.left (rest_kept w o)
   left_fits = subst (λ z. LeftIs z (rest_kept w o)) (sym as_kept.left) (left_is w turns t o k f)
 
-  begun_fits : BegunAt (counts_at w.state.form (set_aside w turns t).1) (rest_kept w o)
+  pub begun_fits : BegunAt (counts_at w.state.form (set_aside w turns t).1) (rest_kept w o)
   begun_fits = subst (λ z. BegunAt z (rest_kept w o)) (sym (ap (counts_at w.state.form) as_kept.state)) (begun_at w turns t o f)
 
 -- ---- a way

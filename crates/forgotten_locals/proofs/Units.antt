@@ -35,7 +35,7 @@ module _ (all : List Placed) (ps : List Prepared) (known : Known) (g : ScopedPro
   abbrev t : ScopedState
   t = scoped_start_after all p g
 
-  begins : AllBegin (anew enough_turns) known xs t
+  pub begins : AllBegin (anew enough_turns) known xs t
   begins =
       let ys = plain known enough_turns xs t in
       plain_begin known enough_turns xs t (forms_begin all ps known g g b placed (itself g) p new ys (plain_forms known enough_turns xs t ∙ forms) (plain_kept known enough_turns xs t))
