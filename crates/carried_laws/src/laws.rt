@@ -1,0 +1,41 @@
+//! Laws of the definitions. Each is the contract of a function that does nothing.
+ghost use Rattle.std.specs.Prelude.{◌≡◌, ℕ, List, length};
+ghost use Rattle.scheme_model.specs.Ident.{Ident as Identifier};
+ghost use Rattle.scheme_model.specs.Trees.{Tree};
+ghost use Rattle.scheme_model.specs.Order.{Left};
+ghost use Rattle.scheme_model.specs.Questions.{Around};
+ghost use Rattle.scheme_model.specs.Includes.{Document};
+ghost use Rattle.scheme_model.specs.Program.{known_in, units_of, prepare, program_of};
+ghost use Rattle.scheme_model.specs.ScopedProgram.{scoped_before};
+ghost use Rattle.form_laws.specs.Begins.{Each};
+ghost use Rattle.renumbering_laws.specs.Moving.{move_tree};
+ghost use Rattle.renumbering_laws.specs.Renumbering.{Renumbering, ident, change, left_as};
+ghost use Rattle.renumbering_laws.specs.NewSurroundings.{HasOldNumbers, around_new};
+ghost use Rattle.kept_forms.specs.KeptForms.{KeptForm};
+ghost use Rattle.kept_forms.specs.Carried.{kept_aside, kept_parts};
+ghost use Rattle.kept_forms.specs.KeptPrograms.{Keeping, kept_program_of, ProgramKeeps};
+ghost use Rattle.carried_forms.specs.Worked.{units_at_work};
+ghost use Rattle.carried_laws.specs.AtWork.{AreAtWork};
+ghost use Rattle.carried_laws.specs.Entries.{UnitsStay, StandsFor, aside_as, kept_parts_as, kept_as};
+
+/// What is kept of a form in surroundings under new numbers is what was kept of it there, under the new numbers; so an entry stays one
+/// (R7RS 4.3, 5.3).
+pub fn entries_take_new_numbers()
+    ensures aside { (r : Renumbering) (b : HasOldNumbers r) (w : Around) (turns : ℕ) (t : Tree Identifier) → kept_aside (around_new r b w) turns (move_tree (change r) t) ≡ aside_as r (kept_aside w turns t) }
+    ensures parts { (r : Renumbering) (b : HasOldNumbers r) (w : Around) (turns n : ℕ) (l : Left Identifier) → kept_parts (around_new r b w) turns n (left_as r (ident r) l) ≡ kept_parts_as r (kept_parts w turns n l) }
+    ensures entry { (r : Renumbering) (b : HasOldNumbers r) (n : ℕ) (x : ℕ × Tree Identifier) (k : KeptForm) (w u : Around) → StandsFor n x k w u →
+        StandsFor (r.unit n) (r.form n x.0, move_tree (change r) x.1) (kept_as r k) (around_new r b w) (around_new r b u) }
+{}
+
+/// Each form of a program that is worked on may begin where its turn comes, and has counted nothing yet; and so may what it set aside where its turn
+/// comes again, when it has counted what it had (R7RS 5.1).
+pub fn forms_begin_at_work()
+    ensures { (ds : List Document) → Each AreAtWork (units_at_work ds) }
+{}
+
+/// Entries may be kept in a program in which all that was asked has its answers where the turns of their forms come, whatever other
+/// entries are kept: with what they stand for put into its place the program is the program (R7RS 5).
+pub fn entries_may_be_kept()
+    ensures keeps { (ds : List Document) (keep : Keeping) → UnitsStay keep (units_at_work ds) → let all = units_of ds in let units = prepare all 0 all in ProgramKeeps all units (known_in ds) keep (length units) scoped_before }
+    ensures program { (ds : List Document) (keep : Keeping) → UnitsStay keep (units_at_work ds) → kept_program_of keep ds ≡ program_of ds }
+{}
