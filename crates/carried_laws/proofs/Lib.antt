@@ -3,3 +3,10 @@ pub mod Alone  -- Where work on a unit doesn't end in a form, the form goes to w
 pub mod AtWork  -- The forms of a unit at work, each gone through and then expanded
 pub mod Staying  -- Entries that have their answers where the forms of a unit are gone through and expanded anew have them where these are kept, one form behind another
 pub mod StayingPrograms  -- So it is in a program, unit by unit
+pub mod CarriedStays  -- A form that asks alike before and after under some numbers may be kept there, of what it came to before under these numbers
+pub mod BrokenForms  -- A form that is broken when it is gone through uses no macro later
+pub mod Bound  -- Where all carried forms are kept, no more macro uses are worked than the work of the event
+pub mod Places  -- What stands at a place of a list
+pub mod PairsSend  -- Pairs send what goes on to what it goes on as
+pub mod FormsSame  -- Forms that are paired have the same tree
+pub mod TreesSame  -- Where the trees of two texts are the same but for their homes, the tree of one as a form is that of the other under the numbers of these

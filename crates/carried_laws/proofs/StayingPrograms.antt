@@ -8,19 +8,19 @@ use Rattle.scheme_model.specs.FormsAlike.{set_aside, finish}
 use Rattle.scheme_model.specs.ScopedExpansion.{FramedIdent, ScopedState}
 use Rattle.scheme_model.specs.Includes.{Document}
 use Rattle.scheme_model.specs.IncludedUnits.{Placed}
-use Rattle.scheme_model.specs.Program.{known_in, units_of, Prepared, prepare, WholeFault, fault_before, broken_result, unit_result, unit_entries, with_entries, enough_turns, is_ready, first_ready, forms_at_work}
-use Rattle.scheme_model.specs.ScopedProgram.{ScopedProgress, forms_over, scoped_unit_over, scoped_start_after, scoped_by_fault, scoped_worked, scoped_before}
+use Rattle.scheme_model.specs.Program.{known_in, units_of, Prepared, prepare, WholeFault, fault_before, enough_turns, is_ready, first_ready, forms_at_work}
+use Rattle.scheme_model.specs.ScopedProgram.{ScopedProgress, forms_over, scoped_start_after, scoped_worked, scoped_before}
 use Rattle.model_laws.proofs.FrameAsks.{AllOf}
 use Rattle.model_laws.proofs.FrameLeaves.{TreeAll}
 use Rattle.model_laws.proofs.FrameUnit.{UnitLeaf}
 use Rattle.model_laws.proofs.FramePrograms.{done, coming, work_gone, between_before, Between as BetweenUnits}
 use Rattle.form_laws.specs.Begins.{Each}
-use Rattle.kept_forms.specs.KeptForms.{FormOrKept, form_of, unit_keeping, counts_at}
-use Rattle.kept_forms.specs.Carried.{SameWork, no_counts}
-use Rattle.kept_forms.specs.KeptPrograms.{Keeping, kept_by_fault, kept_worked, UnitKeeps, WorkKeeps, ProgramKeeps, SameProgress}
-use Rattle.kept_forms.proofs.Programs.{PlacesDone, work_placed, OrReady, first_is, starts_alike, between, held, distinct, same_unit, new_unit}
+use Rattle.kept_forms.specs.KeptForms.{FormOrKept, form_of, counts_at}
+use Rattle.kept_forms.specs.Carried.{no_counts}
+use Rattle.kept_forms.specs.KeptPrograms.{Keeping, kept_worked, UnitKeeps, WorkKeeps, ProgramKeeps, SameProgress}
+use Rattle.kept_forms.proofs.Programs.{PlacesDone, work_placed, OrReady, first_is, starts_alike, between, held, distinct, new_unit}
 use Rattle.kept_forms.proofs.UsesCounted.{Not, Distinct, of_form}
-use Rattle.kept_forms.proofs.WholePrograms.{itself}
+use Rattle.kept_forms.proofs.WholePrograms.{itself, worked_alike}
 use Rattle.carried_forms.specs.Worked.{WorkedForm, GoneForm, around_form, gone_through, gone_on, worked_forms, WorkedUnit, worked_unit, unless_broken, worked_next, worked_units, units_at_work}
 use Rattle.carried_laws.specs.Entries.{FormsStay, UnitsStay}
 use Rattle.carried_laws.specs.AtWork.{IsAtWork, AreAtWork}
@@ -57,7 +57,7 @@ new_all s e (t ∷ ts) = (e t.0, new_all s e ts)
 abbrev gone_form : GoneForm → ℕ × Tree Ident
 gone_form g = (g.form, g.tree)
 
-abbrev worked_form : WorkedForm → ℕ × Tree Ident
+abbrev pub worked_form : WorkedForm → ℕ × Tree Ident
 worked_form g = (g.form, g.tree)
 
 gone_forms : (known : Known) (ts : List (ℕ × Tree Ident)) (ns : List (Note FramedIdent)) (s : ScopedState) → map gone_form (gone_through known ts ns s).0 ≡ ts
@@ -74,8 +74,11 @@ same_forms n [] (g ∷ gs) h = absurd h
 same_forms n (x ∷ xs) [] h = absurd h
 same_forms n (x ∷ xs) (g ∷ gs) h = let a = h.0 in let b = same_forms n xs gs h.2 in λ j. a j ∷ b j
 
+pub unit_forms : (known : Known) (ts : List (ℕ × Tree Ident)) (s : ScopedState) → map worked_form (worked_forms known ts s) ≡ ts
+unit_forms known ts s = let q = gone_through known ts [] s in on_forms known q.0 q.1 ∙ gone_forms known ts [] s
+
 pub kept_forms_are : (known : Known) (n : ℕ) (xs : List FormOrKept) (ts : List (ℕ × Tree Ident)) (s : ScopedState) → FormsStay n xs (worked_forms known ts s) → map form_of xs ≡ ts
-kept_forms_are known n xs ts s h = let q = gone_through known ts [] s in same_forms n xs (worked_forms known ts s) h ∙ on_forms known q.0 q.1 ∙ gone_forms known ts [] s
+kept_forms_are known n xs ts s h = same_forms n xs (worked_forms known ts s) h ∙ unit_forms known ts s
 
 each_joined : {X : Type 0} (P : X → Type 0) (xs ys : List X) → Each P xs → Each P ys → Each P (xs ++ ys)
 each_joined P [] ys h k = k
@@ -116,20 +119,6 @@ module _ (all : List Placed) (ps : List Prepared) (known : Known) where
   -- ---- what stays may be kept
 
   module _ (keep : Keeping) where
-    unit_after : (g h : ScopedProgress) → SameProgress h g → (p : Prepared) → SameWork (unit_keeping known enough_turns (keep p.number) (scoped_start_after all p h)) (scoped_unit_over known p (scoped_start_after all p g))
-        → SameProgress (kept_by_fault all known keep p None h) (scoped_by_fault all known p None g)
-    unit_after g h alike p k =
-        let e = k.state in let f = k.result in let r = alike.results in let x = alike.entry in
-        let t = ap (λ (z : ScopedState). z.table) e in
-        record {
-          table = t;
-          macros = ap (λ (z : ScopedState). z.macros) e;
-          places = ap (λ (z : ScopedState). z.places) e;
-          definitions = ap (λ (z : ScopedState). z.definitions) e;
-          entry = λ j. with_entries p.number (unit_entries all (r j) p).0 (x j);
-          results = λ j. unit_result p (unit_entries all (r j) p) (t j) (f j) ∷ r j;
-        }
-
     module _ (g h : ScopedProgress) (b : BetweenUnits g) (placed : PlacesDone g) (alike : SameProgress h g) where
       unit_keeps : (p : Prepared) → done g.results p.number ≡ false → FormsStay p.number (keep p.number) (worked_unit known p (scoped_start_after all p g)).forms → UnitKeeps all known keep p None h
       unit_keeps p new k =
@@ -139,27 +128,13 @@ module _ (all : List Placed) (ps : List Prepared) (known : Known) where
           (subst (λ (us : List (ℕ × Tree Ident)). Each (IsAtWork p.number) (worked_forms known us t)) (sym e) (unit_begins g b placed p new))
           (subst (λ (us : List (ℕ × Tree Ident)). FormsStay p.number xs (worked_forms known us t)) (sym e) k))
 
-      -- one unit of those at work
-      record OneKeeps (o : Option Prepared) (rest : List WorkedUnit) : Type 0 where
-        keeps : WorkKeeps all ps known keep o h
-        next : SameProgress (kept_worked all ps known keep o h) (scoped_worked all ps known o g)
-        others : UnitsStay keep rest
+      fault_keeps : (p : Prepared) → done g.results p.number ≡ false → (f : Option WholeFault) (rest : List WorkedUnit) → UnitsStay keep (unless_broken all known p f g ++ rest) → UnitKeeps all known keep p f h × UnitsStay keep rest
+      fault_keeps p new (Some f) rest k = (tt, k)
+      fault_keeps p new None rest k = (unit_keeps p new k.0, k.1)
 
-      record FaultKeeps (p : Prepared) (f : Option WholeFault) (rest : List WorkedUnit) : Type 0 where
-        keeps : UnitKeeps all known keep p f h
-        next : SameProgress (kept_by_fault all known keep p f h) (scoped_by_fault all known p f g)
-        others : UnitsStay keep rest
-
-      fault_keeps : (p : Prepared) → done g.results p.number ≡ false → (f : Option WholeFault) (rest : List WorkedUnit) → UnitsStay keep (unless_broken all known p f g ++ rest) → FaultKeeps p f rest
-      fault_keeps p new (Some f) rest k =
-          record { keeps = tt; next = record { table = alike.table; macros = alike.macros; places = alike.places; definitions = alike.definitions; entry = alike.entry; results = ap (λ rs. broken_result p f ∷ rs) alike.results }; others = k }
-      fault_keeps p new None rest k =
-          let a = unit_keeps p new k.0 in
-          record { keeps = a; next = unit_after g h alike p (same_unit all ps known g h b placed alike p new (keep p.number) a.0 a.1); others = k.1 }
-
-      one_keeps : (o : Option Prepared) → OrReady all ps known (is_ready all ps g.results) o → (rest : List WorkedUnit) → UnitsStay keep (worked_next all ps known o g ++ rest) → OneKeeps o rest
-      one_keeps None r rest k = record { keeps = tt; next = alike; others = k }
-      one_keeps (Some p) r rest k = let a = fault_keeps p (new_unit all ps known g p r) (fault_before all ps p) rest k in record { keeps = a.keeps; next = a.next; others = a.others }
+      one_keeps : (o : Option Prepared) → OrReady all ps known (is_ready all ps g.results) o → (rest : List WorkedUnit) → UnitsStay keep (worked_next all ps known o g ++ rest) → WorkKeeps all ps known keep o h × UnitsStay keep rest
+      one_keeps None r rest k = (tt, k)
+      one_keeps (Some p) r rest k = fault_keeps p (new_unit all ps known g p r) (fault_before all ps p) rest k
 
     program_keeps : (n : ℕ) (g h : ScopedProgress) → BetweenUnits g → PlacesDone g → SameProgress h g → UnitsStay keep (worked_units all ps known n g) → ProgramKeeps all ps known keep n h
     program_keeps zero g h b placed alike k = tt
@@ -168,10 +143,11 @@ module _ (all : List Placed) (ps : List Prepared) (known : Known) where
         let q = first_ready (is_ready all ps h.results) ps in
         let e : o ≡ q = ap (λ rs. first_ready (is_ready all ps rs) ps) alike.results in
         let next = scoped_worked all ps known o g in
-        let a = one_keeps g h b placed alike o (first_is all ps known (is_ready all ps g.results) ps) (worked_units all ps known n next) k in
-        let there = subst (λ (z : Option Prepared). SameProgress (kept_worked all ps known keep z h) next) e a.next in
-        (subst (λ (z : Option Prepared). WorkKeeps all ps known keep z h) e a.keeps,
-        program_keeps n next (kept_worked all ps known keep q h) (work_gone all ps known 1 g b).between (work_placed all ps known 1 g placed) there a.others)
+        let r = first_is all ps known (is_ready all ps g.results) ps in
+        let a = one_keeps g h b placed alike o r (worked_units all ps known n next) k in
+        let there = subst (λ (z : Option Prepared). SameProgress (kept_worked all ps known keep z h) next) e (worked_alike all ps known keep g h b placed alike o r a.0) in
+        (subst (λ (z : Option Prepared). WorkKeeps all ps known keep z h) e a.0,
+        program_keeps n next (kept_worked all ps known keep q h) (work_gone all ps known 1 g b).between (work_placed all ps known 1 g placed) there a.1)
 
     pub stays_keeps : (n : ℕ) → UnitsStay keep (worked_units all ps known n scoped_before) → ProgramKeeps all ps known keep n scoped_before
     stays_keeps n k = program_keeps n scoped_before scoped_before between_before tt (itself scoped_before) k

@@ -1,5 +1,5 @@
 //! Laws of the definitions. Each is the contract of a function that does nothing.
-ghost use Rattle.std.specs.Prelude.{◌≡◌, ℕ, List, length};
+ghost use Rattle.std.specs.Prelude.{◌≡◌, ◌≤◌, ℕ, List, true, Some, length};
 ghost use Rattle.scheme_model.specs.Ident.{Ident as Identifier};
 ghost use Rattle.scheme_model.specs.Trees.{Tree};
 ghost use Rattle.scheme_model.specs.Order.{Left};
@@ -13,10 +13,12 @@ ghost use Rattle.renumbering_laws.specs.Renumbering.{Renumbering, ident, change,
 ghost use Rattle.renumbering_laws.specs.NewSurroundings.{HasOldNumbers, around_new};
 ghost use Rattle.kept_forms.specs.KeptForms.{KeptForm};
 ghost use Rattle.kept_forms.specs.Carried.{kept_aside, kept_parts};
-ghost use Rattle.kept_forms.specs.KeptPrograms.{Keeping, kept_program_of, ProgramKeeps};
-ghost use Rattle.carried_forms.specs.Worked.{units_at_work};
-ghost use Rattle.carried_laws.specs.AtWork.{AreAtWork};
-ghost use Rattle.carried_laws.specs.Entries.{UnitsStay, StandsFor, aside_as, kept_parts_as, kept_as};
+ghost use Rattle.kept_forms.specs.KeptPrograms.{Keeping, kept_program_of, ProgramKeeps, program_worked, program_not_kept};
+ghost use Rattle.carried_forms.specs.Worked.{WorkedForm, OpenDocument, read_documents, units_at_work};
+ghost use Rattle.carried_forms.specs.Carried.{asks_alike, carried, work};
+ghost use Rattle.carried_laws.specs.AtWork.{IsAtWork, AreAtWork};
+ghost use Rattle.carried_laws.specs.CarriedEntries.{came_to, KeepsAll};
+ghost use Rattle.carried_laws.specs.Entries.{UnitsStay, Stays, StandsFor, aside_as, kept_parts_as, kept_as};
 
 /// What is kept of a form in surroundings under new numbers is what was kept of it there, under the new numbers; so an entry stays one
 /// (R7RS 4.3, 5.3).
@@ -38,4 +40,20 @@ pub fn forms_begin_at_work()
 pub fn entries_may_be_kept()
     ensures keeps { (ds : List Document) (keep : Keeping) → UnitsStay keep (units_at_work ds) → let all = units_of ds in let units = prepare all 0 all in ProgramKeeps all units (known_in ds) keep (length units) scoped_before }
     ensures program { (ds : List Document) (keep : Keeping) → UnitsStay keep (units_at_work ds) → kept_program_of keep ds ≡ program_of ds }
+{}
+
+/// What a form that was worked on came to is an entry. Under any numbers that tell the old ones, in which the form is the one after the event and asks
+/// alike before and after, that entry may stay (R7RS 4.3, 5.3).
+pub fn forms_that_ask_alike_may_stay()
+    ensures entry { (n : ℕ) (f : WorkedForm) → IsAtWork n f → StandsFor n (f.form, f.tree) (came_to f) f.around f.later }
+    ensures stays { (r : Renumbering) (b : HasOldNumbers r) (n : ℕ) (f g : WorkedForm) → IsAtWork n f → asks_alike r f g ≡ true → r.form n f.form ≡ g.form → move_tree (change r) f.tree ≡ g.tree →
+        Stays (r.unit n) (g.form, g.tree) (Some (kept_as r (came_to f))) g }
+{}
+
+/// Where all carried forms are kept, whatever else is, no more macro uses are worked in the program than the work of the event.
+pub fn work_bounds_what_is_worked()
+    ensures not_kept { (before after : List OpenDocument) (keep : Keeping) → let ds = read_documents after in let all = units_of ds in let units = prepare all 0 all in
+        ProgramKeeps all units (known_in ds) keep (length units) scoped_before → KeepsAll (carried before after) keep → program_not_kept all units (known_in ds) keep (length units) scoped_before ≤ work before after }
+    ensures worked { (before after : List OpenDocument) (keep : Keeping) → let ds = read_documents after in let all = units_of ds in let units = prepare all 0 all in
+        ProgramKeeps all units (known_in ds) keep (length units) scoped_before → KeepsAll (carried before after) keep → program_worked all units (known_in ds) keep (length units) scoped_before ≤ work before after }
 {}
