@@ -58,42 +58,43 @@ step_in b a (suc n) q (inr h) =
 moved_at : (fs gs : List FormText) (f g m n : ℕ) → f ≡ m → g ≡ n → SameAt fs gs f g → SameAt fs gs m n
 moved_at fs gs f g m n a b h = subst (λ (z : ℕ × ℕ). SameAt fs gs z.0 z.1) (λ j. (a j, b j)) h
 
-ends_same : (fs gs : List FormText) (q : ℕ × ℕ) → IsIn q (by_ends fs gs) → SameAt fs gs q.0 q.1
-ends_same fs gs q h =
-    let front = common_front fs gs in
-    let a = drop front fs in let b = drop front gs in
-    let end = common_front (reverse a) (reverse b) in
-    go (parted q (in_step 0 0 front) (in_step (length fs - end) (length gs - end) end) h)
-  where
-    abbrev front : ℕ
-    front = common_front fs gs
+module _ (fs gs : List FormText) where
+  abbrev front : ℕ
+  front = common_front fs gs
 
-    abbrev a : List FormText
-    a = drop front fs
+  abbrev left_over : List FormText
+  left_over = drop front fs
 
-    abbrev b : List FormText
-    b = drop front gs
+  abbrev right_over : List FormText
+  right_over = drop front gs
 
-    abbrev end : ℕ
-    end = common_front (reverse a) (reverse b)
+  abbrev end : ℕ
+  end = common_front (reverse left_over) (reverse right_over)
 
-    go : IsIn q (in_step 0 0 front) ⊎ IsIn q (in_step (length fs - end) (length gs - end) end) → SameAt fs gs q.0 q.1
-    go (inl k) = let s = step_in 0 0 front q k in let x = s.before in let y = s.after in moved_at fs gs s.index s.index q.0 q.1 (omega (arith, x)) (omega (arith, y)) (front_same fs gs s.index s.few)
-    go (inr k) =
-        let s = step_in (length fs - end) (length gs - end) end q k in
-        let i = s.index in let l = s.few in let x = s.before in let y = s.after in
-        let r = front_same (reverse a) (reverse b) (end - suc i) (omega (arith, l)) in
-        let fl = front_left fs gs in let fr = front_right fs gs in
-        let el = front_left (reverse a) (reverse b) in let er = front_right (reverse a) (reverse b) in
-        let la = length-reverse a in let lb = length-reverse b in let da = length-drop front fs in let db = length-drop front gs in
-        moved_at fs gs (front + (length a - suc (end - suc i))) (front + (length b - suc (end - suc i))) q.0 q.1 (omega (arith, l, x, fl, el, la, da)) (omega (arith, l, y, fr, er, lb, db))
-        (record {
-          one = r.one;
-          other = r.other;
-          here = dropped_at front fs (length a - suc (end - suc i)) r.one (reversed_at a (end - suc i) r.one r.here);
-          there = dropped_at front gs (length b - suc (end - suc i)) r.other (reversed_at b (end - suc i) r.other r.there);
-          same = r.same;
-        })
+  -- so many before the last
+  from_end : (q : ℕ × ℕ) → InStep (length fs - end) (length gs - end) end q → SameAt fs gs q.0 q.1
+  from_end q s =
+      let i = s.index in let l = s.few in let x = s.before in let y = s.after in
+      let r = front_same (reverse left_over) (reverse right_over) (end - suc i) (omega (arith, l)) in
+      let fl = front_left fs gs in let fr = front_right fs gs in
+      let el = front_left (reverse left_over) (reverse right_over) in let er = front_right (reverse left_over) (reverse right_over) in
+      let la = length-reverse left_over in let lb = length-reverse right_over in let da = length-drop front fs in let db = length-drop front gs in
+      let m = length left_over - suc (end - suc i) in let n = length right_over - suc (end - suc i) in
+      moved_at fs gs (front + m) (front + n) q.0 q.1 (omega (arith, l, x, fl, el, la, da)) (omega (arith, l, y, fr, er, lb, db))
+      (record {
+        one = r.one;
+        other = r.other;
+        here = dropped_at front fs m r.one (reversed_at left_over (end - suc i) r.one r.here);
+        there = dropped_at front gs n r.other (reversed_at right_over (end - suc i) r.other r.there);
+        same = r.same;
+      })
+
+  ends_same : (q : ℕ × ℕ) → IsIn q (by_ends fs gs) → SameAt fs gs q.0 q.1
+  ends_same q h = go (parted q (in_step 0 0 front) (in_step (length fs - end) (length gs - end) end) h)
+    where
+      go : IsIn q (in_step 0 0 front) ⊎ IsIn q (in_step (length fs - end) (length gs - end) end) → SameAt fs gs q.0 q.1
+      go (inl k) = let s = step_in 0 0 front q k in let x = s.before in let y = s.after in moved_at fs gs s.index s.index q.0 q.1 (omega (arith, x)) (omega (arith, y)) (front_same fs gs s.index s.few)
+      go (inr k) = from_end q (step_in (length fs - end) (length gs - end) end q k)
 
 both : (a b : Bool) → (a && b) ≡ true → (a ≡ true) × (b ≡ true)
 both true true h = (refl, refl)

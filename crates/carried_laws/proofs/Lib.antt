@@ -10,3 +10,5 @@ pub mod Places  -- What stands at a place of a list
 pub mod PairsSend  -- Pairs send what goes on to what it goes on as
 pub mod FormsSame  -- Forms that are paired have the same tree
 pub mod TreesSame  -- Where the trees of two texts are the same but for their homes, the tree of one as a form is that of the other under the numbers of these
+pub mod FormsWritten  -- A form at work is a form of its unit, as its text has it
+pub mod CarriedOver  -- Each carried form may be kept

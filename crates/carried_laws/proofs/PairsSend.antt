@@ -49,9 +49,6 @@ pair_found : (b : ℕ) (u : UnitText) (a : ℕ) (vs : List UnitText) (p : UnitPa
 pair_found b u a [] p h = absurd h
 pair_found b u a (v ∷ vs) p h = go (is_same_unit u v) refl h (λ k. pair_found b u (suc a) vs p k)
   where
-    abbrev pair : List (ℕ × ℕ) → UnitPair
-    pair fs = record { before = b; after = a; size = length v.forms; forms = fs }
-
     this : is_same_unit u v ≡ true → (o : Option (List (ℕ × ℕ))) → form_pairs u.forms v.forms ≡ o → IsIn p (with_forms b a (length v.forms) o) → PairFrom u b a (v ∷ vs) p
     this e None q k = absurd k
     this e (Some fs) q (inl i) = record {

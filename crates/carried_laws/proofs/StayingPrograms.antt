@@ -80,7 +80,7 @@ unit_forms known ts s = let q = gone_through known ts [] s in on_forms known q.0
 pub kept_forms_are : (known : Known) (n : ℕ) (xs : List FormOrKept) (ts : List (ℕ × Tree Ident)) (s : ScopedState) → FormsStay n xs (worked_forms known ts s) → map form_of xs ≡ ts
 kept_forms_are known n xs ts s h = same_forms n xs (worked_forms known ts s) h ∙ unit_forms known ts s
 
-each_joined : {X : Type 0} (P : X → Type 0) (xs ys : List X) → Each P xs → Each P ys → Each P (xs ++ ys)
+pub each_joined : {X : Type 0} (P : X → Type 0) (xs ys : List X) → Each P xs → Each P ys → Each P (xs ++ ys)
 each_joined P [] ys h k = k
 each_joined P (x ∷ xs) ys h k = (h.0, each_joined P xs ys h.1 k)
 

@@ -14,10 +14,11 @@ ghost use Rattle.renumbering_laws.specs.NewSurroundings.{HasOldNumbers, around_n
 ghost use Rattle.kept_forms.specs.KeptForms.{KeptForm};
 ghost use Rattle.kept_forms.specs.Carried.{kept_aside, kept_parts};
 ghost use Rattle.kept_forms.specs.KeptPrograms.{Keeping, kept_program_of, ProgramKeeps, program_worked, program_not_kept};
-ghost use Rattle.carried_forms.specs.Worked.{WorkedForm, OpenDocument, read_documents, units_at_work};
-ghost use Rattle.carried_forms.specs.Carried.{asks_alike, carried, work};
+ghost use Rattle.carried_forms.specs.Worked.{WorkedForm, OpenDocument, AreOpenOnce, read_documents, units_at_work};
+ghost use Rattle.carried_forms.specs.Carried.{IsIn, asks_alike, carried, work};
 ghost use Rattle.carried_laws.specs.AtWork.{IsAtWork, AreAtWork};
 ghost use Rattle.carried_laws.specs.CarriedEntries.{came_to, KeepsAll};
+ghost use Rattle.carried_laws.specs.CarriedOver.{AllHomesGoOn, CarriedOver};
 ghost use Rattle.carried_laws.specs.Entries.{UnitsStay, Stays, StandsFor, aside_as, kept_parts_as, kept_as};
 
 /// What is kept of a form in surroundings under new numbers is what was kept of it there, under the new numbers; so an entry stays one
@@ -56,4 +57,11 @@ pub fn work_bounds_what_is_worked()
         ProgramKeeps all units (known_in ds) keep (length units) scoped_before → KeepsAll (carried before after) keep → program_not_kept all units (known_in ds) keep (length units) scoped_before ≤ work before after }
     ensures worked { (before after : List OpenDocument) (keep : Keeping) → let ds = read_documents after in let all = units_of ds in let units = prepare all 0 all in
         ProgramKeeps all units (known_in ds) keep (length units) scoped_before → KeepsAll (carried before after) keep → program_worked all units (known_in ds) keep (length units) scoped_before ≤ work before after }
+{}
+
+/// Each form that is carried from a program to the next may be kept there, of what it came to before under the new numbers (R7RS 4.3, 5.3), where
+/// the homes of included forms go on: where a part's forms get other numbers in the part than where it is included, what was kept would
+/// have its places at those.
+pub fn carried_forms_may_be_kept()
+    ensures { (before after : List OpenDocument) (c : ℕ × ℕ) → AreOpenOnce before → AreOpenOnce after → AllHomesGoOn before after → IsIn c (carried before after) → CarriedOver before after c }
 {}
