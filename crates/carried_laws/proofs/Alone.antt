@@ -7,7 +7,7 @@ use Rattle.scheme_model.specs.Cores.{Parts, Part, part}
 use Rattle.scheme_model.specs.Steps.{Broken, Step, ◌>>=◌, done}
 use Rattle.scheme_model.specs.Order.{Item, Left, meet_all}
 use Rattle.scheme_model.specs.Expression.{expand, item_part, parts}
-use Rattle.scheme_model.specs.UnitExpansion.{max_depth, max_total, nodes_in, ◌then◌, going, unless_over, before_parts, with_part, items_parts, form_parts}
+use Rattle.scheme_model.specs.UnitExpansion.{max_depth, max_total, nodes_in, ◌then◌, going, before_parts, with_part, items_parts, form_parts}
 use Rattle.scheme_model.specs.ScopedExpansion.{ScopedState}
 use Rattle.scheme_model.specs.CountedExpansion.{counted}
 use Rattle.scheme_model.specs.FormsAlike.{finish_by}

@@ -1,10 +1,10 @@
 -- The forms of a unit at work, each gone through and then expanded: each may begin at both of its turns, and has counted there what it had.
-use Rattle.std.proofs.Common.{◌≡◌, ℕ, List, [], ◌∷◌, map, Option, Some, None, Result, Ok, Err, refl, sym, ap, ◌∙◌, subst}
+use Rattle.std.proofs.Common.{◌≡◌, ℕ, List, [], ◌∷◌, Option, Some, None, Result, refl, sym, ◌∙◌, subst}
 use Rattle.scheme_model.specs.Ident.{Ident}
 use Rattle.scheme_model.specs.Trees.{Tree}
 use Rattle.scheme_model.specs.Requirements.{Known}
 use Rattle.scheme_model.specs.Steps.{Broken}
-use Rattle.scheme_model.specs.Order.{Note, Left, Pass}
+use Rattle.scheme_model.specs.Order.{Note, Left}
 use Rattle.scheme_model.specs.Expression.{expand}
 use Rattle.scheme_model.specs.UnitExpansion.{unless_over, form_parts}
 use Rattle.scheme_model.specs.Program.{enough_turns}
@@ -18,12 +18,12 @@ use Rattle.model_laws.proofs.FrameStates.{Grows, grows_itself, grows_then}
 use Rattle.model_laws.proofs.FrameLeaves.{TreeAll, tree_more}
 use Rattle.model_laws.proofs.FrameUnit.{UnitLeaf, leaf_later}
 use Rattle.model_laws.proofs.UnitEnds.{OnWork}
-use Rattle.form_laws.specs.Begins.{Each, FormBegins, RestBegins}
+use Rattle.form_laws.specs.Begins.{Each, FormBegins}
 use Rattle.kept_forms.specs.KeptForms.{counts_at}
 use Rattle.kept_forms.specs.Carried.{no_counts}
 use Rattle.kept_forms.proofs.UsesCounted.{pass_counts, rest_counts, Not, Distinct}
 use Rattle.kept_forms.proofs.Between.{Between, form_may_begin, BetweenRests, between_rests, Stays, stays_later, rest_may_begin, AfterPass, after_pass, after_rest}
-use Rattle.carried_forms.specs.Worked.{WorkedForm, GoneForm, around_form, gone_through, gone_on, worked_forms}
+use Rattle.carried_forms.specs.Worked.{GoneForm, around_form, gone_through, gone_on, worked_forms}
 use Rattle.carried_laws.specs.AtWork.{IsAtWork}
 use Rattle.carried_laws.proofs.Alone.{WentTo, WentOn, form_went, form_on}
 

@@ -1,5 +1,5 @@
 -- Where all carried forms are kept, no more macro uses are worked than the work of the event: form by form, unit by unit.
-use Rattle.std.proofs.Common.{◌≡◌, ◌⊎◌, inl, inr, ℕ, zero, suc, ◌+◌, ◌-◌, ◌≤◌, List, [], ◌∷◌, ◌++◌, map, length, Bool, true, false, cond, Option, Some, None, Result, Ok, Err, refl, sym, ap, ◌∙◌, subst, arith}
+use Rattle.std.proofs.Common.{◌≡◌, ◌⊎◌, inl, inr, ℕ, zero, suc, ◌+◌, ◌≤◌, List, [], ◌∷◌, ◌++◌, map, length, Bool, true, false, cond, Option, Some, None, Err, refl, sym, ap, ◌∙◌, subst, arith}
 use Rattle.std.specs.Prelude.{◌&&◌, ◌==◌}
 use Rattle.std.proofs.lemmas.Bool.{eqb-true}
 use Rattle.scheme_model.specs.Ident.{Ident}
@@ -14,13 +14,13 @@ use Rattle.scheme_model.specs.ScopedProgram.{ScopedProgress, scoped_unit_over, s
 use Rattle.model_laws.proofs.FramePrograms.{done, work_gone, between_before, Between as BetweenUnits}
 use Rattle.form_laws.specs.Begins.{Each}
 use Rattle.kept_forms.specs.KeptForms.{KeptParts, KeptForm, FormOrKept, form_of, unit_keeping}
-use Rattle.kept_forms.specs.Carried.{FormFits, UnitKept}
+use Rattle.kept_forms.specs.Carried.{FormFits}
 use Rattle.kept_forms.specs.Worked.{rest_of, not_kept, uses_not_kept}
 use Rattle.kept_forms.specs.KeptPrograms.{Keeping, kept_worked, UnitKeeps, WorkKeeps, ProgramKeeps, SameProgress, unit_not_kept, work_not_kept, program_not_kept}
 use Rattle.kept_forms.proofs.Programs.{PlacesDone, work_placed, OrReady, first_is, distinct, same_unit, new_unit}
 use Rattle.kept_forms.proofs.UsesCounted.{Distinct, of_form}
 use Rattle.kept_forms.proofs.WholePrograms.{itself, worked_alike}
-use Rattle.carried_forms.specs.Worked.{WorkedForm, WorkedUnit, worked_unit, unless_broken, worked_next, worked_units, worked_forms, OpenDocument, read_documents, units_at_work}
+use Rattle.carried_forms.specs.Worked.{WorkedForm, WorkedUnit, worked_unit, unless_broken, worked_next, worked_units, worked_forms, OpenDocument, read_documents}
 use Rattle.carried_forms.specs.Carried.{IsIn, is_among, uses_beside, work_beside, carried, work}
 use Rattle.carried_laws.specs.CarriedEntries.{IsWhole, IsKeptWhole, KeepsAll}
 use Rattle.carried_laws.proofs.BrokenForms.{KeptAt, broken_uses}

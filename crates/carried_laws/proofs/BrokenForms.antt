@@ -1,5 +1,5 @@
 -- A form that is broken when it is gone through uses no macro later: what is kept of it says how many it has used.
-use Rattle.std.proofs.Common.{◌≡◌, ◌⊎◌, inl, inr, ℕ, ◌≤◌, List, [], ◌∷◌, Bool, true, false, cond, Option, Some, None, Result, Ok, Err, refl, sym, ap, ◌∙◌, subst, arith}
+use Rattle.std.proofs.Common.{◌≡◌, ◌⊎◌, inl, inr, ℕ, ◌≤◌, List, [], ◌∷◌, Bool, true, false, cond, Option, Some, None, Result, Err, refl, sym, ap, ◌∙◌, subst, arith}
 use Rattle.std.specs.Prelude.{nat_lt}
 use Rattle.scheme_model.specs.Ident.{Ident}
 use Rattle.scheme_model.specs.Requirements.{Known}
@@ -16,9 +16,8 @@ use Rattle.form_laws.specs.Begins.{Each}
 use Rattle.form_laws.proofs.Leaving.{at_here}
 use Rattle.kept_forms.specs.KeptForms.{KeptParts, KeptForm, FormOrKept, around_form, goes_through, LeftOrKept, rest_kept, passes_keeping, comes_to, finished_keeping, numbers_of, unit_keeping, counts_at, moved_to}
 use Rattle.kept_forms.specs.Carried.{FormFits, Onwards}
-use Rattle.kept_forms.proofs.OneSide.{then_keeps, over_keeps}
+use Rattle.kept_forms.proofs.OneSide.{then_keeps}
 use Rattle.kept_forms.proofs.UsesCounted.{pass_others, rest_others, Not, Distinct, of_form, of_left, passes_others, rests_others}
-use Rattle.kept_forms.proofs.WorkedLaw.{over_state}
 use Rattle.kept_forms.proofs.Ready.{Ready, passes_ready}
 
 -- ---- where it stands

@@ -1,14 +1,13 @@
 -- Each carried form may be kept: it asks alike, and its tree is the one before under the new numbers.
-use Rattle.std.proofs.Common.{◌≡◌, ℕ, ◌+◌, List, map, length, Bool, true, false, Option, Some, None, refl, sym, ap, ◌∙◌, subst, arith}
+use Rattle.std.proofs.Common.{◌≡◌, ℕ, ◌+◌, List, length, Bool, true, false, Option, Some, None, refl, sym, ap, ◌∙◌, subst, arith}
 use Rattle.std.specs.Prelude.{◌||◌}
 use Rattle.std.specs.Str.{bytes_eq}
 use Rattle.scheme_model.specs.declared.Home.{Home}
 use Rattle.scheme_model.specs.Data.{Datum}
-use Rattle.scheme_model.specs.Trees.{Tree, placed_in}
+use Rattle.scheme_model.specs.Trees.{placed_in}
 use Rattle.scheme_model.specs.DataTrees.{tree_of}
-use Rattle.scheme_model.specs.Ident.{Ident}
 use Rattle.scheme_model.specs.Order.{is_some}
-use Rattle.scheme_model.specs.Declarations.{UnitForm, home_of, home_or}
+use Rattle.scheme_model.specs.Declarations.{home_of, home_or}
 use Rattle.scheme_model.specs.Program.{Prepared, UnitResult, known_in, prepare, units_of}
 use Rattle.scheme_model.specs.ScopedProgram.{scoped_work, scoped_before}
 use Rattle.scheme_model.specs.Diagnostics.{document_of}
@@ -16,7 +15,7 @@ use Rattle.renumbering_laws.specs.Moving.{move_tree}
 use Rattle.renumbering_laws.specs.Renumbering.{Renumbering, change}
 use Rattle.renumbering_laws.specs.NewSurroundings.{HasOldNumbers}
 use Rattle.carried_forms.specs.Alike.{same_tree}
-use Rattle.carried_forms.specs.Paired.{FormText, UnitText, UnitPair, unit_pairs}
+use Rattle.carried_forms.specs.Paired.{FormText, UnitText, UnitPair}
 use Rattle.carried_forms.specs.Worked.{WorkedForm, OpenDocument, AreOpenOnce, read_documents, units_at_work, uri_at, unit_text, unit_texts}
 use Rattle.carried_forms.specs.Carried.{asks_alike, worked_at, both_alike, IsIn, carried}
 use Rattle.carried_forms.proofs.CarriedLaws.{carried_only}
@@ -28,22 +27,22 @@ use Rattle.carried_laws.specs.CarriedEntries.{came_to}
 use Rattle.carried_laws.specs.Homes.{At}
 use Rattle.carried_laws.specs.CarriedOver.{numbers_between, pairs_between, AllHomesGoOn, CarriedOver}
 use Rattle.carried_laws.proofs.Places.{mapped_at, same_at}
-use Rattle.carried_laws.proofs.PairsSend.{PairOf, pairs_found, unit_sent, form_sent}
-use Rattle.carried_laws.proofs.FormsSame.{SameAt, forms_same}
+use Rattle.carried_laws.proofs.PairsSend.{pairs_found, unit_sent, form_sent}
+use Rattle.carried_laws.proofs.FormsSame.{forms_same}
 use Rattle.carried_laws.proofs.TreesSame.{trees_same}
 use Rattle.carried_laws.proofs.FormsWritten.{unit_number, texts_at, work_begins, IsWritten, form_written}
 use Rattle.carried_laws.proofs.CarriedStays.{carried_stays}
 
 -- ---- both were worked on
 
-record Alike (r : Renumbering) (o q : Option WorkedForm) : Type 0 where
-  one : WorkedForm
-  other : WorkedForm
-  here : o ≡ Some one
-  there : q ≡ Some other
-  alike : asks_alike r one other ≡ true
+pub record Alike (r : Renumbering) (o q : Option WorkedForm) : Type 0 where
+  pub one : WorkedForm
+  pub other : WorkedForm
+  pub here : o ≡ Some one
+  pub there : q ≡ Some other
+  pub alike : asks_alike r one other ≡ true
 
-both_there : (r : Renumbering) (o q : Option WorkedForm) → both_alike r o q ≡ true → Alike r o q
+pub both_there : (r : Renumbering) (o q : Option WorkedForm) → both_alike r o q ≡ true → Alike r o q
 both_there r None q h = let z : false ≡ true = h in absurd cc
 both_there r (Some f) None h = let z : false ≡ true = h in absurd cc
 both_there r (Some f) (Some g) h = record { one = f; other = g; here = refl; there = refl; alike = h }
@@ -120,11 +119,13 @@ module _ (before after : List OpenDocument) (once : AreOpenOnce before) (once_af
       stays : asks_alike r f g ≡ true → IsAtWork p.before f → Stays p.after (g.form, g.tree) (Some (kept_as r (came_to f))) g
       stays alike at = subst (λ n. Stays n (g.form, g.tree) (Some (kept_as r (came_to f))) g) unit_to (carried_stays r old_numbers p.before f g at alike (ap (r.form p.before) a.is ∙ form_to ∙ sym b.is) tree_to)
 
-    pub pair_over : both_alike r (worked_at (units_at_work (read_documents before)) p.before q.0) (worked_at (units_at_work (read_documents after)) p.after q.1) ≡ true → CarriedOver before after (p.after, q.1)
+    pub pair_stays : (f g : WorkedForm) → worked_at (units_at_work (read_documents before)) p.before q.0 ≡ Some f → worked_at (units_at_work (read_documents after)) p.after q.1 ≡ Some g → asks_alike r f g ≡ true → Stays p.after (g.form, g.tree) (Some (kept_as r (came_to f))) g
+    pair_stays f g here there alike =
+        stays f g (form_written (read_documents before) p.before q.0 f here) (form_written (read_documents after) p.after q.1 g there) alike (work_begins (read_documents before) p.before q.0 f here)
+
+    pair_over : both_alike r (worked_at (units_at_work (read_documents before)) p.before q.0) (worked_at (units_at_work (read_documents after)) p.after q.1) ≡ true → CarriedOver before after (p.after, q.1)
     pair_over h =
         let z = both_there r (worked_at (units_at_work (read_documents before)) p.before q.0) (worked_at (units_at_work (read_documents after)) p.after q.1) h in
-        let a = form_written (read_documents before) p.before q.0 z.one z.here in
-        let b = form_written (read_documents after) p.after q.1 z.other z.there in
         record {
           unit = p.before;
           form = q.0;
@@ -134,7 +135,7 @@ module _ (before after : List OpenDocument) (once : AreOpenOnce before) (once_af
           is = z.there;
           unit_after = unit_to;
           form_after = form_to;
-          stays = stays z.one z.other a b z.alike (work_begins (read_documents before) p.before q.0 z.one z.here);
+          stays = pair_stays z.one z.other z.here z.there z.alike;
         }
 
   pub carried_over : (c : ℕ × ℕ) → IsIn c (carried before after) → CarriedOver before after c

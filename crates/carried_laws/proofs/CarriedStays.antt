@@ -1,5 +1,5 @@
 -- A form that asks alike before and after under some numbers may be kept there, of what it came to before under these numbers.
-use Rattle.std.proofs.Common.{◌≡◌, ℕ, List, [], ◌∷◌, Bool, true, false, Option, Some, None, Result, Ok, Err, refl, sym, ap, ◌∙◌, subst}
+use Rattle.std.proofs.Common.{◌≡◌, ℕ, Bool, true, false, Some, Result, Ok, Err, refl, sym, ap, ◌∙◌, subst}
 use Rattle.std.specs.Prelude.{◌&&◌}
 use Rattle.scheme_model.specs.Ident.{Ident}
 use Rattle.scheme_model.specs.Trees.{Tree}
@@ -7,14 +7,14 @@ use Rattle.scheme_model.specs.RulesShape.{option_map}
 use Rattle.scheme_model.specs.Steps.{Broken}
 use Rattle.scheme_model.specs.Order.{Left}
 use Rattle.scheme_model.specs.Program.{enough_turns}
-use Rattle.scheme_model.specs.Questions.{Around, Moment, Question, SameAnswer}
-use Rattle.scheme_model.specs.FormsAlike.{set_aside, start, questions_of_pass, questions_of_left}
+use Rattle.scheme_model.specs.Questions.{Around, SameAnswer}
+use Rattle.scheme_model.specs.FormsAlike.{set_aside, questions_of_pass, questions_of_left}
 use Rattle.form_laws.specs.Begins.{Each, RestBegins}
 use Rattle.renumbering_laws.specs.Moving.{move_tree}
-use Rattle.renumbering_laws.specs.Renumbering.{Renumbering, IsOneToOne, change}
+use Rattle.renumbering_laws.specs.Renumbering.{Renumbering, change}
 use Rattle.renumbering_laws.specs.NewSurroundings.{HasOldNumbers, around_new}
 use Rattle.renumbering_laws.proofs.NewSurroundings.{old_numbers_apart, turns_move}
-use Rattle.kept_forms.specs.KeptForms.{KeptForm, counts_at}
+use Rattle.kept_forms.specs.KeptForms.{counts_at}
 use Rattle.kept_forms.specs.Carried.{kept_aside, FormFits}
 use Rattle.kept_forms.proofs.MayBeKept.{form_fits}
 use Rattle.carried_forms.specs.Worked.{WorkedForm}

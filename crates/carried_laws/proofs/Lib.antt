@@ -12,3 +12,5 @@ pub mod FormsSame  -- Forms that are paired have the same tree
 pub mod TreesSame  -- Where the trees of two texts are the same but for their homes, the tree of one as a form is that of the other under the numbers of these
 pub mod FormsWritten  -- A form at work is a form of its unit, as its text has it
 pub mod CarriedOver  -- Each carried form may be kept
+pub mod WorkedOnce  -- No two units at work have one number, nor two forms of one of them
+pub mod CarriedKeeping  -- Exactly the carried forms may be kept, and then no more is worked than the work of the event

@@ -1,11 +1,11 @@
 -- Pairs send what goes on to what it goes on as: a unit to its number after, and each of its forms that goes on to the number that it has then.
-use Rattle.std.proofs.Common.{◌≡◌, ◌⊎◌, inl, inr, ℕ, zero, suc, ◌+◌, ◌-◌, ◌≤◌, ◌<◌, List, [], ◌∷◌, ◌++◌, length, Bool, true, false, cond, Option, Some, None, refl, sym, ap, ◌∙◌, subst, arith, eq-eqb}
+use Rattle.std.proofs.Common.{◌≡◌, ◌⊎◌, inl, inr, ℕ, zero, suc, ◌+◌, ◌≤◌, List, [], ◌∷◌, ◌++◌, length, Bool, true, false, cond, Option, Some, None, refl, sym, ap, ◌∙◌, subst, arith, eq-eqb}
 use Rattle.std.specs.Prelude.{◌==◌}
 use Rattle.std.specs.List.{list_any}
 use Rattle.std.proofs.lemmas.Bool.{eqb-true, false_from_ne_true}
 use Rattle.scheme_model.specs.Program.{prelude_unit}
 use Rattle.carried_forms.specs.Alike.{same_list}
-use Rattle.carried_forms.specs.Paired.{FormText, is_same_at_home, in_step, by_ends, Rise, form_pairs, UnitText, is_same_unit, AreWithin, UnitPair, with_forms, pair_of, pairs_from, unit_pairs, prelude_pair, unit_after, number_after, form_after, renumbering}
+use Rattle.carried_forms.specs.Paired.{FormText, is_same_at_home, in_step, by_ends, Rise, form_pairs, UnitText, is_same_unit, AreWithin, UnitPair, with_forms, pair_of, pairs_from, unit_pairs, unit_after, number_after, form_after, renumbering}
 use Rattle.carried_forms.specs.Carried.{IsIn}
 use Rattle.carried_forms.proofs.UnitLaws.{key_told}
 use Rattle.carried_forms.proofs.PairLaws.{ends_rise}

@@ -1,5 +1,5 @@
 -- What is kept of a form in surroundings under new numbers is what was kept there, under the new numbers; so an entry stays one.
-use Rattle.std.proofs.Common.{◌≡◌, ℕ, ◌+◌, ◌-◌, List, [], ◌∷◌, map, Option, Some, None, Result, Ok, Err, refl, sym, ap, ◌∙◌, subst, arith}
+use Rattle.std.proofs.Common.{◌≡◌, ℕ, ◌+◌, ◌-◌, List, [], ◌∷◌, map, Option, Some, None, Result, Ok, Err, refl, sym, ap, ◌∙◌, arith}
 use Rattle.scheme_model.specs.Ident.{Ident}
 use Rattle.scheme_model.specs.Trees.{Tree}
 use Rattle.scheme_model.specs.RulesShape.{option_map}
@@ -10,9 +10,8 @@ use Rattle.scheme_model.specs.Expression.{expand, item_part}
 use Rattle.scheme_model.specs.UnitExpansion.{max_depth}
 use Rattle.scheme_model.specs.Substitution.{definition_count}
 use Rattle.scheme_model.specs.Program.{enough_turns}
-use Rattle.scheme_model.specs.Questions.{Around, Asking, asking, Moment}
-use Rattle.scheme_model.specs.FormsAlike.{bound_moved, binder_with, item_with, left_with, or_fault, no_questions, set_aside_asking, start}
-use Rattle.form_laws.specs.Begins.{FormBegins, LeftBegins}
+use Rattle.scheme_model.specs.Questions.{Around, Asking, asking}
+use Rattle.scheme_model.specs.FormsAlike.{bound_moved, binder_with, item_with, left_with, or_fault, no_questions}
 use Rattle.renumbering_laws.specs.Moving.{move_tree, move_clause}
 use Rattle.renumbering_laws.specs.Renumbering.{Renumbering, IsOneToOne, ident, change, place, with_places, bound, binder, record_type, result_as, part_as, form_as, item_as, use_as, left_as}
 use Rattle.renumbering_laws.specs.Asked.{new_moment, new_asking, TurnsMove}
@@ -20,7 +19,7 @@ use Rattle.renumbering_laws.specs.NewSurroundings.{HasOldNumbers, around_new}
 use Rattle.renumbering_laws.proofs.AskingSide.{set_aside_asks, uses_ask, item_asks}
 use Rattle.renumbering_laws.proofs.NewSurroundings.{old_numbers_apart, turns_move}
 use Rattle.kept_forms.specs.KeptForms.{KeptAside, KeptItem, KeptParts, KeptForm}
-use Rattle.kept_forms.specs.Carried.{kept_aside, kept_parts, kept_items, unless_broken, only_counted, RestFits}
+use Rattle.kept_forms.specs.Carried.{kept_aside, kept_parts, kept_items, unless_broken, RestFits}
 use Rattle.carried_forms.proofs.NewBeginnings.{form_begins_new, left_begins_new}
 use Rattle.carried_laws.specs.Entries.{RestStands, StandsFor, aside_as, kept_item_as, kept_parts_as, kept_as}
 

@@ -1,6 +1,6 @@
 -- Entries that have their answers where the forms of a unit are gone through and expanded anew have them where these are kept, one form
 -- behind another: the state there is the same but for the times at which bodies were entered.
-use Rattle.std.proofs.Common.{◌≡◌, ℕ, List, [], ◌∷◌, map, Bool, true, false, cond, Option, Some, None, Result, Ok, Err, refl, sym, ap, ◌∙◌, subst}
+use Rattle.std.proofs.Common.{◌≡◌, ℕ, List, [], ◌∷◌, map, Bool, true, false, cond, Option, Some, None, Result, Ok, refl, sym, ap, ◌∙◌, subst}
 use Rattle.std.specs.Prelude.{nat_lt}
 use Rattle.scheme_model.specs.Ident.{Ident}
 use Rattle.scheme_model.specs.Trees.{Tree}
@@ -18,8 +18,8 @@ use Rattle.scheme_model.specs.Questions.{Around, SameAnswer, Moment}
 use Rattle.scheme_model.specs.FormsAlike.{set_aside, finish, start, bare_note, bare_state, bound_moved, questions_of_pass, questions_of_left}
 use Rattle.model_laws.proofs.UnitEnds.{Both, both_end, both_go, OnWork}
 use Rattle.form_laws.specs.Begins.{Each, RestBegins}
-use Rattle.kept_forms.specs.KeptForms.{KeptParts, KeptForm, FormOrKept, form_of, around_form, goes_through, LeftOrKept, rest_kept, kept_moved, passes_keeping, comes_to, numbers_of, counts_at, moved_to}
-use Rattle.kept_forms.specs.Carried.{PassStays, RestStays, PassKept, RestKept, FormFits, Onwards, PassesKept, RestsKept, UnitKept, kept_parts}
+use Rattle.kept_forms.specs.KeptForms.{KeptParts, KeptForm, FormOrKept, form_of, around_form, goes_through, LeftOrKept, rest_kept, kept_moved, passes_keeping, comes_to, numbers_of, counts_at}
+use Rattle.kept_forms.specs.Carried.{PassKept, RestKept, FormFits, Onwards, PassesKept, RestsKept, UnitKept}
 use Rattle.kept_forms.proofs.Bares.{bare_around, answers_too}
 use Rattle.kept_forms.proofs.Fronts.{EndedLike, GivesLike}
 use Rattle.kept_forms.proofs.OneForm.{PassLike, pass_like, BegunAt, rest_like}
@@ -27,7 +27,7 @@ use Rattle.kept_forms.proofs.Numbers.{LeftIs, left_is}
 use Rattle.kept_forms.proofs.UsesCounted.{rest_counts, Distinct, of_form, of_left}
 use Rattle.kept_forms.proofs.Ready.{Ready, ready_later, passes_ready}
 use Rattle.carried_forms.specs.Worked.{WorkedForm, GoneForm, gone_through, gone_on, worked_forms}
-use Rattle.carried_laws.specs.Entries.{RestStands, StandsFor, RestAnswers, Stays, FormsStay}
+use Rattle.carried_laws.specs.Entries.{RestStands, RestAnswers, Stays, FormsStay}
 use Rattle.carried_laws.specs.AtWork.{IsAtWork}
 use Rattle.carried_laws.proofs.Alone.{WentTo, form_went}
 

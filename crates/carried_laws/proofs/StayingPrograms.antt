@@ -1,5 +1,5 @@
 -- So it is in a program, unit by unit.
-use Rattle.std.proofs.Common.{◌≡◌, ℕ, zero, suc, List, [], ◌∷◌, ◌++◌, map, length, true, false, Option, Some, None, refl, sym, ap, ◌∙◌, subst}
+use Rattle.std.proofs.Common.{◌≡◌, ℕ, zero, suc, List, [], ◌∷◌, ◌++◌, map, length, false, Option, Some, None, refl, sym, ap, ◌∙◌, subst}
 use Rattle.scheme_model.specs.Ident.{Ident, Written}
 use Rattle.scheme_model.specs.Trees.{Tree}
 use Rattle.scheme_model.specs.Requirements.{Known}
@@ -29,10 +29,10 @@ use Rattle.carried_laws.proofs.Staying.{unit_stays}
 
 -- ---- forms of which nothing is kept
 
-abbrev anew : List (ℕ × Tree Ident) → List FormOrKept
+abbrev pub anew : List (ℕ × Tree Ident) → List FormOrKept
 anew ts = map (λ t. record { form = t.0; tree = t.1; kept = None }) ts
 
-anew_forms : (ts : List (ℕ × Tree Ident)) → map form_of (anew ts) ≡ ts
+pub anew_forms : (ts : List (ℕ × Tree Ident)) → map form_of (anew ts) ≡ ts
 anew_forms [] = refl
 anew_forms (t ∷ ts) = ap (λ us. t ∷ us) (anew_forms ts)
 
@@ -44,7 +44,7 @@ not_anew : (g : ℕ) (ts : List (ℕ × Tree Ident)) → Not of_form g (anew ts)
 not_anew g [] h = tt
 not_anew g (t ∷ ts) h = (h.0, not_anew g ts h.1)
 
-distinct_anew : (ts : List (ℕ × Tree Ident)) → Distinct of_form (anew ts) → Distinct of_tree ts
+pub distinct_anew : (ts : List (ℕ × Tree Ident)) → Distinct of_form (anew ts) → Distinct of_tree ts
 distinct_anew [] h = tt
 distinct_anew (t ∷ ts) h = (not_anew t.0 ts h.0, distinct_anew ts h.1)
 

@@ -1,8 +1,8 @@
 -- What a form that was worked on came to, as an entry; keepings that keep it all of some forms; and included forms whose homes go on.
-use Rattle.std.specs.Prelude.{◌≡◌, ℕ, List, [], ◌∷◌, Bool, true, ◌||◌, Option, Some, None, Result, Ok, Err}
+use Rattle.std.specs.Prelude.{◌≡◌, ℕ, List, Option, Some, None, Result, Ok, Err}
 use Rattle.scheme_model.specs.Ident.{Ident}
 use Rattle.scheme_model.specs.Steps.{Broken}
-use Rattle.scheme_model.specs.Order.{Left, is_some}
+use Rattle.scheme_model.specs.Order.{Left}
 use Rattle.scheme_model.specs.Substitution.{definition_count}
 use Rattle.scheme_model.specs.Program.{enough_turns}
 use Rattle.form_laws.specs.Begins.{Each}

@@ -1,5 +1,5 @@
 -- A form that is carried from a program to the next, and what may be kept of it.
-use Rattle.std.specs.Prelude.{◌≡◌, ℕ, List, Option, Some}
+use Rattle.std.specs.Prelude.{◌≡◌, ℕ, List, Some}
 use Rattle.scheme_model.specs.Program.{Prepared, prepare, units_of}
 use Rattle.renumbering_laws.specs.Renumbering.{Renumbering}
 use Rattle.carried_forms.specs.Paired.{UnitPair, unit_pairs, renumbering}

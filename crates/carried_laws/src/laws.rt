@@ -18,6 +18,7 @@ ghost use Rattle.carried_forms.specs.Worked.{WorkedForm, OpenDocument, AreOpenOn
 ghost use Rattle.carried_forms.specs.Carried.{IsIn, asks_alike, carried, work};
 ghost use Rattle.carried_laws.specs.AtWork.{IsAtWork, AreAtWork};
 ghost use Rattle.carried_laws.specs.CarriedEntries.{came_to, KeepsAll};
+ghost use Rattle.carried_laws.specs.CarriedKeeping.{carried_keeping};
 ghost use Rattle.carried_laws.specs.CarriedOver.{AllHomesGoOn, CarriedOver};
 ghost use Rattle.carried_laws.specs.Entries.{UnitsStay, Stays, StandsFor, aside_as, kept_parts_as, kept_as};
 
@@ -64,4 +65,13 @@ pub fn work_bounds_what_is_worked()
 /// have its places at those.
 pub fn carried_forms_may_be_kept()
     ensures { (before after : List OpenDocument) (c : ℕ × ℕ) → AreOpenOnce before → AreOpenOnce after → AllHomesGoOn before after → IsIn c (carried before after) → CarriedOver before after c }
+{}
+
+/// So exactly the carried forms may be kept: with what they came to before put into its place, under the new numbers, the program is the
+/// program (R7RS 5), and at most the work of the event is worked.
+pub fn programs_keep_what_is_carried()
+    ensures stays { (before after : List OpenDocument) → AreOpenOnce before → AreOpenOnce after → AllHomesGoOn before after → UnitsStay (carried_keeping before after) (units_at_work (read_documents after)) }
+    ensures program { (before after : List OpenDocument) → AreOpenOnce before → AreOpenOnce after → AllHomesGoOn before after → kept_program_of (carried_keeping before after) (read_documents after) ≡ program_of (read_documents after) }
+    ensures worked { (before after : List OpenDocument) → AreOpenOnce before → AreOpenOnce after → AllHomesGoOn before after → let ds = read_documents after in let all = units_of ds in let units = prepare all 0 all in
+        program_worked all units (known_in ds) (carried_keeping before after) (length units) scoped_before ≤ work before after }
 {}

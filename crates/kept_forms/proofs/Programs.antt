@@ -129,7 +129,7 @@ done_more rs r n e u h = go (u == n) (ap (λ m. m == u) e ∙ turned n u) h
     go true q k = ap (λ t. is_some (cond t (Some r) (result_at rs u))) q
     go false q k = ap (λ t. is_some (cond t (Some r) (result_at rs u))) q ∙ k
 
-result_number : (p : Prepared) (imports : List Entry × List SetResult) (table : Table) (forms : Option (List Formed)) → (unit_result p imports table forms).unit.number ≡ p.number
+pub result_number : (p : Prepared) (imports : List Entry × List SetResult) (table : Table) (forms : Option (List Formed)) → (unit_result p imports table forms).unit.number ≡ p.number
 result_number p imports table None = refl
 result_number p imports table (Some forms) = refl
 
