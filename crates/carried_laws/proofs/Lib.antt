@@ -14,3 +14,5 @@ pub mod FormsWritten  -- A form at work is a form of its unit, as its text has i
 pub mod CarriedOver  -- Each carried form may be kept
 pub mod WorkedOnce  -- No two units at work have one number, nor two forms of one of them
 pub mod CarriedKeeping  -- Exactly the carried forms may be kept, and then no more is worked than the work of the event
+pub mod GoingOn  -- What is kept of units are entries, under new numbers, where it stays, and where forms are expanded
+pub mod KeepingRows  -- Small programs of which exactly the carried forms are kept, computed; and a part whose forms have other numbers where they are included than in the part

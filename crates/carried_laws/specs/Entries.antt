@@ -11,6 +11,7 @@ use Rattle.form_laws.specs.Begins.{Each, FormBegins, LeftBegins}
 use Rattle.renumbering_laws.specs.Moving.{move_tree}
 use Rattle.renumbering_laws.specs.Renumbering.{Renumbering, ident, change, result_as, part_as, left_as}
 use Rattle.renumbering_laws.specs.Asked.{new_moment, new_pass}
+use Rattle.renumbering_laws.specs.NewSurroundings.{HasOldNumbers, at_old}
 use Rattle.kept_forms.specs.KeptForms.{KeptAside, KeptItem, KeptParts, KeptForm, FormOrKept, form_of}
 use Rattle.kept_forms.specs.Carried.{kept_aside, kept_parts, no_counts, FormFits}
 use Rattle.kept_forms.specs.KeptPrograms.{Keeping}
@@ -85,3 +86,7 @@ kept_as r k = record { aside = aside_as r k.aside; parts = option_map (kept_part
 -- a form of this unit with what is kept of it
 abbrev pub form_or_kept_as : Renumbering → (unit : ℕ) → FormOrKept → FormOrKept
 form_or_kept_as r n x = record { form = r.form n x.form; tree = move_tree (change r) x.tree; kept = option_map (kept_as r) x.kept }
+
+-- of a unit the forms have what was kept under its old number, if it has one
+abbrev pub keeping_as : (r : Renumbering) → HasOldNumbers r → Keeping → Keeping
+keeping_as r b keep n = at_old [] (λ m. map (form_or_kept_as r m) (keep m)) (b.unit_back n)

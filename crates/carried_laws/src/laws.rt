@@ -11,16 +11,16 @@ ghost use Rattle.form_laws.specs.Begins.{Each};
 ghost use Rattle.renumbering_laws.specs.Moving.{move_tree};
 ghost use Rattle.renumbering_laws.specs.Renumbering.{Renumbering, ident, change, left_as};
 ghost use Rattle.renumbering_laws.specs.NewSurroundings.{HasOldNumbers, around_new};
-ghost use Rattle.kept_forms.specs.KeptForms.{KeptForm};
+ghost use Rattle.kept_forms.specs.KeptForms.{KeptForm, FormOrKept, form_of};
 ghost use Rattle.kept_forms.specs.Carried.{kept_aside, kept_parts};
 ghost use Rattle.kept_forms.specs.KeptPrograms.{Keeping, kept_program_of, ProgramKeeps, program_worked, program_not_kept};
-ghost use Rattle.carried_forms.specs.Worked.{WorkedForm, OpenDocument, AreOpenOnce, read_documents, units_at_work};
+ghost use Rattle.carried_forms.specs.Worked.{WorkedForm, WorkedUnit, OpenDocument, AreOpenOnce, read_documents, units_at_work};
 ghost use Rattle.carried_forms.specs.Carried.{IsIn, asks_alike, carried, work};
 ghost use Rattle.carried_laws.specs.AtWork.{IsAtWork, AreAtWork};
 ghost use Rattle.carried_laws.specs.CarriedEntries.{came_to, KeepsAll};
 ghost use Rattle.carried_laws.specs.CarriedKeeping.{carried_keeping};
 ghost use Rattle.carried_laws.specs.CarriedOver.{AllHomesGoOn, CarriedOver};
-ghost use Rattle.carried_laws.specs.Entries.{UnitsStay, Stays, StandsFor, aside_as, kept_parts_as, kept_as};
+ghost use Rattle.carried_laws.specs.Entries.{StandsFor, IsEntry, AreEntries, Stays, FormsStay, UnitsStay, keeping_as, aside_as, kept_parts_as, kept_as};
 
 /// What is kept of a form in surroundings under new numbers is what was kept of it there, under the new numbers; so an entry stays one
 /// (R7RS 4.3, 5.3).
@@ -29,6 +29,14 @@ pub fn entries_take_new_numbers()
     ensures parts { (r : Renumbering) (b : HasOldNumbers r) (w : Around) (turns n : ℕ) (l : Left Identifier) → kept_parts (around_new r b w) turns n (left_as r (ident r) l) ≡ kept_parts_as r (kept_parts w turns n l) }
     ensures entry { (r : Renumbering) (b : HasOldNumbers r) (n : ℕ) (x : ℕ × Tree Identifier) (k : KeptForm) (w u : Around) → StandsFor n x k w u →
         StandsFor (r.unit n) (r.form n x.0, move_tree (change r) x.1) (kept_as r k) (around_new r b w) (around_new r b u) }
+{}
+
+/// What is kept of the units of a program are entries, from one program to the next: those of the program before are under the new numbers of those
+/// units that tell their old ones, and what stays in the program after is; and so is what a form came to there.
+pub fn entries_go_on()
+    ensures renumbered { (r : Renumbering) (b : HasOldNumbers r) (keep : Keeping) → ((u v : ℕ) → b.unit_back v ≡ Some u → r.unit u ≡ v) → AreEntries keep → AreEntries (keeping_as r b keep) }
+    ensures kept { (n : ℕ) (xs : List FormOrKept) (gs : List WorkedForm) → FormsStay n xs gs → Each (λ (x : FormOrKept). IsEntry n (form_of x) x.kept) xs }
+    ensures expanded { (w : WorkedUnit) → AreAtWork w → Each (λ (g : WorkedForm). IsEntry w.number (g.form, g.tree) (Some (came_to g))) w.forms }
 {}
 
 /// Each form of a program that is worked on may begin where its turn comes, and has counted nothing yet; and so may what it set aside where its turn
