@@ -133,18 +133,20 @@ module _ (w : Era) (known : Known) where
       let v = around_form known [] s x.form in
       let u = (finish v enough_turns x.left).1 in
       let a = finished x.form s b x.left l.0.0 in
-      let h = g.0 in
-      (record {
-        unit_first = h.unit_here;
-        form_first = h.form_here;
-        new = h.new;
-        begun = h.begun;
-        set = h.set;
-        unit_later = b.placed.0;
-        form_later = refl;
-        rest = rest_may_begin w known x.form s b x.left l.0.0;
-        counts = l.0.1;
-      }, went gs u a.0 g.1 (left_later s u a.1 x.form (finish_counts v x.left refl) gs d.0 l.1) d.1)
+      let h = g.0 in (
+        record {
+          unit_first = h.unit_here;
+          form_first = h.form_here;
+          new = h.new;
+          begun = h.begun;
+          set = h.set;
+          unit_later = b.placed.0;
+          form_later = refl;
+          rest = rest_may_begin w known x.form s b x.left l.0.0;
+          counts = l.0.1;
+        },
+        went gs u a.0 g.1 (left_later s u a.1 x.form (finish_counts v x.left refl) gs d.0 l.1) d.1,
+      )
 
   pub forms_at_work : (ts : List (ℕ × Tree Ident)) (s : ScopedState) → Between w known s [] → AllOf (Held s) ts → Distinct of_tree ts → AllOf (New s) ts → Each (IsAtWork w.unit) (worked_forms known ts s)
   forms_at_work ts s b h d n = let q = gone_through known ts [] s in let z = gone ts [] s b h d n in went q.0 q.1 z.rests z.each z.left z.distinct

@@ -23,7 +23,7 @@ use Rattle.carried_laws.specs.CarriedEntries.{rest_came_to, came_to, IsWhole, Is
 use Rattle.carried_laws.specs.CarriedOver.{numbers_between, pairs_between, AllHomesGoOn}
 use Rattle.carried_laws.specs.CarriedKeeping.{or_else, came_over, entry_in, entry_by, carried_entry, forms_worked, with_entry, carried_keeping}
 use Rattle.carried_laws.proofs.FormsWritten.{work_begins}
-use Rattle.carried_laws.proofs.CarriedOver.{Alike, both_there, pair_stays}
+use Rattle.carried_laws.proofs.CarriedOver.{both_there, pair_stays}
 use Rattle.carried_laws.proofs.WorkedOnce.{forms_by_number, form_by_number}
 
 both : (a b : Bool) → (a && b) ≡ true → (a ≡ true) × (b ≡ true)

@@ -64,9 +64,12 @@ module _ (r : Renumbering) (b : HasOldNumbers r) (n : ℕ) (f g : WorkedForm) (a
   rest_told (Err e) h = tt
 
   pub carried_stays : Stays (r.unit n) (g.form, g.tree) (Some (kept_as r (came_to f))) g
-  carried_stays = (w, u,
+  carried_stays = (
+    w,
+    u,
     (let e = form in let d = tree in subst (λ (x : ℕ × Tree Ident). StandsFor (r.unit n) x (kept_as r (came_to f)) w u) (λ j. (e j, d j)) (entry_moved r b n (f.form, f.tree) (came_to f) f.around f.later (came_to_is_entry n f at))),
     record {
       pass = subst (λ (t : Tree Ident). Each (SameAnswer w g.around) (questions_of_pass w enough_turns t)) tree (pass_kept r (old_numbers_apart r b) f.around g.around w (turns_move r b f.around) enough_turns f.tree told.0);
       rest = rest_told f.left told.1;
-    })
+    },
+  )

@@ -1,5 +1,5 @@
-pub mod Renumbered  -- What is kept of a form in surroundings under new numbers is what was kept there, under the new numbers
-pub mod Alone  -- Where work on a unit doesn't end in a form, the form goes to where it goes alone
+pub mod Renumbered  -- What is kept of a form in surroundings under new numbers is what was kept there, under the new numbers; so an entry stays one
+pub mod Alone  -- Where work on a unit doesn't end in a form, the form goes to where it goes alone; and where no form's nodes are counted, work doesn't end
 pub mod AtWork  -- The forms of a unit at work, each gone through and then expanded
 pub mod Staying  -- Entries that have their answers where the forms of a unit are gone through and expanded anew have them where these are kept, one form behind another
 pub mod StayingPrograms  -- So it is in a program, unit by unit
@@ -12,7 +12,7 @@ pub mod FormsSame  -- Forms that are paired have the same tree
 pub mod TreesSame  -- Where the trees of two texts are the same but for their homes, the tree of one as a form is that of the other under the numbers of these
 pub mod FormsWritten  -- A form at work is a form of its unit, as its text has it
 pub mod CarriedOver  -- Each carried form may be kept
-pub mod WorkedOnce  -- No two units at work have one number, nor two forms of one of them
+pub mod WorkedOnce  -- No two units at work have one number, nor two forms of one of them; so each form at work is found by its unit and its number
 pub mod CarriedKeeping  -- Exactly the carried forms may be kept, and then no more is worked than the work of the event
 pub mod GoingOn  -- What is kept of units are entries, under new numbers, where it stays, and where forms are expanded
 pub mod KeepingRows  -- Small programs of which exactly the carried forms are kept, computed; and a part whose forms have other numbers where they are included than in the part

@@ -125,14 +125,17 @@ module _ (known : Known) (n : ℕ) where
     pass_stays v p same x f e g here None h = tt
     pass_stays v p same x f e g here (Some k) h =
         let w = h.0 in let st = h.2 in
-        let unit = ap (λ (z : Around). z.state.unit) (sym same) in
-        (w, record {
-          unit = unit ∙ e ∙ sym st.unit_there;
-          form = f ∙ sym st.form_there;
-          new = st.new;
-          begun = st.begun;
-          answers = answers_too p v (sym same) w (questions_of_pass w enough_turns x.1) (subst (λ (z : Around). Each (SameAnswer w z) (questions_of_pass w enough_turns x.1)) here h.3.pass);
-        }, st.aside)
+        let unit = ap (λ (z : Around). z.state.unit) (sym same) in (
+          w,
+          record {
+            unit = unit ∙ e ∙ sym st.unit_there;
+            form = f ∙ sym st.form_there;
+            new = st.new;
+            begun = st.begun;
+            answers = answers_too p v (sym same) w (questions_of_pass w enough_turns x.1) (subst (λ (z : Around). Each (SameAnswer w z) (questions_of_pass w enough_turns x.1)) here h.3.pass);
+          },
+          st.aside,
+        )
 
     passes_stay : (xs : List FormOrKept) (ns ms : List (Note FramedIdent)) (s t : ScopedState) → bare_state t ≡ bare_state s → map bare_note ms ≡ map bare_note ns
         → Passing xs (gone_through known (map form_of xs) ms t).0 → AllFit xs → PassesStay xs ns ms s t
@@ -176,13 +179,19 @@ module _ (known : Known) (n : ℕ) where
     rest_stays : (v p : Around) → bare_around p ≡ bare_around v → (f : ℕ) → v.state.form ≡ f → p.state.unit ≡ n → (u : Around) (to : ℕ) (o : Option KeptParts) → RestStands n f u o → RestAnswers u p o → RestKept v enough_turns (moved_parts to o)
     rest_stays v p same f at e u to None h k = tt
     rest_stays v p same f at e u to (Some c) h k =
-        let unit = ap (λ (z : Around). z.state.unit) (sym same) in
-        (u, c.left, c.before, to, record {
-          unit = unit ∙ e ∙ sym h.0;
-          form = at ∙ sym h.1;
-          begun = h.2;
-          answers = answers_too p v (sym same) u (questions_of_left u enough_turns (Ok c.left)) k;
-        }, ap (kept_moved (bound_moved c.before to)) h.3)
+        let unit = ap (λ (z : Around). z.state.unit) (sym same) in (
+          u,
+          c.left,
+          c.before,
+          to,
+          record {
+            unit = unit ∙ e ∙ sym h.0;
+            form = at ∙ sym h.1;
+            begun = h.2;
+            answers = answers_too p v (sym same) u (questions_of_left u enough_turns (Ok c.left)) k;
+          },
+          ap (kept_moved (bound_moved c.before to)) h.3,
+        )
 
     form_rest : (v p : Around) → bare_around p ≡ bare_around v → (x : ℕ × Tree Ident) → v.state.form ≡ x.0 → p.state.unit ≡ n → (g : WorkedForm) → g.later ≡ p → (to : ℕ) (o : Option KeptForm) → Stays n x o g → RestKept v enough_turns (moved_parts to (parts_of o))
     form_rest v p same x at e g here to None h = tt
@@ -212,9 +221,11 @@ module _ (known : Known) (n : ℕ) where
         let u = (finish later enough_turns g.left).1 in
         let went : WentTo (form_parts (counted known) (expand (counted known) enough_turns) [] fs r.left p.state) u =
         (let b = l.0.1 in subst (λ (z : Around × Result (Left Ident) Broken). WentTo (form_parts (counted known) (expand (counted known) enough_turns) [] fs r.left p.state) (finish z.0 enough_turns z.1).1) (λ j. (sym there j, b j)) (form_went known enough_turns fs r.left p.state)) in
-        let ready = ready_later r.form s m.1 (rest_counts v enough_turns fs r.left r.kept) rs d.0 q.1 in
-        (kept, onwards_like (λ y z. RestsKept known enough_turns fs rs z) (form_parts (counted known) (expand (counted known) enough_turns) [] fs r.left p.state) m u went like
-        (λ y z e b. rests_stay xs rs gs z u b l.1 d.1 (subst (λ (c : Option (Result Parts Broken) × ScopedState). Ready c.1 rs) e ready) w.1 h.2))
+        let ready = ready_later r.form s m.1 (rest_counts v enough_turns fs r.left r.kept) rs d.0 q.1 in (
+          kept,
+          onwards_like (λ y z. RestsKept known enough_turns fs rs z) (form_parts (counted known) (expand (counted known) enough_turns) [] fs r.left p.state) m u went like
+              (λ y z e b. rests_stay xs rs gs z u b l.1 d.1 (subst (λ (c : Option (Result Parts Broken) × ScopedState). Ready c.1 rs) e ready) w.1 h.2),
+        )
     rests_stay [] [] (g ∷ gs) s t e l d q w h = absurd l
     rests_stay [] (r ∷ rs) gs s t e l d q w h = absurd l
     rests_stay (x ∷ xs) [] gs s t e l d q w h = absurd l
@@ -228,6 +239,9 @@ module _ (known : Known) (n : ℕ) where
       let q = gone_through known (map form_of xs) [] t in
       let fit = all_fit xs (worked_forms known (map form_of xs) t) h in
       let passes = passes_stay fs xs [] [] s t e refl (passing xs q.0 q.1 h w) fit in
-      let u = passes_keeping known enough_turns fs xs [] s in
-      (fit, passes.kept, onwards_on (λ rs z. Gives fs xs q.0 q.1 rs z × (Distinct of_left rs × Ready z rs)) (λ rs z. RestsKept known enough_turns fs rs z) u
-      (λ rs z k. rests_stay fs xs rs q.0 z q.1 k.0.0 k.0.1 k.1.0 k.1.1 w h) (onwards_work (Gives fs xs q.0 q.1) (λ rs z. Distinct of_left rs × Ready z rs) u passes.gives (passes_ready known enough_turns fs xs [] s d fit)))
+      let u = passes_keeping known enough_turns fs xs [] s in (
+        fit,
+        passes.kept,
+        onwards_on (λ rs z. Gives fs xs q.0 q.1 rs z × (Distinct of_left rs × Ready z rs)) (λ rs z. RestsKept known enough_turns fs rs z) u
+            (λ rs z k. rests_stay fs xs rs q.0 z q.1 k.0.0 k.0.1 k.1.0 k.1.1 w h) (onwards_work (Gives fs xs q.0 q.1) (λ rs z. Distinct of_left rs × Ready z rs) u passes.gives (passes_ready known enough_turns fs xs [] s d fit)),
+      )

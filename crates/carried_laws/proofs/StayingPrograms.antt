@@ -123,10 +123,12 @@ module _ (all : List Placed) (ps : List Prepared) (known : Known) where
       unit_keeps : (p : Prepared) → done g.results p.number ≡ false → FormsStay p.number (keep p.number) (worked_unit known p (scoped_start_after all p g)).forms → UnitKeeps all known keep p None h
       unit_keeps p new k =
           let xs = keep p.number in let ts = forms_in p in let t = scoped_start_after all p g in
-          let e = kept_forms_are known p.number xs ts t k in
-          (e, unit_stays known p.number xs (scoped_start_after all p h) t (starts_alike all ps known g h b placed alike p) (distinct all ps known g h b placed alike p new xs e)
-          (subst (λ (us : List (ℕ × Tree Ident)). Each (IsAtWork p.number) (worked_forms known us t)) (sym e) (unit_begins g b placed p new))
-          (subst (λ (us : List (ℕ × Tree Ident)). FormsStay p.number xs (worked_forms known us t)) (sym e) k))
+          let e = kept_forms_are known p.number xs ts t k in (
+            e,
+            unit_stays known p.number xs (scoped_start_after all p h) t (starts_alike all ps known g h b placed alike p) (distinct all ps known g h b placed alike p new xs e)
+                (subst (λ (us : List (ℕ × Tree Ident)). Each (IsAtWork p.number) (worked_forms known us t)) (sym e) (unit_begins g b placed p new))
+                (subst (λ (us : List (ℕ × Tree Ident)). FormsStay p.number xs (worked_forms known us t)) (sym e) k),
+          )
 
       fault_keeps : (p : Prepared) → done g.results p.number ≡ false → (f : Option WholeFault) (rest : List WorkedUnit) → UnitsStay keep (unless_broken all known p f g ++ rest) → UnitKeeps all known keep p f h × UnitsStay keep rest
       fault_keeps p new (Some f) rest k = (tt, k)
@@ -145,9 +147,10 @@ module _ (all : List Placed) (ps : List Prepared) (known : Known) where
         let next = scoped_worked all ps known o g in
         let r = first_is all ps known (is_ready all ps g.results) ps in
         let a = one_keeps g h b placed alike o r (worked_units all ps known n next) k in
-        let there = subst (λ (z : Option Prepared). SameProgress (kept_worked all ps known keep z h) next) e (worked_alike all ps known keep g h b placed alike o r a.0) in
-        (subst (λ (z : Option Prepared). WorkKeeps all ps known keep z h) e a.0,
-        program_keeps n next (kept_worked all ps known keep q h) (work_gone all ps known 1 g b).between (work_placed all ps known 1 g placed) there a.1)
+        let there = subst (λ (z : Option Prepared). SameProgress (kept_worked all ps known keep z h) next) e (worked_alike all ps known keep g h b placed alike o r a.0) in (
+          subst (λ (z : Option Prepared). WorkKeeps all ps known keep z h) e a.0,
+          program_keeps n next (kept_worked all ps known keep q h) (work_gone all ps known 1 g b).between (work_placed all ps known 1 g placed) there a.1,
+        )
 
     pub stays_keeps : (n : ℕ) → UnitsStay keep (worked_units all ps known n scoped_before) → ProgramKeeps all ps known keep n scoped_before
     stays_keeps n k = program_keeps n scoped_before scoped_before between_before tt (itself scoped_before) k

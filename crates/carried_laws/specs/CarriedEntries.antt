@@ -1,4 +1,4 @@
--- What a form that was worked on came to, as an entry; keepings that keep it all of some forms; and included forms whose homes go on.
+-- What a form that was worked on came to, as an entry; and keepings that keep all of some forms.
 use Rattle.std.specs.Prelude.{◌≡◌, ℕ, List, Option, Some, None, Result, Ok, Err}
 use Rattle.scheme_model.specs.Ident.{Ident}
 use Rattle.scheme_model.specs.Steps.{Broken}
