@@ -16,3 +16,5 @@ pub mod WorkedOnce  -- No two units at work have one number, nor two forms of on
 pub mod CarriedKeeping  -- Exactly the carried forms may be kept, and then no more is worked than the work of the event
 pub mod GoingOn  -- What is kept of units are entries, under new numbers, where it stays, and where forms are expanded
 pub mod KeepingRows  -- Small programs of which exactly the carried forms are kept, computed; and a part whose forms have other numbers where they are included than in the part
+pub mod ClosedForms  -- What is imported stands at both turns of each form at work, and under new numbers too
+pub mod NotedEntries  -- Where what is noted of an entry has its answers, all that was asked has

@@ -11,16 +11,18 @@ ghost use Rattle.form_laws.specs.Begins.{Each};
 ghost use Rattle.renumbering_laws.specs.Moving.{move_tree};
 ghost use Rattle.renumbering_laws.specs.Renumbering.{Renumbering, ident, change, left_as};
 ghost use Rattle.renumbering_laws.specs.NewSurroundings.{HasOldNumbers, around_new};
+ghost use Rattle.question_laws.specs.Noted.{IsClosed};
 ghost use Rattle.kept_forms.specs.KeptForms.{KeptForm, FormOrKept, form_of};
 ghost use Rattle.kept_forms.specs.Carried.{kept_aside, kept_parts};
 ghost use Rattle.kept_forms.specs.KeptPrograms.{Keeping, kept_program_of, ProgramKeeps, program_worked, program_not_kept};
 ghost use Rattle.carried_forms.specs.Worked.{WorkedForm, WorkedUnit, OpenDocument, AreOpenOnce, read_documents, units_at_work};
 ghost use Rattle.carried_forms.specs.Carried.{IsIn, asks_alike, carried, work};
 ghost use Rattle.carried_laws.specs.AtWork.{IsAtWork, AreAtWork};
+ghost use Rattle.carried_laws.specs.NotedEntries.{HasNotedAnswers, AreClosed};
 ghost use Rattle.carried_laws.specs.CarriedEntries.{came_to, KeepsAll};
 ghost use Rattle.carried_laws.specs.CarriedKeeping.{carried_keeping};
 ghost use Rattle.carried_laws.specs.CarriedOver.{AllHomesGoOn, CarriedOver};
-ghost use Rattle.carried_laws.specs.Entries.{StandsFor, IsEntry, AreEntries, Stays, FormsStay, UnitsStay, keeping_as, aside_as, kept_parts_as, kept_as};
+ghost use Rattle.carried_laws.specs.Entries.{StandsFor, IsEntry, AreEntries, HasAnswers, Stays, FormsStay, UnitsStay, keeping_as, aside_as, kept_parts_as, kept_as};
 
 /// What is kept of a form in surroundings under new numbers is what was kept of it there, under the new numbers; so an entry stays one
 /// (R7RS 4.3, 5.3).
@@ -50,6 +52,14 @@ pub fn forms_begin_at_work()
 pub fn entries_may_be_kept()
     ensures keeps { (ds : List Document) (keep : Keeping) → UnitsStay keep (units_at_work ds) → let all = units_of ds in let units = prepare all 0 all in ProgramKeeps all units (known_in ds) keep (length units) scoped_before }
     ensures program { (ds : List Document) (keep : Keeping) → UnitsStay keep (units_at_work ds) → kept_program_of keep ds ≡ program_of ds }
+{}
+
+/// What is noted of an entry suffices: where it has its answers, so has all that was asked. What is imported stands at both turns of each form of a
+/// program that is worked on (R7RS 5.2), and where it stood in surroundings it stands in those under new numbers.
+pub fn noted_answers_suffice()
+    ensures answers { (n : ℕ) (k : KeptForm) (w u : Around) (g : WorkedForm) → StandsFor n (g.form, g.tree) k w u → IsAtWork n g → HasNotedAnswers g.tree k w u g → HasAnswers (g.form, g.tree) k w u g }
+    ensures stands { (ds : List Document) → Each AreClosed (units_at_work ds) }
+    ensures new_numbers { (r : Renumbering) (b : HasOldNumbers r) (w : Around) → IsClosed w.state → IsClosed (around_new r b w).state }
 {}
 
 /// What a form that was worked on came to is an entry. Under any numbers that tell the old ones, in which the form is the one after the event and asks
