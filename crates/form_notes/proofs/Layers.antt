@@ -1,5 +1,5 @@
 -- An identifier of the table by what the code has of it, layer by layer.
-use Rattle.std.proofs.Common.{◌≡◌, ℕ, suc, ◌+◌, ◌<◌, List, length, Option, Some, None, slice_get, ap, ◌∙◌, arith}
+use Rattle.std.proofs.Common.{◌≡◌, ℕ, suc, ◌<◌, List, length, Option, Some, None, slice_get, ap, ◌∙◌, arith}
 use Rattle.std.specs.Option.{option_map}
 use Rattle.scheme_model.specs.Ident.{Ident as Identifier, Written, Inserted}
 use Rattle.syntax_tree.specs.Names.{Names}

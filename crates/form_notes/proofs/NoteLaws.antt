@@ -1,5 +1,5 @@
 -- A note more stands for a question more; and what is noted of an identifier by what the form's definitions have to do with it.
-use Rattle.std.proofs.Common.{◌≡◌, ◌⊎◌, ℕ, ◌<◌, List, [], ◌∷◌, ◌++◌, length, Bool, true, false, cond, refl, sym, ap, ◌∙◌, subst, inl, inr, arith}
+use Rattle.std.proofs.Common.{◌≡◌, ◌⊎◌, ℕ, List, [], ◌∷◌, ◌++◌, length, Bool, true, false, cond, refl, sym, ap, ◌∙◌, subst, inl, inr, arith}
 use Rattle.std.specs.Prelude.{◌||◌, Option}
 use Rattle.std.specs.BTreeSet.{BTreeSet}
 use Rattle.std.specs.List.{Contains}
@@ -21,7 +21,7 @@ use Rattle.form_notes.specs.declared.noting.Noting as code_noting
 front_cases : {X : Type 0} (x : X) (xs : List X) (y : X) → Contains (x ∷ xs) y → (x ≡ y) ⊎ Contains xs y
 front_cases x xs y h =
     elim (Contains-append_cases (x ∷ []) xs y h) [
-      | inl here ↦ elim (Contains-push_cases [] x y here) [ | inl none ↦ absurd (let lt = none.1 in omega arith) | inr same ↦ inl same ]
+      | inl here ↦ elim (Contains-push_cases [] x y here) [ inl none ↦ absurd (let lt = none.1 in omega arith) | inr same ↦ inl same ]
       | inr behind ↦ inr behind
     ]
 

@@ -1,12 +1,12 @@
 -- What the notes of the code stand for.
-use Rattle.std.specs.Prelude.{◌≡◌, ℕ, List, [], ◌∷◌, ◌++◌, length, Bool, false, ◌==◌, Option, Some}
+use Rattle.std.specs.Prelude.{◌≡◌, ℕ, ◌<◌, List, [], ◌∷◌, ◌++◌, length, true, false, ◌==◌, Option}
 use Rattle.std.specs.BTreeSet.{BTreeSet, contains, btree_set_len}
 use Rattle.std.specs.List.{Contains}
 use Rattle.std.specs.Ordering.{nat_cmp}
 use Rattle.scheme_model.specs.ExpansionFaults.{Named}
 use Rattle.scheme_model.specs.Ident.{Ident as Identifier}
 use Rattle.scheme_model.specs.Meaning.{Meaning}
-use Rattle.scheme_model.specs.Order.{Note, Transformer}
+use Rattle.scheme_model.specs.Order.{Note}
 use Rattle.scheme_model.specs.Requirements.{LibraryName}
 use Rattle.scheme_model.specs.RulesShape.{Rules}
 use Rattle.scheme_model.specs.ScopedExpansion.{Frames, FramedIdent}
@@ -58,10 +58,12 @@ pub record IsSince (x : code_noting.Noting) (r : Since) : Type 0 where
   pub form : x.form ≡ r.form
   pub uses : x.begun ≡ r.uses
 
--- it has these definitions in its unit, and none in others
+-- it has these definitions in its unit, each with a number, and none in others
 pub record OwnStands (names : Names) (own : BTreeSet ℕ) (r : Since) : Type 0 where
   pub has : (n : ℕ) (i : Identifier) → IsIdent names n i → contains nat_cmp own n ≡ is_defined_in r.own r.unit i
   pub others : (u : ℕ) (i : Identifier) → (u == r.unit) ≡ false → is_defined_in r.own u i ≡ false
+  pub named : (i : Identifier) → is_defined_in r.own r.unit i ≡ true → (n : ℕ) × IsIdent names n i
+  pub within : (n : ℕ) → contains nat_cmp own n ≡ true → n < length names.idents
   pub count : btree_set_len own ≡ length r.own
 
 pub record NotesStand (names : Names) (x : code_noting.Noting) (r : Since) (ms : List Noted) : Type 0 where

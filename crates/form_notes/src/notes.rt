@@ -27,13 +27,25 @@ pub enum Question {
         answer: bool,
     },
     /// Which rules what means this has, by their edition.
-    Rules { meaning: Meaning, edition: u64 },
+    Rules {
+        meaning: Meaning,
+        edition: u64,
+    },
     /// Whether a definition of an identifier is an assignment.
-    Assigned { ident: IdNo, answer: bool },
+    Assigned {
+        ident: IdNo,
+        answer: bool,
+    },
     /// Whether there is a library of this name.
-    Library { name: Text, answer: bool },
+    Library {
+        name: Text,
+        answer: bool,
+    },
     /// How the definition of an identifier ends.
-    Definition { ident: IdNo, answer: Outcome },
+    Definition {
+        ident: IdNo,
+        answer: Outcome,
+    },
 }
 
 /// A question, and how many definitions its form has made in the unit when it is asked.

@@ -1,16 +1,14 @@
 -- An expansion that notes what it asks, and the same without notes, as two sides.
-use Rattle.std.proofs.Common.{◌≡◌, ℕ, List, [], ◌∷◌, ◌++◌, Bool, true, false, cond, Option, Some, None, Result, Ok, Err, refl, sym, ap, ◌∙◌, subst}
+use Rattle.std.proofs.Common.{◌≡◌, ℕ, List, [], ◌∷◌, Bool, true, false, cond, Option, Some, None, Result, Ok, Err, refl, sym, ap, ◌∙◌, subst}
 use Rattle.std.specs.Prelude.{◌&&◌}
 use Rattle.scheme_model.specs.Identifiers.{Number}
 use Rattle.scheme_model.specs.Ident.{Ident}
 use Rattle.scheme_model.specs.ExpansionFaults.{Named, Fault, KeywordRedefined, Duplicate}
-use Rattle.scheme_model.specs.Meaning.{Meaning, same_meaning, head_as}
+use Rattle.scheme_model.specs.Meaning.{same_meaning, head_as}
 use Rattle.scheme_model.specs.Requirements.{Known}
 use Rattle.scheme_model.specs.RulesShape.{Rules}
 use Rattle.scheme_model.specs.Cores.{Bound}
-use Rattle.scheme_model.specs.Order.{Note, LookedUp, Compared, Pending, Renamed, Transformer, Asked, Meant, Headed, RulesOf, Alike, Assigns, Library, Ops, is_some, Item, Pass, run, Left}
-use Rattle.scheme_model.specs.Steps.{Broken}
-use Rattle.scheme_model.specs.Cores.{Part}
+use Rattle.scheme_model.specs.Order.{Note, LookedUp, Compared, Pending, Renamed, Transformer, Asked, Meant, Headed, RulesOf, Alike, Assigns, Library, Ops, is_some, Item, run, Left}
 use Rattle.scheme_model.specs.Expression.{meaning_of, expand, item_part}
 use Rattle.scheme_model.specs.UnitExpansion.{max_depth}
 use Rattle.scheme_model.specs.Substitution.{any, unchanged}
@@ -26,10 +24,10 @@ use Rattle.form_laws.proofs.SideExpressions.{part_equal, items_equal, item_goes,
 use Rattle.unit_scopes.specs.Searched.{speaks_of, searched}
 use Rattle.noted_steps.specs.Noting.{Noting, state_of, with_state, refused, outcome, ended, owned, define_by, define_noting, noting}
 
-abbrev Fits : Noting → Frames → Frames → Type 0
+abbrev pub Fits : Noting → Frames → Frames → Type 0
 Fits s e f = f ≡ e
 
-note_same : (n m : Note FramedIdent) → NoteLike (λ (l k : FramedIdent). k ≡ l) n m → m ≡ n
+pub note_same : (n m : Note FramedIdent) → NoteLike (λ (l k : FramedIdent). k ≡ l) n m → m ≡ n
 note_same (LookedUp l h k) (LookedUp m i j) e = let a = e.0 in let b = e.1 in let c = e.2 in λ z. LookedUp (a z) (b z) (c z)
 note_same (LookedUp l h k) (Compared m n i) e = absurd e
 note_same (Compared l m h) (LookedUp n i j) e = absurd e
@@ -39,7 +37,7 @@ macro_same : (x y : Option (Transformer Frames Ident)) → y ≡ x → Transform
 macro_same None y e = e
 macro_same (Some m) y e = (m.env, refl, e)
 
-macro_some : (x : Option (Transformer Frames Ident)) → IfMacro (λ (c : Transformer Frames Ident). (g : Frames) × (g ≡ c.env)) x
+pub macro_some : (x : Option (Transformer Frames Ident)) → IfMacro (λ (c : Transformer Frames Ident). (g : Frames) × (g ≡ c.env)) x
 macro_some None = tt
 macro_some (Some m) = (m.env, refl)
 
@@ -55,14 +53,14 @@ owned_state : (b : Option Number) (n : Named Ident) (k : Bool) (s : Noting) → 
 owned_state None n k s = refl
 owned_state (Some b) n k s = refl
 
-abbrev Same : Bound → Bound → Type 0
+abbrev pub Same : Bound → Bound → Type 0
 Same x y = y ≡ x
 
-abbrev SameNotes : List (Note FramedIdent) → List (Note FramedIdent) → Type 0
+abbrev pub SameNotes : List (Note FramedIdent) → List (Note FramedIdent) → Type 0
 SameNotes ns ms = ms ≡ ns
 
 module _ (b : Option Number) (n : Named Ident) (r : Option (Rules Ident)) (fs : Frames) (p q : Pending Ident FramedIdent) (l : PendingLike Same SameNotes p q) where
-  some_by : (o : Outcome) (s : Noting) → (y : Result (Renamed Ident FramedIdent) (Fault Ident)) × Results (RenamedLike Same SameNotes) (define_by o b n r fs p s).0 y
+  pub some_by : (o : Outcome) (s : Noting) → (y : Result (Renamed Ident FramedIdent) (Fault Ident)) × Results (RenamedLike Same SameNotes) (define_by o b n r fs p s).0 y
   some_by Redefines s = (Err (KeywordRedefined n), refl)
   some_by StoodBefore s = (Err (Duplicate n), refl)
   some_by Stands s = (Ok (unchanged q), (l, refl))
@@ -74,10 +72,10 @@ module _ (b : Option Number) (n : Named Ident) (r : Option (Rules Ident)) (fs : 
   near_by false false s t h = ((l, refl), ap (definition_added b n r fs) h ∙ sym (owned_state b n (is_some r) (with_state s (definition_added b n r fs (state_of s)))))
 
 module _ (known : Known) where
-  abbrev here : Ops Frames Ident FramedIdent Noting
+  abbrev pub here : Ops Frames Ident FramedIdent Noting
   here = noting known
 
-  abbrev there : Ops Frames Ident FramedIdent ScopedState
+  abbrev pub there : Ops Frames Ident FramedIdent ScopedState
   there = searched known
 
   answered : (s : Noting) (t : ScopedState) → t ≡ state_of s → (q : Asked Frames Ident) → Answer here there Fits s t q
@@ -88,11 +86,11 @@ module _ (known : Known) where
   answered s t h (Assigns e i) = λ f d. (λ j. scoped.assigned (h j) (body_around (d j)) i)
   answered s t h (Library n) = refl
 
-  all_answered : (s : Noting) (t : ScopedState) → t ≡ state_of s → (qs : List (Asked Frames Ident)) → AllOf (Answer here there Fits s t) qs
+  pub all_answered : (s : Noting) (t : ScopedState) → t ≡ state_of s → (qs : List (Asked Frames Ident)) → AllOf (Answer here there Fits s t) qs
   all_answered s t h [] = tt
   all_answered s t h (q ∷ qs) = (answered s t h q, all_answered s t h qs)
 
-  defined_near : (s : Noting) (t : ScopedState) → t ≡ state_of s → (e f : Frames) → f ≡ e → (n : Named Ident) (r : Option (Rules Ident)) (p q : Pending Ident FramedIdent) → PendingLike Same SameNotes p q
+  pub defined_near : (s : Noting) (t : ScopedState) → t ≡ state_of s → (e f : Frames) → f ≡ e → (n : Named Ident) (r : Option (Rules Ident)) (p q : Pending Ident FramedIdent) → PendingLike Same SameNotes p q
       → let d = define_noting (body_around e) n r e p s in let y = there.define n r f q t in Results (RenamedLike Same SameNotes) d.0 y.0 × (y.1 ≡ state_of d.1)
   defined_near s t h e f d n r p q l =
       let b = body_around e in

@@ -1,1 +1,1 @@
-pub mod Noting
+pub mod Noting  -- Expansion that notes what it asks

@@ -1,7 +1,7 @@
 -- Expansion that notes what it asks. Its state is that of the expansion by counted scopes, with what the part of the form at work began
 -- with and has defined since, and with the notes so far, latest first. It differs from unit_scopes' `searched` in nothing else, and comes
 -- to the same: see the law `runs_that_note`.
-use Rattle.std.specs.Prelude.{ℕ, suc, ◌+◌, ◌-◌, List, [], ◌∷◌, ◌++◌, length, take, Bool, ◌&&◌, Option, Some, None, Result, Ok, Err, if◌then◌else◌}
+use Rattle.std.specs.Prelude.{ℕ, suc, ◌+◌, ◌-◌, List, [], ◌∷◌, ◌++◌, length, take, Bool, ◌&&◌, Option, Some, None, Result, Ok, Err}
 use Rattle.scheme_model.specs.Identifiers.{Number}
 use Rattle.scheme_model.specs.Ident.{Ident, Inserted, same_ident, symbol_of}
 use Rattle.scheme_model.specs.ExpansionFaults.{Named, Fault, KeywordRedefined, Duplicate}
@@ -9,7 +9,7 @@ use Rattle.scheme_model.specs.Meaning.{Meaning, Local}
 use Rattle.scheme_model.specs.Requirements.{Known}
 use Rattle.scheme_model.specs.RulesShape.{Rules, option_map}
 use Rattle.scheme_model.specs.Cores.{Target, MacroUse, Bound}
-use Rattle.scheme_model.specs.Order.{Note, Pending, Renamed, Transformer, Asked, Meant, Headed, RulesOf, Alike, Assigns, Library, Ops, is_some}
+use Rattle.scheme_model.specs.Order.{Note, Pending, Renamed, Asked, Meant, Headed, RulesOf, Alike, Assigns, Library, Ops, is_some}
 use Rattle.scheme_model.specs.Substitution.{Table, Entries, Clock, at_form, any, unchanged}
 use Rattle.scheme_model.specs.ScopedExpansion.{Bind, Enter, Frames, FramedIdent, BodyDefinitions, UsePlace, ScopedMacro, ScopedState, macro_at, body_around, definition_added, meaning_next, is_defined}
 use Rattle.scheme_model.specs.ScopedExpansion as scoped
@@ -93,6 +93,10 @@ bound_next s b = scoped.bound_next (state_of s) b
 abbrev pub assigned : Noting → Option Number → Ident → Bool
 assigned s b i = scoped.assigned (state_of s) b i
 
+-- an identifier where it is used
+abbrev pub target_at : Noting → Frames → Named Ident → Target
+target_at s fs n = record { meaning = means_here s fs n.name; ident = n.name; occ = n.occ }
+
 -- ---- what is noted
 
 -- an identifier that means something here
@@ -111,9 +115,10 @@ note_of known s (Alike ds l fs i) = compared s.since l i (means_here s ds l) (me
 note_of known s (Assigns fs i) = in_unit (body_around fs) (assigned_as s.since i (assigned s None i))
 note_of known s (Library l) = required l (known l)
 
-abbrev pub notes_of : Known → Noting → List (Asked Frames Ident) → List Noted
-notes_of known s [] = []
-notes_of known s (q ∷ qs) = note_of known s q ++ notes_of known s qs
+-- the notes, with those of questions in front
+abbrev pub noted_with : Known → Noting → List (Asked Frames Ident) → List Noted → List Noted
+noted_with known s [] ns = ns
+noted_with known s (q ∷ qs) ns = note_of known s q ++ noted_with known s qs ns
 
 -- ---- definitions
 
@@ -157,7 +162,7 @@ noting known = record {
   means = λ fs s i. means_here s fs i;
   transformer = λ s m. macro_at s.macros m;
   known = known;
-  ask = λ qs s. record s { noted = notes_of known s qs ++ s.noted };
+  ask = λ qs s. record s { noted = noted_with known s qs s.noted };
   is_assigned = λ fs s i. assigned s (body_around fs) i;
   counted = λ s. record { locals = s.locals s.form; uses = s.uses s.form; nodes = s.nodes s.form; keywords = s.keywords s.form; met = s.met s.form };
   turn = λ f s. record s { form = f };

@@ -1,10 +1,9 @@
-use Rattle.std.proofs.Common.{◌≡◌, true, false, refl, sym, ap, ◌∙◌, subst, cond}
+use Rattle.std.proofs.Common.{sym, ap, ◌∙◌}
 use Rattle.std.proofs.lemmas.Option.{same_Some}
 use Rattle.std.specs.Prelude.{◌&&◌, ◌||◌}
 use Rattle.scheme_model.specs.Ident.{Written, Inserted}
-use Rattle.syntax_tree.specs.Macros.{IsIdent}
 use Rattle.syntax_tree.specs.Numbered.{number_of}
-use Rattle.question_laws.specs.Noted.{is_to_come, is_defined_in, answers_alone}
+use Rattle.question_laws.specs.Noted.{is_to_come, answers_alone}
 use Rattle.form_notes.specs.Noted.{began}
 use Rattle.form_notes.proofs.Layers.{written_is, inserted_is, fewer_layers}
 use Rattle.form_notes.proofs.noting.Noting.answers_alone.Goals as goal

@@ -1,4 +1,3 @@
-use Rattle.form_notes.specs.Standing.{NotingStands}
 use Rattle.form_notes.proofs.OwnLaws.{defines}
 use Rattle.form_notes.proofs.noting.Noting.define.Goals as goal
 
