@@ -1,7 +1,10 @@
 //! What an expansion meets on its way, and why it ends early.
+ghost use Rattle.std.specs.Prelude.{◌≡◌, []};
+
 use crate::cores::{Binder, Target};
 use ls_base::{Items, Text};
 use scheme_model::Occ;
+use std::alloc::Global;
 use syntax_tree::symbols::IdNo;
 
 /// A macro use: its keyword, and the leaves of the form that met a literal.
