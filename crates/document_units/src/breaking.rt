@@ -22,6 +22,7 @@ use import_sets::firsts::{place_for, place_in};
 use ls_base::limits::MAX_UNITS;
 use ls_base::{Items, Mem, Memory, Text};
 use read_documents::heads::{Head, WholeFault};
+use read_documents::sets::Firsts;
 use std::alloc::Global;
 use std::collections::BTreeMap;
 use unit_sources::firsts::first_places;

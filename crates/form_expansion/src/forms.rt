@@ -24,7 +24,7 @@ ghost use Rattle.unit_scopes.specs.Units.{UnitStands, CountsFor, HasSpace, ItemF
 ghost use Rattle.form_expansion.specs.Forms.{IsBench, IsBegun, IsUntouched, IsDeclared, used_by, Passing, PassesTo, PassesForm, FinishesForm, CanPass, CanFinish, CanFinishAll, FormsHeld, Passes, Finishes, AreFormed, Unfolds, Stays, IsTurned};
 ghost use Rattle.read_documents.specs.WereRead.{WereRead};
 
-use core_tree::traces::{FormFault, Trace};
+use core_tree::traces::{FormFault, Trace, blank_trace};
 use core_tree::units::{ExpandedItem, UnitForm};
 use datum_reader::seed_as;
 use expander::{
