@@ -1,5 +1,5 @@
 -- The program of documents, one unit more.
-use Rattle.std.proofs.Common.{arith, zero, suc, ◌≡◌, ◌<◌, ◌⊎◌, inl, inr, ℕ, List, [], ◌∷◌, ◌++◌, length, slice_get, Option, Some, None, sym, ◌∙◌, subst}
+use Rattle.std.proofs.Common.{arith, refl, zero, suc, ◌≡◌, ◌<◌, ◌⊎◌, inl, inr, ℕ, List, [], ◌∷◌, ◌++◌, length, slice_get, Option, Some, None, sym, ◌∙◌, subst}
 use Rattle.std.specs.Prelude.{IfSome}
 use Rattle.syntax_tree.proofs.Places.{push_cases}
 use Rattle.syntax_tree.specs.declared.trees.Work.{Work}
