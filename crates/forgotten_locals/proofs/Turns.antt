@@ -339,22 +339,27 @@ module _ (f : List ScopedMacro → List ScopedMacro) (g : List UsePlace → List
           → Each (λ (x : FormOrKept). FormFits x.kept) xs → AtTurns P P2 way known xs s → AtTurns Q Q2 (anew turns) known xs t
       turns_in f f2 fit k =
           let here = firsts_only turns way law known fs P (IsKept turns) kept xs [] s k.0 in
-          let like = firsts_like turns way law known fs xs [] [] s t e refl b.0 fit here in
-          (firsts_with turns way law known fs P Q kept f xs [] [] s t e refl b.0 k.0, left_onwards (λ x u. AtSeconds Q2 (anew turns) known fs x u)
-          (λ u u2 x y z. seconds_with turns way law known fs P2 Q2 kept2 f2 x u2 u z.1.1.0 z.1.0 z.1.1.2 (subst (λ (l : List LeftOrKept). AtSeconds P2 way known fs l u2) z.1.1.1 z.0))
-          (onwards_right (λ y u. AtSeconds P2 way known fs y u) k.1 (onwards_left (λ x u. AtSeconds RestCanBegin (anew turns) known fs x u) b.1 like.both)))
+          let like = firsts_like turns way law known fs xs [] [] s t e refl b.0 fit here in (
+            firsts_with turns way law known fs P Q kept f xs [] [] s t e refl b.0 k.0,
+            left_onwards (λ x u. AtSeconds Q2 (anew turns) known fs x u)
+                (λ u u2 x y z. seconds_with turns way law known fs P2 Q2 kept2 f2 x u2 u z.1.1.0 z.1.0 z.1.1.2 (subst (λ (l : List LeftOrKept). AtSeconds P2 way known fs l u2) z.1.1.1 z.0))
+                (onwards_right (λ y u. AtSeconds P2 way known fs y u) k.1 (onwards_left (λ x u. AtSeconds RestCanBegin (anew turns) known fs x u) b.1 like.both)),
+          )
 
       pub turns_out : ((v w : Around) (x : FormOrKept) → bare_around v ≡ bare_around (around_less w) → CanBegin w x → Q w x → P v x) → ((v w : Around) (r : LeftOrKept) → bare_around v ≡ bare_around (around_less w) → RestIsOf r → RestCanBegin w r → Q2 w r → P2 v r)
           → Each (λ (x : FormOrKept). FormFits x.kept) xs → AtTurns Q Q2 (anew turns) known xs t → AtTurns P P2 way known xs s
       turns_out f f2 fit k =
           let first = firsts_back turns way law known fs P Q kept f xs [] [] s t e refl b.0 k.0 in
-          let like = firsts_like turns way law known fs xs [] [] s t e refl b.0 fit (firsts_only turns way law known fs P (IsKept turns) kept xs [] s first) in
-          (first, right_onwards (λ y u. AtSeconds P2 way known fs y u)
-          (λ u u2 x y z. subst (λ (l : List LeftOrKept). AtSeconds P2 way known fs l u2) (sym z.1.1.1) (seconds_back turns way law known fs P2 Q2 kept2 f2 x u2 u z.1.1.0 z.1.0 z.1.1.2 z.0))
-          (onwards_left (λ x u. AtSeconds Q2 (anew turns) known fs x u) k.1 (onwards_left (λ x u. AtSeconds RestCanBegin (anew turns) known fs x u) b.1 like.both)))
+          let like = firsts_like turns way law known fs xs [] [] s t e refl b.0 fit (firsts_only turns way law known fs P (IsKept turns) kept xs [] s first) in (
+            first,
+            right_onwards (λ y u. AtSeconds P2 way known fs y u)
+                (λ u u2 x y z. subst (λ (l : List LeftOrKept). AtSeconds P2 way known fs l u2) (sym z.1.1.1) (seconds_back turns way law known fs P2 Q2 kept2 f2 x u2 u z.1.1.0 z.1.0 z.1.1.2 z.0))
+                (onwards_left (λ x u. AtSeconds Q2 (anew turns) known fs x u) k.1 (onwards_left (λ x u. AtSeconds RestCanBegin (anew turns) known fs x u) b.1 like.both)),
+          )
 
     pub all_kept : AllKept way turns known xs s ↔ AllKept (anew turns) turns known xs t
     all_kept =
-        let P = IsKept turns in let P2 = IsRestKept turns in
-        (λ k. (k.0, turns_in P P P2 P2 (λ v x h. h) (λ v r h. h) (λ v w x same c h. (law.kept v w same x.tree x.kept c.0).0 h) (λ v w r same i c h. (law.rest_kept v w same r.left r.kept i.0 c.0).0 h) k.0 k.1),
-        λ k. (k.0, turns_out P P P2 P2 (λ v x h. h) (λ v r h. h) (λ v w x same c h. (law.kept v w same x.tree x.kept c.0).1 h) (λ v w r same i c h. (law.rest_kept v w same r.left r.kept i.0 c.0).1 h) k.0 k.1))
+        let P = IsKept turns in let P2 = IsRestKept turns in (
+          λ k. (k.0, turns_in P P P2 P2 (λ v x h. h) (λ v r h. h) (λ v w x same c h. (law.kept v w same x.tree x.kept c.0).0 h) (λ v w r same i c h. (law.rest_kept v w same r.left r.kept i.0 c.0).0 h) k.0 k.1),
+          λ k. (k.0, turns_out P P P2 P2 (λ v x h. h) (λ v r h. h) (λ v w x same c h. (law.kept v w same x.tree x.kept c.0).1 h) (λ v w r same i c h. (law.rest_kept v w same r.left r.kept i.0 c.0).1 h) k.0 k.1),
+        )

@@ -1,17 +1,23 @@
 //! Laws of the definitions. Each is the contract of a function that does nothing.
-ghost use Rattle.std.specs.Prelude.{◌≡◌, ℕ, true, false, List, map, None};
-ghost use Rattle.scheme_model.specs.Ident.{Written};
+ghost use Rattle.std.specs.Prelude.{◌≡◌, ◌↔◌, ℕ, true, false, List, map, Option, Some, None, Ok};
+ghost use Rattle.scheme_model.specs.Ident.{Ident as Identifier, Written};
+ghost use Rattle.scheme_model.specs.Trees.{Tree};
 ghost use Rattle.scheme_model.specs.Meaning.{Standard};
-ghost use Rattle.scheme_model.specs.Order.{is_some};
+ghost use Rattle.scheme_model.specs.Order.{Left, is_some};
 ghost use Rattle.scheme_model.specs.Requirements.{Known};
 ghost use Rattle.scheme_model.specs.ScopedExpansion.{ScopedState};
 ghost use Rattle.scheme_model.specs.Questions.{Around, Moment, Question, SameAnswer};
 ghost use Rattle.scheme_model.specs.IncludedUnits.{Placed};
 ghost use Rattle.scheme_model.specs.Program.{Prepared, is_ready, fault_before, result_at, enough_turns, forms_at_work, prelude_unit};
-ghost use Rattle.scheme_model.specs.ScopedProgram.{scoped_work, scoped_before, forms_over, scoped_start_after};
-ghost use Rattle.kept_forms.specs.KeptForms.{FormOrKept, form_of};
-ghost use Rattle.forgotten_locals.specs.Ways.{anew, AllKept};
-ghost use Rattle.mentioned_units.specs.Mentioned.{Mask, Mentions, AllMentioned};
+ghost use Rattle.scheme_model.specs.ScopedProgram.{ScopedProgress, scoped_work, scoped_before, forms_over, scoped_start_after};
+ghost use Rattle.scheme_model.specs.FormsAlike.{start, set_aside_asking, questions_of_pass, questions_of_left};
+ghost use Rattle.form_laws.specs.Begins.{Each, FormBegins, LeftBegins};
+ghost use Rattle.question_laws.specs.Noted.{all_noted, IsClosed};
+ghost use Rattle.kept_forms.specs.KeptForms.{KeptParts, FormOrKept, form_of};
+ghost use Rattle.kept_forms.specs.Carried.{kept_aside, kept_parts, kept_form, no_counts};
+ghost use Rattle.forgotten_locals.specs.Ways.{anew, forgetting, AllKept};
+ghost use Rattle.forgotten_locals.specs.Programs.{IsProgressOutside};
+ghost use Rattle.mentioned_units.specs.Mentioned.{Mask, NoteIn, Mentions, IsMentioned, IsRestMentioned, AllMentioned};
 ghost use Rattle.mentioned_units.specs.Unchanged.{macro_of, in_progress, IsUnchanged, Unchanged, HasNothing, KnowsSame, SameSoFar};
 
 /// A question that mentions some units alone has the same answer in two surroundings in which each of these is the same (R7RS 4.3, 5.2, 5.3): it
@@ -24,13 +30,22 @@ pub fn answers_are_told_by_units()
 
 /// A unit of a program of which each form is kept, and mentions some units alone, keeps all its forms in another program in which it has the same
 /// forms, and each of these units is the same where it begins (R7RS 5.1). So it does again, by the same units: no form of it has to be looked at.
+/// It is all one whether what is local is forgotten; and what a form comes to where it is expanded mentions what its noted questions do.
 pub fn units_keep_their_forms()
     ensures mentioned { (mask : Mask) (all there : List Placed) (units others : List Prepared) (known knows : Known) (n m : ℕ) (p q : Prepared) (xs : List FormOrKept) →
         let g = scoped_work all units known n scoped_before in let h = scoped_work there others knows m scoped_before in let s = scoped_start_after all p g in let t = scoped_start_after there q h in
         is_ready all units g.results p ≡ true → is_ready there others h.results q ≡ true →
         map form_of xs ≡ forms_over (Written p.number) p.number 0 (forms_at_work p) → map form_of xs ≡ forms_over (Written q.number) q.number 0 (forms_at_work q) →
-        Unchanged mask s t → KnowsSame mask known knows → AllMentioned mask enough_turns known xs s → AllMentioned mask enough_turns knows xs t }
-    ensures kept { (mask : Mask) (turns : ℕ) (known : Known) (xs : List FormOrKept) (s : ScopedState) → AllMentioned mask turns known xs s → AllKept (anew turns) turns known xs s }
+        Unchanged mask s t → KnowsSame mask known knows → AllMentioned mask (anew enough_turns) enough_turns known xs s → AllMentioned mask (anew enough_turns) enough_turns knows xs t }
+    ensures kept { (mask : Mask) (turns : ℕ) (known : Known) (xs : List FormOrKept) (s : ScopedState) → AllMentioned mask (anew turns) turns known xs s → AllKept (anew turns) turns known xs s }
+    ensures forgetting { (mask : Mask) (all : List Placed) (units : List Prepared) (known : Known) (n : ℕ) (h : ScopedProgress) (p : Prepared) (xs : List FormOrKept) →
+        let g = scoped_work all units known n scoped_before in
+        IsProgressOutside g h → is_ready all units g.results p ≡ true → map form_of xs ≡ forms_over (Written p.number) p.number 0 (forms_at_work p) →
+        AllMentioned mask (forgetting enough_turns) enough_turns known xs (scoped_start_after all p h) ↔ AllMentioned mask (anew enough_turns) enough_turns known xs (scoped_start_after all p g) }
+    ensures expanded { (mask : Mask) (v : Around) (turns : ℕ) (t : Tree Identifier) (parts : Option KeptParts) → start v.state ≡ no_counts → FormBegins v t → IsClosed v.state →
+        Each (Mentions mask v) (all_noted v (questions_of_pass v turns t)) → Each (NoteIn mask) (set_aside_asking v turns t).0.notes → IsMentioned mask turns v t (Some (kept_form (kept_aside v turns t) parts)) }
+    ensures rest_expanded { (mask : Mask) (v : Around) (turns before : ℕ) (l : Left Identifier) → LeftBegins v l → IsClosed v.state →
+        Each (Mentions mask v) (all_noted v (questions_of_left v turns (Ok l))) → IsRestMentioned mask turns v (Ok l) (Some (kept_parts v turns before l)) }
 {}
 
 /// What a unit is to others stays as it is once it was worked on (R7RS 5.2, 5.3), and so do the prelude and the macros of standard names; a unit that
