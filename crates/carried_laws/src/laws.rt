@@ -18,7 +18,7 @@ ghost use Rattle.kept_forms.specs.KeptPrograms.{Keeping, kept_program_of, Progra
 ghost use Rattle.carried_forms.specs.Worked.{WorkedForm, WorkedUnit, OpenDocument, AreOpenOnce, read_documents, units_at_work};
 ghost use Rattle.carried_forms.specs.Carried.{IsIn, asks_alike, carried, work};
 ghost use Rattle.carried_laws.specs.AtWork.{IsAtWork, AreAtWork};
-ghost use Rattle.carried_laws.specs.NotedEntries.{HasNotedAnswers, AreClosed};
+ghost use Rattle.carried_laws.specs.NotedEntries.{IsClosedForm, AreClosed, HasNotedAnswers, UnitsNoted};
 ghost use Rattle.carried_laws.specs.CarriedEntries.{came_to, KeepsAll};
 ghost use Rattle.carried_laws.specs.CarriedKeeping.{carried_keeping};
 ghost use Rattle.carried_laws.specs.CarriedOver.{AllHomesGoOn, CarriedOver};
@@ -57,9 +57,16 @@ pub fn entries_may_be_kept()
 /// What is noted of an entry suffices: where it has its answers, so has all that was asked. What is imported stands at both turns of each form of a
 /// program that is worked on (R7RS 5.2), and where it stood in surroundings it stands in those under new numbers.
 pub fn noted_answers_suffice()
-    ensures answers { (n : ℕ) (k : KeptForm) (w u : Around) (g : WorkedForm) → StandsFor n (g.form, g.tree) k w u → IsAtWork n g → HasNotedAnswers g.tree k w u g → HasAnswers (g.form, g.tree) k w u g }
+    ensures answers { (n : ℕ) (k : KeptForm) (w u : Around) (g : WorkedForm) → StandsFor n (g.form, g.tree) k w u → IsAtWork n g → IsClosedForm g → HasNotedAnswers g.tree k w u g → HasAnswers (g.form, g.tree) k w u g }
     ensures stands { (ds : List Document) → Each AreClosed (units_at_work ds) }
     ensures new_numbers { (r : Renumbering) (b : HasOldNumbers r) (w : Around) → IsClosed w.state → IsClosed (around_new r b w).state }
+{}
+
+/// So entries of which all that is noted has its answers where the turns of their forms come may be kept, and with them the program is the program
+/// (R7RS 5).
+pub fn noted_entries_may_be_kept()
+    ensures stays { (ds : List Document) (keep : Keeping) → UnitsNoted keep (units_at_work ds) → UnitsStay keep (units_at_work ds) }
+    ensures program { (ds : List Document) (keep : Keeping) → UnitsNoted keep (units_at_work ds) → kept_program_of keep ds ≡ program_of ds }
 {}
 
 /// What a form that was worked on came to is an entry. Under any numbers that tell the old ones, in which the form is the one after the event and asks
