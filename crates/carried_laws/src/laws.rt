@@ -22,7 +22,7 @@ ghost use Rattle.carried_laws.specs.NotedEntries.{IsClosedForm, AreClosed, HasNo
 ghost use Rattle.carried_laws.specs.CarriedEntries.{came_to, KeepsAll};
 ghost use Rattle.carried_laws.specs.CarriedKeeping.{carried_keeping};
 ghost use Rattle.carried_laws.specs.CarriedOver.{AllHomesGoOn, CarriedOver};
-ghost use Rattle.carried_laws.specs.Entries.{StandsFor, IsEntry, AreEntries, HasAnswers, Stays, FormsStay, UnitsStay, keeping_as, aside_as, kept_parts_as, kept_as};
+ghost use Rattle.carried_laws.specs.Entries.{StandsFor, IsEntry, AreEntries, HasAnswers, Stays, FormsStay, UnitsStay, keeping_as, kept_from, aside_as, kept_parts_as, kept_as};
 
 /// What is kept of a form in surroundings under new numbers is what was kept of it there, under the new numbers; so an entry stays one
 /// (R7RS 4.3, 5.3).
@@ -34,10 +34,12 @@ pub fn entries_take_new_numbers()
 {}
 
 /// What is kept of the units of a program are entries, from one program to the next: those of the program before are under the new numbers of those
-/// units that tell their old ones, and what stays in the program after is; and so is what a form came to there.
+/// units that tell their old ones, and what stays in the program after is, with the numbers that its definitions have there; and so is what a form
+/// came to there.
 pub fn entries_go_on()
     ensures renumbered { (r : Renumbering) (b : HasOldNumbers r) (keep : Keeping) → ((u v : ℕ) → b.unit_back v ≡ Some u → r.unit u ≡ v) → AreEntries keep → AreEntries (keeping_as r b keep) }
     ensures kept { (n : ℕ) (xs : List FormOrKept) (gs : List WorkedForm) → FormsStay n xs gs → Each (λ (x : FormOrKept). IsEntry n (form_of x) x.kept) xs }
+    ensures numbered { (n : ℕ) (x : ℕ × Tree Identifier) (k : KeptForm) (w u : Around) (to : ℕ) → StandsFor n x k w u → StandsFor n x (kept_from to k) w u }
     ensures expanded { (w : WorkedUnit) → AreAtWork w → Each (λ (g : WorkedForm). IsEntry w.number (g.form, g.tree) (Some (came_to g))) w.forms }
 {}
 
