@@ -29,3 +29,16 @@ pub struct FormFault {
     pub here: Option<Occ>,
     pub text: Option<Text>,
 }
+
+/// A trace of nothing.
+pub fn blank_trace(alloc: Global) -> Trace
+    ensures definitions { result.definitions ≡ [] }
+    ensures keywords { result.keywords ≡ [] }
+    ensures uses { result.uses ≡ [] }
+{
+    Trace {
+        definitions: Items::new(alloc),
+        keywords: Items::new(alloc),
+        uses: Items::new(alloc),
+    }
+}

@@ -75,7 +75,7 @@ distinct_forms (x ∷ xs) h = (not_among x.form xs h.0, distinct_forms xs h.1)
 
 -- ---- what is told of the same work
 
-not_kept_same : (xs : List FormOrKept) (s t : ScopedState) → t.uses ≡ s.uses → uses_not_kept xs t ≡ uses_not_kept xs s
+pub not_kept_same : (xs : List FormOrKept) (s t : ScopedState) → t.uses ≡ s.uses → uses_not_kept xs t ≡ uses_not_kept xs s
 not_kept_same [] s t e = refl
 not_kept_same (x ∷ xs) s t e = let b = not_kept_same xs s t e in λ j. not_kept x.kept (e j x.form) + b j
 

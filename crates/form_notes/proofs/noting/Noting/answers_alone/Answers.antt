@@ -1,0 +1,54 @@
+use Rattle.std.proofs.Common.{sym, ap, ◌∙◌}
+use Rattle.std.proofs.lemmas.Option.{same_Some}
+use Rattle.std.specs.Prelude.{◌&&◌, ◌||◌}
+use Rattle.scheme_model.specs.Ident.{Written, Inserted}
+use Rattle.syntax_tree.specs.Numbered.{number_of}
+use Rattle.question_laws.specs.Noted.{is_to_come, answers_alone}
+use Rattle.form_notes.specs.Noted.{began}
+use Rattle.form_notes.proofs.Layers.{written_is, inserted_is, fewer_layers}
+use Rattle.form_notes.proofs.noting.Noting.answers_alone.Goals as goal
+
+pub returns-in-Written : goal.returns-in-Written
+returns-in-Written c = λ r i s o is.
+    let names = c.args.symbols.now in
+    let p = written_is names c.inside.at c.in-Written.unit c.in-Written.symbol c.in-Written.ensures.ident c.in-Written.ensures.placed in
+    let j = Written c.in-Written.unit p.0 in
+    c.is_own.ensures names r j s o p.1 ∙ sym (c.inside.invariant.same r i j s o is p.1)
+
+pub returns-then-is_own : goal.returns-then-is_own
+returns-then-is_own c = λ r i s o is.
+    let names = c.args.symbols.now in
+    let p = inserted_is names c.inside.at c.in-Inserted.id c.in-Inserted.number c.in-Inserted.ensures.ident c.in-Inserted.ensures.placed in
+    let k = number_of c.in-Inserted.number in
+    let j = Inserted p.0 k in
+    ap (λ b. b || (is_to_come (began r) k && answers_alone (began r) r.own p.0)) (sym c.if-is_own.true ∙ c.is_own-in-Inserted.ensures names r j s o p.2)
+    ∙ sym (c.inside.invariant.same r i j s o is p.2)
+
+pub returns-then-not-is_to_come : goal.returns-then-not-is_to_come
+returns-then-not-is_to_come c = λ r i s o is.
+    let names = c.args.symbols.now in
+    let p = inserted_is names c.inside.at c.in-Inserted.id c.in-Inserted.number c.in-Inserted.ensures.ident c.in-Inserted.ensures.placed in
+    let k = number_of c.in-Inserted.number in
+    let j = Inserted p.0 k in
+    let d = sym c.if-is_own.false ∙ c.is_own-in-Inserted.ensures names r j s o p.2 in
+    let t = sym c.if-not-is_to_come.true ∙ c.is_to_come.ensures r s in
+    (λ x. d x || (t x && answers_alone (began r) r.own p.0)) ∙ sym (c.inside.invariant.same r i j s o is p.2)
+
+pub inside-smaller : goal.inside-smaller
+inside-smaller c = fewer_layers c.args.symbols.now c.inside.at c.in-Inserted.id c.in-Inserted.number c.in-Inserted.ensures.ident c.in-Inserted.ensures.placed
+
+pub inside-preserved : goal.inside-preserved
+inside-preserved c =
+    let names = c.args.symbols.now in
+    let p = inserted_is names c.inside.at c.in-Inserted.id c.in-Inserted.number c.in-Inserted.ensures.ident c.in-Inserted.ensures.placed in
+    let k = number_of c.in-Inserted.number in
+    record {
+      within = c.in-Inserted.ensures.placed;
+      same = λ r i j s o a b.
+          let l = Inserted p.0 k in
+          let d = sym (c.is_own-in-Inserted.ensures names r l s o p.2) ∙ c.if-is_own.false in
+          let t = sym (c.is_to_come.ensures r s) ∙ c.if-not-is_to_come.false in
+          c.inside.invariant.same r i l s o a p.2
+          ∙ ((λ x. d x || (t x && answers_alone (began r) r.own p.0))
+          ∙ ap (answers_alone (began r) r.own) (same_Some p.0 j (sym p.1 ∙ b)));
+    }

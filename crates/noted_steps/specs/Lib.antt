@@ -1,0 +1,1 @@
+pub mod Noting  -- Expansion that notes what it asks
