@@ -21,7 +21,7 @@ ghost use Rattle.carried_laws.specs.AtWork.{IsAtWork, AreAtWork};
 ghost use Rattle.carried_laws.specs.NotedEntries.{IsClosedForm, AreClosed, HasNotedAnswers, UnitsNoted};
 ghost use Rattle.carried_laws.specs.CarriedEntries.{came_to, KeepsAll};
 ghost use Rattle.carried_laws.specs.CarriedKeeping.{carried_keeping};
-ghost use Rattle.carried_laws.specs.CarriedOver.{AllHomesGoOn, CarriedOver};
+ghost use Rattle.carried_laws.specs.CarriedOver.{AllHomesGoOn, AreOwn, CarriedOver};
 ghost use Rattle.carried_laws.specs.Entries.{StandsFor, IsEntry, AreEntries, HasAnswers, Stays, FormsStay, UnitsStay, keeping_as, kept_from, aside_as, kept_parts_as, kept_as};
 
 /// What is kept of a form in surroundings under new numbers is what was kept of it there, under the new numbers; so an entry stays one
@@ -89,9 +89,10 @@ pub fn work_bounds_what_is_worked()
 
 /// Each form that is carried from a program to the next may be kept there, of what it came to before under the new numbers (R7RS 4.3, 5.3), where
 /// the homes of included forms go on: where a part's forms get other numbers in the part than where it is included, what was kept would
-/// have its places at those.
+/// have its places at those. They do where no form is included.
 pub fn carried_forms_may_be_kept()
-    ensures { (before after : List OpenDocument) (c : ℕ × ℕ) → AreOpenOnce before → AreOpenOnce after → AllHomesGoOn before after → IsIn c (carried before after) → CarriedOver before after c }
+    ensures over { (before after : List OpenDocument) (c : ℕ × ℕ) → AreOpenOnce before → AreOpenOnce after → AllHomesGoOn before after → IsIn c (carried before after) → CarriedOver before after c }
+    ensures own { (before after : List OpenDocument) → AreOwn before → AreOwn after → AllHomesGoOn before after }
 {}
 
 /// So exactly the carried forms may be kept: with what they came to before put into its place, under the new numbers, the program is the
