@@ -9,6 +9,8 @@ ghost use Rattle.moved_numbers.specs.Standing.{StandsOn, ClauseStands, clause_as
 use crate::leaves;
 use core_tree::cores::{Clause, Core, CorePart, MacroDef};
 use moves::Moves;
+use std::mem;
+use syntax_tree::trees::Tree;
 
 /// The definition of a macro.
 pub fn macro_def(moves: &Moves, it: &mut MacroDef)
@@ -27,32 +29,70 @@ fn macro_defs(moves: &Moves, all: &mut Vec<MacroDef>)
     }
 }
 
-/// The core of an expression.
+/// The core of an expression, where it stands.
 #[cycle(cores)]
 pub fn core(moves: &Moves, it: &mut Core)
     ensures { StandsOn (numbers_of moves.now) CoreStands (core_as (numbers_of moves.now)) it.old it.new }
 {
+    let old = mem::replace(it, Core::Const(Tree { number: 0 }));
+    *it = moved(moves, old);
+}
+
+/// The core of an expression.
+#[cycle(cores)]
+fn moved(moves: &Moves, it: Core) -> Core
+    ensures { StandsOn (numbers_of moves.now) CoreStands (core_as (numbers_of moves.now)) it result }
+{
     match it {
-        Core::Ref(target) => *target = leaves::target(moves, *target),
-        Core::Const(_) => {}
-        Core::Quote(_) => {}
+        Core::Ref(target) => Core::Ref(leaves::target(moves, target)),
+        Core::Const(tree) => Core::Const(tree),
+        Core::Quote(tree) => Core::Quote(tree),
         Core::Quasi {
-            datum: _,
-            places: _,
-            parts,
-        } => cores(moves, parts),
-        Core::Lambda(only) => clause(moves, only),
-        Core::CaseLambda(all) => clauses(moves, all),
-        Core::If(all) => cores(moves, all),
-        Core::Set { target, value } => {
-            *target = leaves::target(moves, *target);
-            core(moves, value);
+            datum,
+            places,
+            mut parts,
+        } => {
+            cores(moves, &mut parts);
+            Core::Quasi {
+                datum,
+                places,
+                parts,
+            }
         }
-        Core::Call(all) => cores(moves, all),
-        Core::Body(all) => parts(moves, all),
-        Core::LetSyntax { macros, body } => {
-            macro_defs(moves, macros);
-            core(moves, body);
+        Core::Lambda(mut only) => {
+            clause(moves, &mut only);
+            Core::Lambda(only)
+        }
+        Core::CaseLambda(mut all) => {
+            clauses(moves, &mut all);
+            Core::CaseLambda(all)
+        }
+        Core::If(mut all) => {
+            cores(moves, &mut all);
+            Core::If(all)
+        }
+        Core::Set { target, mut value } => {
+            core(moves, &mut value);
+            Core::Set {
+                target: leaves::target(moves, target),
+                value,
+            }
+        }
+        Core::Call(mut all) => {
+            cores(moves, &mut all);
+            Core::Call(all)
+        }
+        Core::Body(mut all) => {
+            parts(moves, &mut all);
+            Core::Body(all)
+        }
+        Core::LetSyntax {
+            mut macros,
+            mut body,
+        } => {
+            macro_defs(moves, &mut macros);
+            core(moves, &mut body);
+            Core::LetSyntax { macros, body }
         }
     }
 }

@@ -1,70 +1,54 @@
-use Rattle.std.proofs.Common.{◌+◌, ◌<◌, ◌≤◌, length, refl, ap, subst, ◌∙◌, arith, Vec}
-use Rattle.std.specs.Global.{Box}
-use Rattle.std.specs.declared.alloc.Global.{Global}
+use Rattle.std.proofs.Common.{◌+◌, ◌<◌, ◌≤◌, length, refl, sym, subst, arith}
 use Rattle.core_tree.specs.declared.cores.Core.{Core}
-use Rattle.core_tree.specs.declared.cores.Core.TheVariants as cores
-use Rattle.core_tree.specs.declared.cores.Clause.{Clause}
-use Rattle.core_tree.specs.declared.cores.CorePart.{CorePart}
-use Rattle.core_tree.specs.declared.cores.MacroDef.{MacroDef}
 use Rattle.core_tree.specs.declared.cores.Core.TheViews.{out-roll-Clause}
 use Rattle.moves.specs.Numbers.{numbers_of}
-use Rattle.moved_numbers.specs.Leaves.{target_as}
 use Rattle.moved_numbers.proofs.Fronts.{front_more, front_all, unvisited}
-use Rattle.moved_numbers.proofs.CoreLaws.{CoreOn, ClauseOn, PartOn, CoresOn, ClausesOn, PartsOn, MacrosOn, ref_on, const_on, quote_on, quasi_on, lambda_on, case_lambda_on, if_on, set_on, call_on, body_on, let_syntax_on, clause_on, expression_on, define_on, values_on, fields_on, syntax_on, cores_on, clauses_on, parts_on}
+use Rattle.moved_numbers.proofs.CoreLaws.{CoreOn, ClauseOn, PartOn, ref_on, const_on, quote_on, quasi_on, lambda_on, case_lambda_on, if_on, set_on, call_on, body_on, let_syntax_on, clause_on, expression_on, define_on, values_on, fields_on, syntax_on, cores_on, clauses_on, parts_on}
 use Rattle.moved_numbers.proofs.cores.+cores.Goals as goal
 
-pub core-returns-in-Ref : goal.core-returns-in-Ref
-core-returns-in-Ref t c =
-    let q = c.in-Ref in
-    rw q.is (ref_on (numbers_of c.args.moves.now) (λ u n. refl) (cores.Ref q.target) q.target c.target.result refl (c.target.ensures ∙ ap (target_as (numbers_of c.args.moves.now)) q.target-is))
+pub core-moved-requires : goal.core-moved-requires
+core-moved-requires t c = let d = c.decreases in rw c.replace-old.ensures.value (omega (arith, d), tt)
 
-pub core-returns-in-Quasi : goal.core-returns-in-Quasi
-core-returns-in-Quasi t c =
-    let q = c.in-Quasi in
-    rw q.is (quasi_on (numbers_of c.args.moves.now) (λ u n. refl) (cores.Quasi q.datum q.places q.parts) q.datum q.places q.parts c.cores.new.all refl (subst (λ (xs : Vec Core Global). CoresOn (numbers_of c.args.moves.now) xs c.cores.new.all) q.parts-is c.cores.ensures))
+pub core-returns : goal.core-returns
+core-returns t c = subst (λ (x : Core). CoreOn (numbers_of c.args.moves.now) x c.moved.result) c.replace-old.ensures.value c.moved.ensures
 
-pub core-returns-in-Lambda : goal.core-returns-in-Lambda
-core-returns-in-Lambda t c =
-    let q = c.in-Lambda in
-    rw q.is (lambda_on (numbers_of c.args.moves.now) (λ u n. refl) (cores.Lambda q.only) q.only c.clause.new.it refl (subst (λ (x : Clause). ClauseOn (numbers_of c.args.moves.now) x c.clause.new.it) q.only-is c.clause.ensures))
+pub moved-returns-in-Ref : goal.moved-returns-in-Ref
+moved-returns-in-Ref t c = ref_on (numbers_of c.args.moves.now) (λ u n. refl) c.args.it c.in-Ref.target c.target.result c.in-Ref.is c.target.ensures
 
-pub core-returns-in-CaseLambda : goal.core-returns-in-CaseLambda
-core-returns-in-CaseLambda t c =
-    let q = c.in-CaseLambda in
-    rw q.is (case_lambda_on (numbers_of c.args.moves.now) (λ u n. refl) (cores.CaseLambda q.all) q.all c.clauses.new.all refl (subst (λ (xs : Vec Clause Global). ClausesOn (numbers_of c.args.moves.now) xs c.clauses.new.all) q.all-is c.clauses.ensures))
+pub moved-returns-in-Const : goal.moved-returns-in-Const
+moved-returns-in-Const t c = rw (sym c.in-Const.is) (const_on (numbers_of c.args.moves.now) (λ u n. refl) c.args.it c.in-Const.tree c.in-Const.is)
 
-pub core-returns-in-If : goal.core-returns-in-If
-core-returns-in-If t c =
-    let q = c.in-If in
-    rw q.is (if_on (numbers_of c.args.moves.now) (λ u n. refl) (cores.If q.all) q.all c.cores-in-If.new.all refl (subst (λ (xs : Vec Core Global). CoresOn (numbers_of c.args.moves.now) xs c.cores-in-If.new.all) q.all-is c.cores-in-If.ensures))
+pub moved-returns-in-Quote : goal.moved-returns-in-Quote
+moved-returns-in-Quote t c = rw (sym c.in-Quote.is) (quote_on (numbers_of c.args.moves.now) (λ u n. refl) c.args.it c.in-Quote.tree c.in-Quote.is)
 
-pub core-returns-in-Call : goal.core-returns-in-Call
-core-returns-in-Call t c =
-    let q = c.in-Call in
-    rw q.is (call_on (numbers_of c.args.moves.now) (λ u n. refl) (cores.Call q.all) q.all c.cores-in-Call.new.all refl (subst (λ (xs : Vec Core Global). CoresOn (numbers_of c.args.moves.now) xs c.cores-in-Call.new.all) q.all-is c.cores-in-Call.ensures))
+pub moved-returns-in-Quasi : goal.moved-returns-in-Quasi
+moved-returns-in-Quasi t c = let q = c.in-Quasi in quasi_on (numbers_of c.args.moves.now) (λ u n. refl) c.args.it q.datum q.places q.parts c.cores.new.all q.is c.cores.ensures
 
-pub core-returns-in-Body : goal.core-returns-in-Body
-core-returns-in-Body t c =
-    let q = c.in-Body in
-    rw q.is (body_on (numbers_of c.args.moves.now) (λ u n. refl) (cores.Body q.all) q.all c.parts.new.all refl (subst (λ (xs : Vec CorePart Global). PartsOn (numbers_of c.args.moves.now) xs c.parts.new.all) q.all-is c.parts.ensures))
+pub moved-returns-in-Lambda : goal.moved-returns-in-Lambda
+moved-returns-in-Lambda t c = let q = c.in-Lambda in lambda_on (numbers_of c.args.moves.now) (λ u n. refl) c.args.it q.only c.clause.new.it q.is c.clause.ensures
 
-pub core-returns-in-Const : goal.core-returns-in-Const
-core-returns-in-Const t c = const_on (numbers_of c.args.moves.now) (λ u n. refl) c.args.it.now c.in-Const.field-0 c.in-Const.is
+pub moved-returns-in-CaseLambda : goal.moved-returns-in-CaseLambda
+moved-returns-in-CaseLambda t c = let q = c.in-CaseLambda in case_lambda_on (numbers_of c.args.moves.now) (λ u n. refl) c.args.it q.all c.clauses.new.all q.is c.clauses.ensures
 
-pub core-returns-in-Quote : goal.core-returns-in-Quote
-core-returns-in-Quote t c = quote_on (numbers_of c.args.moves.now) (λ u n. refl) c.args.it.now c.in-Quote.field-0 c.in-Quote.is
+pub moved-returns-in-If : goal.moved-returns-in-If
+moved-returns-in-If t c = let q = c.in-If in if_on (numbers_of c.args.moves.now) (λ u n. refl) c.args.it q.all c.cores-in-If.new.all q.is c.cores-in-If.ensures
 
-pub core-returns-in-Set : goal.core-returns-in-Set
-core-returns-in-Set t c =
+pub moved-returns-in-Set : goal.moved-returns-in-Set
+moved-returns-in-Set t c =
     let q = c.in-Set in
-    set_on (numbers_of c.args.moves.now) (λ u n. refl) c.args.it.now q.target c.target-in-Set.result q.value _ q.is (c.target-in-Set.ensures ∙ ap (target_as (numbers_of c.args.moves.now)) q.target-is)
-    (subst (λ (x : Core). CoreOn (numbers_of c.args.moves.now) x c.core.new.it) (c.deref_mut.ensures.value ∙ ap (λ (b : Box Core). b.value) q.value-is) c.core.ensures)
+    set_on (numbers_of c.args.moves.now) (λ u n. refl) c.args.it q.target c.target-in-Set.result q.value _ q.is c.target-in-Set.ensures (subst (λ (x : Core). CoreOn (numbers_of c.args.moves.now) x c.core.new.it) c.deref_mut.ensures.value c.core.ensures)
 
-pub core-returns-in-LetSyntax : goal.core-returns-in-LetSyntax
-core-returns-in-LetSyntax t c =
+pub moved-returns-in-Call : goal.moved-returns-in-Call
+moved-returns-in-Call t c = let q = c.in-Call in call_on (numbers_of c.args.moves.now) (λ u n. refl) c.args.it q.all c.cores-in-Call.new.all q.is c.cores-in-Call.ensures
+
+pub moved-returns-in-Body : goal.moved-returns-in-Body
+moved-returns-in-Body t c = let q = c.in-Body in body_on (numbers_of c.args.moves.now) (λ u n. refl) c.args.it q.all c.parts.new.all q.is c.parts.ensures
+
+pub moved-returns-in-LetSyntax : goal.moved-returns-in-LetSyntax
+moved-returns-in-LetSyntax t c =
     let q = c.in-LetSyntax in
-    let_syntax_on (numbers_of c.args.moves.now) (λ u n. refl) c.args.it.now q.macros c.macro_defs.new.all q.body _ q.is (subst (λ (ds : Vec MacroDef Global). MacrosOn (numbers_of c.args.moves.now) ds c.macro_defs.new.all) q.macros-is c.macro_defs.ensures)
-    (subst (λ (x : Core). CoreOn (numbers_of c.args.moves.now) x c.core-in-LetSyntax.new.it) (c.deref_mut-in-LetSyntax.ensures.value ∙ ap (λ (b : Box Core). b.value) q.body-is) c.core-in-LetSyntax.ensures)
+    let_syntax_on (numbers_of c.args.moves.now) (λ u n. refl) c.args.it q.macros c.macro_defs.new.all q.body _ q.is c.macro_defs.ensures
+    (subst (λ (x : Core). CoreOn (numbers_of c.args.moves.now) x c.core-in-LetSyntax.new.it) c.deref_mut-in-LetSyntax.ensures.value c.core-in-LetSyntax.ensures)
 
 pub part-returns-in-Expression : goal.part-returns-in-Expression
 part-returns-in-Expression t c = expression_on (numbers_of c.args.moves.now) (λ u n. refl) c.args.it.now c.in-Expression.value c.core.new.it c.in-Expression.is c.core.ensures
