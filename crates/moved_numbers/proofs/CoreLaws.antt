@@ -108,10 +108,14 @@ module _ (r : Renumbering) where
         (h.0, move_tree (change r) h.1, e, stands_there r old.trees.nodes now.trees.nodes old.symbols now.symbols moves.trees.nodes moves.names h.1 h.0.number h.3, symbols_there r h.1 ∙ ap (move_tree (places_of r)) h.4)
     core_on c d m old now unit form (model.Quasi q ms) moves h =
         let e = moved (Core-F.Quasi h.0 h.1 h.2) c d (ap out-Core (h.3 ∙ sym (cores.rolls-Quasi h.0 h.1 h.2)) ∙ out-roll-Core (Core-F.Quasi h.0 h.1 h.2)) m in
-        let datum = h.4 in
-        (h.0, h.1, e.0, e.1,
+        let datum = h.4 in (
+          h.0,
+          h.1,
+          e.0,
+          e.1,
           (move_tree (change r) datum.0, stands_there r old.trees.nodes now.trees.nodes old.symbols now.symbols moves.trees.nodes moves.names datum.0 h.0.number datum.1, holes_there r datum.0 q datum.2, datum.3 ∙ sym (hole_places_there r q)),
-          e.2 old now unit form ms moves h.5)
+          e.2 old now unit form ms moves h.5,
+        )
     core_on c d m old now unit form (model.Lambda bs b) moves h =
         let e = moved (Core-F.Lambda h.0) c d (ap out-Core (h.2 ∙ sym (cores.rolls-Lambda h.0)) ∙ out-roll-Core (Core-F.Lambda h.0)) m in
         let s = e.2 old now unit form (bs, b) moves (h.1, h.3, h.4) in
@@ -180,9 +184,11 @@ module _ (r : Renumbering) where
         let same_names : p.0 ≡ bs = λ j. (same j).binders in
         let same_rest : p.1 ≡ dotted = λ j. (same j).dotted in
         let same_body : h.0 ≡ c = λ j. (same j).body in
-        let bound = binders_there r keeps old now moves unit form bs.items m.0.names (subst (λ (v : Vec Binder Global). AllMatch (IsBinder old.symbols unit form) v.items m.0.names) same_names p.3.0) in
-        (d, (cs, dotted, is_y, (subst (λ (l : List Binder). AllMatch (IsBinder now.symbols (r.unit unit) (r.form unit form)) l (map (new.binder r) m.0.names)) (sym names) bound, sym same_rest ∙ p.3.1)),
-          body old now unit form m.1 moves (subst (λ (b : Box Core). CoreStands old unit form b.value m.1) same_body h.2))
+        let bound = binders_there r keeps old now moves unit form bs.items m.0.names (subst (λ (v : Vec Binder Global). AllMatch (IsBinder old.symbols unit form) v.items m.0.names) same_names p.3.0) in (
+          d,
+          (cs, dotted, is_y, (subst (λ (l : List Binder). AllMatch (IsBinder now.symbols (r.unit unit) (r.form unit form)) l (map (new.binder r) m.0.names)) (sym names) bound, sym same_rest ∙ p.3.1)),
+          body old now unit form m.1 moves (subst (λ (b : Box Core). CoreStands old unit form b.value m.1) same_body h.2),
+        )
 
     part_moved : (s : OpenedPart) (p q : CorePart) → out-CorePart p ≡ s → PartMoves (out-CorePart p) q → PartMoves s q
     part_moved s p q e h = subst (λ (x : OpenedPart). PartMoves x q) e h
@@ -201,9 +207,17 @@ module _ (r : Renumbering) where
     part_on p q m old now unit form (model.Fields t) moves h =
         let e = part_moved (CorePart-F.Fields h.0 h.1 h.2 h.3) p q (ap out-CorePart (h.4 ∙ sym (parts.rolls-Fields h.0 h.1 h.2 h.3)) ∙ out-roll-CorePart (CorePart-F.Fields h.0 h.1 h.2 h.3)) m in
         let there = λ (bs : List Binder) (ms : List model.Binder) (l : List Binder) (is : l ≡ map (binder_as r) bs) (k : AllMatch (IsBinder old.symbols unit form) bs ms).
-        subst (λ (x : List Binder). AllMatch (IsBinder now.symbols (r.unit unit) (r.form unit form)) x (map (new.binder r) ms)) (sym is) (binders_there r keeps old now moves unit form bs ms k) in
-        (e.0, e.1, h.2, e.2, e.3, there h.0.items t.binders e.0.items e.4 h.5, there h.1.items t.fields e.1.items e.5 h.6, h.7,
-          subst (λ (l : List FieldUse). AllMatch IsField l (map (new.field_use r) t.used)) (sym e.6) (each_there IsField IsField (field_as r) (new.field_use r) (field_there r) h.3.items t.used h.8))
+        subst (λ (x : List Binder). AllMatch (IsBinder now.symbols (r.unit unit) (r.form unit form)) x (map (new.binder r) ms)) (sym is) (binders_there r keeps old now moves unit form bs ms k) in (
+          e.0,
+          e.1,
+          h.2,
+          e.2,
+          e.3,
+          there h.0.items t.binders e.0.items e.4 h.5,
+          there h.1.items t.fields e.1.items e.5 h.6,
+          h.7,
+          subst (λ (l : List FieldUse). AllMatch IsField l (map (new.field_use r) t.used)) (sym e.6) (each_there IsField IsField (field_as r) (new.field_use r) (field_there r) h.3.items t.used h.8),
+        )
     part_on p q m old now unit form (model.Syntax x) moves h =
         let e = part_moved (CorePart-F.Syntax h.0) p q (ap out-CorePart (h.1 ∙ sym (parts.rolls-Syntax h.0)) ∙ out-roll-CorePart (CorePart-F.Syntax h.0)) m in
         (e.0, e.1, e.2 old now unit form x moves h.2)

@@ -120,7 +120,7 @@ module _ (r : Renumbering) where
   fault_there d e code name text occ here old now b move h = record {
     code = code ∙ h.code ∙ sym (same_code b.fault);
     name = subst (λ (n : Option ℕ). IsNamedBy now n (fault_name (move_fault (change r) b.fault))) (sym name)
-    (subst (λ (o : Option (Named Identifier)). IsNamedBy now d.name o) (sym (same_name b.fault)) (named_there old now move d.name (fault_name b.fault) h.name));
+        (subst (λ (o : Option (Named Identifier)). IsNamedBy now d.name o) (sym (same_name b.fault)) (named_there old now move d.name (fault_name b.fault) h.name));
     place = occ ∙ ap (place r) h.place ∙ sym (place_of (fault_name b.fault)) ∙ ap named_occ (sym (same_name b.fault));
     here = here ∙ ap (place r) h.here;
     text = text ∙ h.text ∙ sym (same_text b.fault);
@@ -195,7 +195,7 @@ module _ (r : Renumbering) where
   use_on keeps d e keyword literals old now unit form m moves h = record {
     keyword = subst (λ (t : Target). IsTarget now.symbols (r.unit unit) (r.form unit form) t (new.target r m.keyword)) (sym keyword) (target_there r keeps old now moves unit form d.keyword m.keyword h.keyword);
     literals = subst (λ (ts : List Target). AllMatch (IsTarget now.symbols (r.unit unit) (r.form unit form)) ts (map (new.target r) m.literals)) (sym literals)
-    (each_there (IsTarget old.symbols unit form) (IsTarget now.symbols (r.unit unit) (r.form unit form)) (target_as r) (new.target r) (target_there r keeps old now moves unit form) d.literals.items m.literals h.literals);
+        (each_there (IsTarget old.symbols unit form) (IsTarget now.symbols (r.unit unit) (r.form unit form)) (target_as r) (new.target r) (target_there r keeps old now moves unit form) d.literals.items m.literals h.literals);
   }
 
   module _ (keeps : KeepsDefinitions r) (d e : UnitForm)
@@ -210,10 +210,10 @@ module _ (r : Renumbering) where
       parts = items old now unit form ps moves h.parts;
       levels = parts_bound false ps h.levels;
       keywords = subst (λ (ts : List Target). AllMatch (IsTarget now.symbols (r.unit unit) (r.form unit form)) ts (reverse (map (new.target r) met.keywords))) (sym keywords)
-      (subst (λ (ms : List model.Target). AllMatch (IsTarget now.symbols (r.unit unit) (r.form unit form)) (map (target_as r) d.trace.keywords) ms) (sym (reverse_map (new.target r) met.keywords))
-      (each_there (IsTarget old.symbols unit form) (IsTarget now.symbols (r.unit unit) (r.form unit form)) (target_as r) (new.target r) (target_there r keeps old now moves unit form) d.trace.keywords (reverse met.keywords) h.keywords));
+          (subst (λ (ms : List model.Target). AllMatch (IsTarget now.symbols (r.unit unit) (r.form unit form)) (map (target_as r) d.trace.keywords) ms) (sym (reverse_map (new.target r) met.keywords))
+          (each_there (IsTarget old.symbols unit form) (IsTarget now.symbols (r.unit unit) (r.form unit form)) (target_as r) (new.target r) (target_there r keeps old now moves unit form) d.trace.keywords (reverse met.keywords) h.keywords));
       uses = subst (λ (ms : List model.MacroUse). AllMatch (IsUse now.symbols (r.unit unit) (r.form unit form)) e.trace.uses ms) (sym (reverse_map (new.macro_use_as r) met.met))
-      (uses old now unit form (reverse met.met) moves h.uses);
+          (uses old now unit form (reverse met.met) moves h.uses);
     }
 
     pub form_on : StandsOn r ResultStands (result_as r) d e

@@ -105,7 +105,7 @@ module _ (r : Renumbering) (keeps : KeepsDefinitions r) (old now : Work) (moves 
       binder = subst (λ (b : Binder). IsBinder now.symbols (r.unit unit) (r.form unit form) b (new.binder r m.binder)) (sym binder) (binder_there d.binder m.binder h.binder);
       rules = subst (λ (n : code_rules.Rules). RulesFor now n (move_rules (change r) m.rules)) (sym rules) (rules_there d.rules m.rules h.rules);
       leaves = subst (λ (ls : List RuleLeaf). AllMatch (IsLeaf now.symbols (r.unit unit) (r.form unit form)) ls (map (new.rule_leaf r) m.leaves)) (sym leaves)
-      (each_there (IsLeaf old.symbols unit form) (IsLeaf now.symbols (r.unit unit) (r.form unit form)) (leaf_as r) (new.rule_leaf r) leaf_there d.leaves.items m.leaves h.leaves);
+          (each_there (IsLeaf old.symbols unit form) (IsLeaf now.symbols (r.unit unit) (r.form unit form)) (leaf_as r) (new.rule_leaf r) leaf_there d.leaves.items m.leaves h.leaves);
     }
 
 pub macro_on : (r : Renumbering) (keeps : KeepsDefinitions r) (d e : MacroDef) → e.binder ≡ binder_as r d.binder → e.rules ≡ d.rules → e.leaves.items ≡ map (leaf_as r) d.leaves.items → StandsOn r IsMacro (new.macro_of r) d e
