@@ -1,5 +1,5 @@
 -- Each carried form may be kept: it asks alike, and its tree is the one before under the new numbers.
-use Rattle.std.proofs.Common.{◌≡◌, ℕ, ◌+◌, List, length, Bool, true, false, Option, Some, None, refl, sym, ap, ◌∙◌, subst, arith}
+use Rattle.std.proofs.Common.{◌≡◌, ℕ, ◌+◌, List, length, Bool, true, false, Option, Some, None, refl, sym, ap, ◌∙◌, subst, arith, zero, suc, [], ◌∷◌}
 use Rattle.std.specs.Prelude.{◌||◌}
 use Rattle.std.specs.Str.{bytes_eq}
 use Rattle.scheme_model.specs.declared.Home.{Home}
@@ -7,10 +7,11 @@ use Rattle.scheme_model.specs.Data.{Datum}
 use Rattle.scheme_model.specs.Trees.{placed_in}
 use Rattle.scheme_model.specs.DataTrees.{tree_of}
 use Rattle.scheme_model.specs.Order.{is_some}
-use Rattle.scheme_model.specs.Declarations.{home_of, home_or}
+use Rattle.scheme_model.specs.Declarations.{UnitForm, home_of, home_or}
 use Rattle.scheme_model.specs.Program.{Prepared, UnitResult, known_in, prepare, units_of}
 use Rattle.scheme_model.specs.ScopedProgram.{scoped_work, scoped_before}
 use Rattle.scheme_model.specs.Diagnostics.{document_of}
+use Rattle.form_laws.specs.Begins.{Each}
 use Rattle.renumbering_laws.specs.Moving.{move_tree}
 use Rattle.renumbering_laws.specs.Renumbering.{Renumbering, change}
 use Rattle.renumbering_laws.specs.NewSurroundings.{HasOldNumbers}
@@ -24,8 +25,8 @@ use Rattle.carried_forms.proofs.ProgramUnits.{programs_told, programs_within}
 use Rattle.carried_laws.specs.AtWork.{IsAtWork}
 use Rattle.carried_laws.specs.Entries.{Stays, kept_as}
 use Rattle.carried_laws.specs.CarriedEntries.{came_to}
-use Rattle.carried_laws.specs.Homes.{At}
-use Rattle.carried_laws.specs.CarriedOver.{numbers_between, pairs_between, AllHomesGoOn, CarriedOver}
+use Rattle.carried_laws.specs.Homes.{At, IsForm}
+use Rattle.carried_laws.specs.CarriedOver.{numbers_between, pairs_between, prepared_of, AllHomesGoOn, AreOwn, CarriedOver}
 use Rattle.carried_laws.proofs.Places.{mapped_at, same_at}
 use Rattle.carried_laws.proofs.PairsSend.{pairs_found, unit_sent, form_sent}
 use Rattle.carried_laws.proofs.FormsSame.{forms_same}
@@ -142,3 +143,19 @@ module _ (before after : List OpenDocument) (once : AreOpenOnce before) (once_af
   carried_over c h =
       let z = carried_only r (units_at_work (read_documents before)) (units_at_work (read_documents after)) (pairs_between before after) c h in
       subst (CarriedOver before after) (sym z.is) (pair_over z.unit z.goes_on z.forms z.with_it z.alike)
+
+-- ---- where no form is included
+
+each_at : {X : Type 0} (P : X → Type 0) (xs : List X) → Each P xs → (n : ℕ) (x : X) → At xs n x → P x
+each_at P [] e n x h = absurd h
+each_at P (y ∷ xs) e zero x h = subst P h e.0
+each_at P (y ∷ xs) e (suc n) x h = each_at P xs e.1 n x h
+
+own_home : (ds : List OpenDocument) → AreOwn ds → (u n : ℕ) (f : UnitForm) → IsForm (prepared_of ds) u n f → f.home ≡ None
+own_home ds own u n f h = each_at (λ (g : UnitForm). g.home ≡ None) h.0.forms (each_at (λ (p : Prepared). Each (λ (g : UnitForm). g.home ≡ None) p.forms) (prepared_of ds) own u h.0 h.1) n f h.2
+
+pub own_go_on : (before after : List OpenDocument) → AreOwn before → AreOwn after → AllHomesGoOn before after
+own_go_on before after own own_after p i n j f g h k e =
+    let a = own_home before own p.before n.0 f h in
+    let b = own_home after own_after p.after n.1 g k in
+    let z : false ≡ true = (λ t. is_some (sym a t) || is_some (sym b t)) ∙ e in absurd cc

@@ -18,3 +18,4 @@ pub mod GoingOn  -- What is kept of units are entries, under new numbers, where 
 pub mod KeepingRows  -- Small programs of which exactly the carried forms are kept, computed; and a part whose forms have other numbers where they are included than in the part
 pub mod ClosedForms  -- What is imported stands at both turns of each form at work, and under new numbers too
 pub mod NotedEntries  -- Where what is noted of an entry has its answers, all that was asked has
+pub mod MovedNumbers  -- An entry stays one with other numbers of the unit's definitions

@@ -1,6 +1,8 @@
 -- A form that is carried from a program to the next, and what may be kept of it.
-use Rattle.std.specs.Prelude.{◌≡◌, ℕ, List, Some}
+use Rattle.std.specs.Prelude.{◌≡◌, ℕ, List, Some, None}
+use Rattle.scheme_model.specs.Declarations.{UnitForm}
 use Rattle.scheme_model.specs.Program.{Prepared, prepare, units_of}
+use Rattle.form_laws.specs.Begins.{Each}
 use Rattle.renumbering_laws.specs.Renumbering.{Renumbering}
 use Rattle.carried_forms.specs.Paired.{UnitPair, unit_pairs, renumbering}
 use Rattle.carried_forms.specs.Worked.{WorkedForm, OpenDocument, read_documents, units_at_work, unit_texts}
@@ -21,6 +23,10 @@ prepared_of ds = let all = units_of (read_documents ds) in prepare all 0 all
 
 abbrev pub AllHomesGoOn : (before after : List OpenDocument) → Type 0
 AllHomesGoOn before after = HomesGoOn (numbers_between before after) (prepared_of before) (prepared_of after) (pairs_between before after)
+
+-- no form of a unit is included
+abbrev pub AreOwn : List OpenDocument → Type 0
+AreOwn ds = Each (λ (p : Prepared). Each (λ (f : UnitForm). f.home ≡ None) p.forms) (prepared_of ds)
 
 -- the form with this number of this unit afterwards: which one it was, and that what that came to before may be kept, under its new numbers
 pub record CarriedOver (before after : List OpenDocument) (c : ℕ × ℕ) : Type 0 where

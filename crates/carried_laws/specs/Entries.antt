@@ -6,13 +6,13 @@ use Rattle.scheme_model.specs.Trees.{Tree}
 use Rattle.scheme_model.specs.RulesShape.{option_map}
 use Rattle.scheme_model.specs.Program.{enough_turns}
 use Rattle.scheme_model.specs.Questions.{Around, SameAnswer}
-use Rattle.scheme_model.specs.FormsAlike.{start, questions_of_pass, questions_of_left}
+use Rattle.scheme_model.specs.FormsAlike.{bound_moved, start, questions_of_pass, questions_of_left}
 use Rattle.form_laws.specs.Begins.{Each, FormBegins, LeftBegins}
 use Rattle.renumbering_laws.specs.Moving.{move_tree}
 use Rattle.renumbering_laws.specs.Renumbering.{Renumbering, ident, change, result_as, part_as, left_as}
 use Rattle.renumbering_laws.specs.Asked.{new_moment, new_pass}
 use Rattle.renumbering_laws.specs.NewSurroundings.{HasOldNumbers, at_old}
-use Rattle.kept_forms.specs.KeptForms.{KeptAside, KeptItem, KeptParts, KeptForm, FormOrKept, form_of}
+use Rattle.kept_forms.specs.KeptForms.{KeptAside, KeptItem, KeptParts, KeptForm, FormOrKept, form_of, kept_moved}
 use Rattle.kept_forms.specs.Carried.{kept_aside, kept_parts, no_counts, FormFits}
 use Rattle.kept_forms.specs.KeptPrograms.{Keeping}
 use Rattle.carried_forms.specs.Worked.{WorkedForm, WorkedUnit}
@@ -68,6 +68,15 @@ FormsStay n (x ∷ xs) (g ∷ gs) = (form_of x ≡ (g.form, g.tree)) × Stays n 
 abbrev pub UnitsStay : Keeping → List WorkedUnit → Type 0
 UnitsStay keep [] = Unit {0}
 UnitsStay keep (w ∷ ws) = FormsStay w.number (keep w.number) w.forms × UnitsStay keep ws
+
+-- ---- with other numbers of definitions
+
+-- as where the unit has so many before the form
+abbrev pub parts_from : ℕ → KeptParts → KeptParts
+parts_from to c = record (kept_moved (bound_moved c.before to) c) { before = to }
+
+abbrev pub kept_from : ℕ → KeptForm → KeptForm
+kept_from to k = record { aside = k.aside; parts = option_map (parts_from to) k.parts }
 
 -- ---- under other numbers
 

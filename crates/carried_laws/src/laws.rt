@@ -18,11 +18,11 @@ ghost use Rattle.kept_forms.specs.KeptPrograms.{Keeping, kept_program_of, Progra
 ghost use Rattle.carried_forms.specs.Worked.{WorkedForm, WorkedUnit, OpenDocument, AreOpenOnce, read_documents, units_at_work};
 ghost use Rattle.carried_forms.specs.Carried.{IsIn, asks_alike, carried, work};
 ghost use Rattle.carried_laws.specs.AtWork.{IsAtWork, AreAtWork};
-ghost use Rattle.carried_laws.specs.NotedEntries.{HasNotedAnswers, AreClosed};
+ghost use Rattle.carried_laws.specs.NotedEntries.{IsClosedForm, AreClosed, HasNotedAnswers, UnitsNoted};
 ghost use Rattle.carried_laws.specs.CarriedEntries.{came_to, KeepsAll};
 ghost use Rattle.carried_laws.specs.CarriedKeeping.{carried_keeping};
-ghost use Rattle.carried_laws.specs.CarriedOver.{AllHomesGoOn, CarriedOver};
-ghost use Rattle.carried_laws.specs.Entries.{StandsFor, IsEntry, AreEntries, HasAnswers, Stays, FormsStay, UnitsStay, keeping_as, aside_as, kept_parts_as, kept_as};
+ghost use Rattle.carried_laws.specs.CarriedOver.{AllHomesGoOn, AreOwn, CarriedOver};
+ghost use Rattle.carried_laws.specs.Entries.{StandsFor, IsEntry, AreEntries, HasAnswers, Stays, FormsStay, UnitsStay, keeping_as, kept_from, aside_as, kept_parts_as, kept_as};
 
 /// What is kept of a form in surroundings under new numbers is what was kept of it there, under the new numbers; so an entry stays one
 /// (R7RS 4.3, 5.3).
@@ -34,10 +34,12 @@ pub fn entries_take_new_numbers()
 {}
 
 /// What is kept of the units of a program are entries, from one program to the next: those of the program before are under the new numbers of those
-/// units that tell their old ones, and what stays in the program after is; and so is what a form came to there.
+/// units that tell their old ones, and what stays in the program after is, with the numbers that its definitions have there; and so is what a form
+/// came to there.
 pub fn entries_go_on()
     ensures renumbered { (r : Renumbering) (b : HasOldNumbers r) (keep : Keeping) → ((u v : ℕ) → b.unit_back v ≡ Some u → r.unit u ≡ v) → AreEntries keep → AreEntries (keeping_as r b keep) }
     ensures kept { (n : ℕ) (xs : List FormOrKept) (gs : List WorkedForm) → FormsStay n xs gs → Each (λ (x : FormOrKept). IsEntry n (form_of x) x.kept) xs }
+    ensures numbered { (n : ℕ) (x : ℕ × Tree Identifier) (k : KeptForm) (w u : Around) (to : ℕ) → StandsFor n x k w u → StandsFor n x (kept_from to k) w u }
     ensures expanded { (w : WorkedUnit) → AreAtWork w → Each (λ (g : WorkedForm). IsEntry w.number (g.form, g.tree) (Some (came_to g))) w.forms }
 {}
 
@@ -57,9 +59,16 @@ pub fn entries_may_be_kept()
 /// What is noted of an entry suffices: where it has its answers, so has all that was asked. What is imported stands at both turns of each form of a
 /// program that is worked on (R7RS 5.2), and where it stood in surroundings it stands in those under new numbers.
 pub fn noted_answers_suffice()
-    ensures answers { (n : ℕ) (k : KeptForm) (w u : Around) (g : WorkedForm) → StandsFor n (g.form, g.tree) k w u → IsAtWork n g → HasNotedAnswers g.tree k w u g → HasAnswers (g.form, g.tree) k w u g }
+    ensures answers { (n : ℕ) (k : KeptForm) (w u : Around) (g : WorkedForm) → StandsFor n (g.form, g.tree) k w u → IsAtWork n g → IsClosedForm g → HasNotedAnswers g.tree k w u g → HasAnswers (g.form, g.tree) k w u g }
     ensures stands { (ds : List Document) → Each AreClosed (units_at_work ds) }
     ensures new_numbers { (r : Renumbering) (b : HasOldNumbers r) (w : Around) → IsClosed w.state → IsClosed (around_new r b w).state }
+{}
+
+/// So entries of which all that is noted has its answers where the turns of their forms come may be kept, and with them the program is the program
+/// (R7RS 5).
+pub fn noted_entries_may_be_kept()
+    ensures stays { (ds : List Document) (keep : Keeping) → UnitsNoted keep (units_at_work ds) → UnitsStay keep (units_at_work ds) }
+    ensures program { (ds : List Document) (keep : Keeping) → UnitsNoted keep (units_at_work ds) → kept_program_of keep ds ≡ program_of ds }
 {}
 
 /// What a form that was worked on came to is an entry. Under any numbers that tell the old ones, in which the form is the one after the event and asks
@@ -80,9 +89,10 @@ pub fn work_bounds_what_is_worked()
 
 /// Each form that is carried from a program to the next may be kept there, of what it came to before under the new numbers (R7RS 4.3, 5.3), where
 /// the homes of included forms go on: where a part's forms get other numbers in the part than where it is included, what was kept would
-/// have its places at those.
+/// have its places at those. They do where no form is included.
 pub fn carried_forms_may_be_kept()
-    ensures { (before after : List OpenDocument) (c : ℕ × ℕ) → AreOpenOnce before → AreOpenOnce after → AllHomesGoOn before after → IsIn c (carried before after) → CarriedOver before after c }
+    ensures over { (before after : List OpenDocument) (c : ℕ × ℕ) → AreOpenOnce before → AreOpenOnce after → AllHomesGoOn before after → IsIn c (carried before after) → CarriedOver before after c }
+    ensures own { (before after : List OpenDocument) → AreOwn before → AreOwn after → AllHomesGoOn before after }
 {}
 
 /// So exactly the carried forms may be kept: with what they came to before put into its place, under the new numbers, the program is the

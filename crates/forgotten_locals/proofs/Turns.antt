@@ -24,7 +24,7 @@ use Rattle.kept_forms.proofs.Fronts.{nodes_like}
 use Rattle.kept_forms.proofs.Numbers.{LeftIs, left_is}
 use Rattle.kept_forms.proofs.OneForm.{PassLike, pass_like, BegunAt}
 use Rattle.kept_forms.proofs.UsesCounted.{counts_here}
-use Rattle.forgotten_locals.specs.Ways.{Way, anew, left_of, firsts_by, seconds_by, unit_by, AtFirsts, AtSeconds, IsKept, IsRestKept, AllKept, CanBegin, RestCanBegin, AllBegin}
+use Rattle.forgotten_locals.specs.Ways.{Way, anew, left_of, firsts_by, seconds_by, unit_by, AtFirsts, AtSeconds, AtTurns, IsKept, IsRestKept, AllKept, CanBegin, RestCanBegin, AllBegin}
 
 -- ---- where work goes to
 
@@ -47,6 +47,10 @@ pub right_onwards : {S T X Y : Type 0} {Ended : S → T → Type 0} {Going : S �
     → ((s : S) (t : T) (x : X) (y : Y) → Going s t x y → P y t) → Both Ended Going q m → Onwards P m
 right_onwards P f (both_end s t e d h) = subst (Onwards P) (sym d) tt
 right_onwards P f (both_go x y s t e d h) = subst (Onwards P) (sym d) (f s t x y h)
+
+onwards_map : {S X : Type 0} (P Q : X → S → Type 0) → ((x : X) (s : S) → P x s → Q x s) → (q : Option X × S) → Onwards P q → Onwards Q q
+onwards_map P Q f (None, s) h = tt
+onwards_map P Q f (Some x, s) h = f x s h
 
 -- ---- what is left of a form
 
@@ -159,9 +163,6 @@ module _ (f : List ScopedMacro → List ScopedMacro) (g : List UsePlace → List
       begins1 : RestCanBegin v1 r
       begins1 = (law.rest_begins v1 w1 same1 r.left b.0, starts1)
 
-      kept1 : IsRestKept turns v1 r ↔ IsRestKept turns w1 r
-      kept1 = law.rest_kept v1 w1 same1 r.left r.kept i.0 b.0
-
       goes1 : IsRestKept turns v1 r → Both EndedLess GivesLess (comes_to w1 turns fs r.left None) (way.second fs v1 r.left r.kept)
       goes1 k = law.second v1 w1 same1 fs r.left r.kept i.0 begun1 b.0 k
 
@@ -177,19 +178,24 @@ module _ (f : List ScopedMacro → List ScopedMacro) (g : List UsePlace → List
           begins = (begins1 r s t e b.0 i.0, right_onwards (λ p u. SecondsBegin way rs u) (λ u u2 x y z. (seconds_like rs u2 u z.1.1.0 z.1.0 i.1 z.0).begins) first);
         }
 
-    -- kept in the way, and so where every form is expanded
-    seconds_in : (rs : List LeftOrKept) (s t : ScopedState) → EndedLess t s → SecondsBegin base rs t → Rests rs → SecondsKept way rs s → SecondsKept base rs t
-    seconds_in [] s t e b i k = tt
-    seconds_in (r ∷ rs) s t e b i k =
-        let first = onwards_right (λ p u. SecondsKept way rs u) k.1 (onwards_left (λ p u. SecondsBegin base rs u) b.1 (goes1 r s t e b.0 i.0 k.0)) in
-        ((kept1 r s t e b.0 i.0).0 k.0, left_onwards (λ p u. SecondsKept base rs u) (λ u u2 x y z. seconds_in rs u2 u z.1.1.0 z.1.0 i.1 z.0) first)
+    -- what holds at the turns of the way, and what then holds where every form is expanded; and the other way round
+    module _ (P Q : Around → LeftOrKept → Type 0) where
+      seconds_with : ((v : Around) (r : LeftOrKept) → P v r → IsRestKept turns v r) → ((v w : Around) (r : LeftOrKept) → bare_around v ≡ bare_around (around_less w) → RestIsOf r → RestCanBegin w r → P v r → Q w r) → (rs : List LeftOrKept) (s t : ScopedState) → EndedLess t s
+          → SecondsBegin base rs t → Rests rs → AtSeconds P way known fs rs s → AtSeconds Q base known fs rs t
+      seconds_with kept f [] s t e b i k = tt
+      seconds_with kept f (r ∷ rs) s t e b i k =
+          let v = v1 r s t e b.0 i.0 in
+          let first = onwards_right (λ p u. AtSeconds P way known fs rs u) k.1 (onwards_left (λ p u. SecondsBegin base rs u) b.1 (goes1 r s t e b.0 i.0 (kept v r k.0))) in
+          (f v (w1 r s t e b.0 i.0) r (same1 r s t e b.0 i.0) i.0 b.0 k.0, left_onwards (λ p u. AtSeconds Q base known fs rs u) (λ u u2 x y z. seconds_with kept f rs u2 u z.1.1.0 z.1.0 i.1 z.0) first)
 
-    seconds_out : (rs : List LeftOrKept) (s t : ScopedState) → EndedLess t s → SecondsBegin base rs t → Rests rs → SecondsKept base rs t → SecondsKept way rs s
-    seconds_out [] s t e b i k = tt
-    seconds_out (r ∷ rs) s t e b i k =
-        let here = (kept1 r s t e b.0 i.0).1 k.0 in
-        let first = onwards_left (λ p u. SecondsKept base rs u) k.1 (onwards_left (λ p u. SecondsBegin base rs u) b.1 (goes1 r s t e b.0 i.0 here)) in
-        (here, right_onwards (λ p u. SecondsKept way rs u) (λ u u2 x y z. seconds_out rs u2 u z.1.1.0 z.1.0 i.1 z.0) first)
+      seconds_back : ((v : Around) (r : LeftOrKept) → P v r → IsRestKept turns v r) → ((v w : Around) (r : LeftOrKept) → bare_around v ≡ bare_around (around_less w) → RestIsOf r → RestCanBegin w r → Q w r → P v r) → (rs : List LeftOrKept) (s t : ScopedState) → EndedLess t s
+          → SecondsBegin base rs t → Rests rs → AtSeconds Q base known fs rs t → AtSeconds P way known fs rs s
+      seconds_back kept f [] s t e b i k = tt
+      seconds_back kept f (r ∷ rs) s t e b i k =
+          let v = v1 r s t e b.0 i.0 in
+          let here = f v (w1 r s t e b.0 i.0) r (same1 r s t e b.0 i.0) i.0 b.0 k.0 in
+          let first = onwards_left (λ p u. AtSeconds Q base known fs rs u) k.1 (onwards_left (λ p u. SecondsBegin base rs u) b.1 (goes1 r s t e b.0 i.0 (kept v r here))) in
+          (here, right_onwards (λ p u. AtSeconds P way known fs rs u) (λ u u2 x y z. seconds_back kept f rs u2 u z.1.1.0 z.1.0 i.1 z.0) first)
 
     -- ---- first turns
 
@@ -271,18 +277,30 @@ module _ (f : List ScopedMacro → List ScopedMacro) (g : List UsePlace → List
           begins = (begins2 x ns ms s t e d b.0, right_onwards (λ q u. FirstsBegin way xs q.notes u) (λ u u2 p q z. (firsts_like xs q.notes p.notes u2 u z.1.1.1.0 (sym z.1.1.1.2) z.1.0 f.1 z.0).begins) first);
         }
 
-    firsts_in : (xs : List FormOrKept) (ns ms : List (Note FramedIdent)) (s t : ScopedState) → EndedLess t s → map bare_note ns ≡ map bare_note ms → FirstsBegin base xs ms t → FirstsKept way xs ns s → FirstsKept base xs ms t
-    firsts_in [] ns ms s t e d b k = tt
-    firsts_in (x ∷ xs) ns ms s t e d b k =
-        let first = onwards_right (λ q u. FirstsKept way xs q.notes u) k.1 (onwards_left (λ p u. FirstsBegin base xs p.notes u) b.1 (goes2 x ns ms s t e d b.0 k.0)) in
-        ((kept2 x ns ms s t e d b.0).0 k.0, left_onwards (λ p u. FirstsKept base xs p.notes u) (λ u u2 p q z. firsts_in xs q.notes p.notes u2 u z.1.1.0 (sym z.1.1.2) z.1.0 z.0) first)
+    module _ (P Q : Around → FormOrKept → Type 0) where
+      firsts_with : ((v : Around) (x : FormOrKept) → P v x → IsKept turns v x) → ((v w : Around) (x : FormOrKept) → bare_around v ≡ bare_around (around_less w) → CanBegin w x → P v x → Q w x) → (xs : List FormOrKept) (ns ms : List (Note FramedIdent)) (s t : ScopedState) → EndedLess t s
+          → map bare_note ns ≡ map bare_note ms → FirstsBegin base xs ms t → AtFirsts P way known fs xs ns s → AtFirsts Q base known fs xs ms t
+      firsts_with kept f [] ns ms s t e d b k = tt
+      firsts_with kept f (x ∷ xs) ns ms s t e d b k =
+          let v = v2 x ns ms s t e d b.0 in
+          let first = onwards_right (λ q u. AtFirsts P way known fs xs q.notes u) k.1 (onwards_left (λ p u. FirstsBegin base xs p.notes u) b.1 (goes2 x ns ms s t e d b.0 (kept v x k.0))) in
+          (f v (w2 x ns ms s t e d b.0) x (same2 x ns ms s t e d b.0) b.0 k.0, left_onwards (λ p u. AtFirsts Q base known fs xs p.notes u) (λ u u2 p q z. firsts_with kept f xs q.notes p.notes u2 u z.1.1.0 (sym z.1.1.2) z.1.0 z.0) first)
 
-    firsts_out : (xs : List FormOrKept) (ns ms : List (Note FramedIdent)) (s t : ScopedState) → EndedLess t s → map bare_note ns ≡ map bare_note ms → FirstsBegin base xs ms t → FirstsKept base xs ms t → FirstsKept way xs ns s
-    firsts_out [] ns ms s t e d b k = tt
-    firsts_out (x ∷ xs) ns ms s t e d b k =
-        let here = (kept2 x ns ms s t e d b.0).1 k.0 in
-        let first = onwards_left (λ p u. FirstsKept base xs p.notes u) k.1 (onwards_left (λ p u. FirstsBegin base xs p.notes u) b.1 (goes2 x ns ms s t e d b.0 here)) in
-        (here, right_onwards (λ q u. FirstsKept way xs q.notes u) (λ u u2 p q z. firsts_out xs q.notes p.notes u2 u z.1.1.0 (sym z.1.1.2) z.1.0 z.0) first)
+      firsts_back : ((v : Around) (x : FormOrKept) → P v x → IsKept turns v x) → ((v w : Around) (x : FormOrKept) → bare_around v ≡ bare_around (around_less w) → CanBegin w x → Q w x → P v x) → (xs : List FormOrKept) (ns ms : List (Note FramedIdent)) (s t : ScopedState) → EndedLess t s
+          → map bare_note ns ≡ map bare_note ms → FirstsBegin base xs ms t → AtFirsts Q base known fs xs ms t → AtFirsts P way known fs xs ns s
+      firsts_back kept f [] ns ms s t e d b k = tt
+      firsts_back kept f (x ∷ xs) ns ms s t e d b k =
+          let v = v2 x ns ms s t e d b.0 in
+          let here = f v (w2 x ns ms s t e d b.0) x (same2 x ns ms s t e d b.0) b.0 k.0 in
+          let first = onwards_left (λ p u. AtFirsts Q base known fs xs p.notes u) k.1 (onwards_left (λ p u. FirstsBegin base xs p.notes u) b.1 (goes2 x ns ms s t e d b.0 (kept v x here))) in
+          (here, right_onwards (λ q u. AtFirsts P way known fs xs q.notes u) (λ u u2 p q z. firsts_back kept f xs q.notes p.notes u2 u z.1.1.0 (sym z.1.1.2) z.1.0 z.0) first)
+
+      -- so where it holds the form may be kept
+      firsts_only : ((v : Around) (x : FormOrKept) → P v x → Q v x) → (xs : List FormOrKept) (ns : List (Note FramedIdent)) (s : ScopedState) → AtFirsts P way known fs xs ns s → AtFirsts Q way known fs xs ns s
+      firsts_only f [] ns s k = tt
+      firsts_only f (x ∷ xs) ns s k =
+          let v = around_form known x.form ns s in
+          (f v x k.0, onwards_map (λ q u. AtFirsts P way known fs xs q.notes u) (λ q u. AtFirsts Q way known fs xs q.notes u) (λ q u h. firsts_only f xs q.notes u h) (unless_over (counted known) fs (way.first v x.tree x.kept)) k.1)
 
   -- ---- the unit
 
@@ -315,29 +333,33 @@ module _ (f : List ScopedMacro → List ScopedMacro) (g : List UsePlace → List
           (λ u u2 x y z. subst (λ (l : List LeftOrKept). AtSeconds RestCanBegin way known fs l u2) (sym z.1.1.1) (rests x y u u2 z.0 z.1).begins) (onwards_right (λ y u. AtSeconds (IsRestKept turns) way known fs y u) k.1.1 (firsts_behind k)),
     )
 
-    all_in : AllKept way turns known xs s → AllKept (anew turns) turns known xs t
-    all_in k = (
-      k.0,
-      (
-        firsts_in turns way law known fs xs [] [] s t e refl b.0 k.1.0,
-        left_onwards (λ x u. AtSeconds (IsRestKept turns) (anew turns) known fs x u)
-            (λ u u2 x y z. seconds_in turns way law known fs x u2 u z.1.1.0 z.1.0 z.1.1.2 (subst (λ (l : List LeftOrKept). AtSeconds (IsRestKept turns) way known fs l u2) z.1.1.1 z.0))
-            (onwards_right (λ y u. AtSeconds (IsRestKept turns) way known fs y u) k.1.1 (firsts_behind k)),
-      ),
-    )
+    -- what holds at each turn of the way, and where every form is expanded
+    module _ (P Q : Around → FormOrKept → Type 0) (P2 Q2 : Around → LeftOrKept → Type 0) (kept : (v : Around) (x : FormOrKept) → P v x → IsKept turns v x) (kept2 : (v : Around) (r : LeftOrKept) → P2 v r → IsRestKept turns v r) where
+      pub turns_in : ((v w : Around) (x : FormOrKept) → bare_around v ≡ bare_around (around_less w) → CanBegin w x → P v x → Q w x) → ((v w : Around) (r : LeftOrKept) → bare_around v ≡ bare_around (around_less w) → RestIsOf r → RestCanBegin w r → P2 v r → Q2 w r)
+          → Each (λ (x : FormOrKept). FormFits x.kept) xs → AtTurns P P2 way known xs s → AtTurns Q Q2 (anew turns) known xs t
+      turns_in f f2 fit k =
+          let here = firsts_only turns way law known fs P (IsKept turns) kept xs [] s k.0 in
+          let like = firsts_like turns way law known fs xs [] [] s t e refl b.0 fit here in (
+            firsts_with turns way law known fs P Q kept f xs [] [] s t e refl b.0 k.0,
+            left_onwards (λ x u. AtSeconds Q2 (anew turns) known fs x u)
+                (λ u u2 x y z. seconds_with turns way law known fs P2 Q2 kept2 f2 x u2 u z.1.1.0 z.1.0 z.1.1.2 (subst (λ (l : List LeftOrKept). AtSeconds P2 way known fs l u2) z.1.1.1 z.0))
+                (onwards_right (λ y u. AtSeconds P2 way known fs y u) k.1 (onwards_left (λ x u. AtSeconds RestCanBegin (anew turns) known fs x u) b.1 like.both)),
+          )
 
-    all_out : AllKept (anew turns) turns known xs t → AllKept way turns known xs s
-    all_out k =
-        let first = firsts_out turns way law known fs xs [] [] s t e refl b.0 k.1.0 in
-        let like = firsts_like turns way law known fs xs [] [] s t e refl b.0 k.0 first in (
-          k.0,
-          (
+      pub turns_out : ((v w : Around) (x : FormOrKept) → bare_around v ≡ bare_around (around_less w) → CanBegin w x → Q w x → P v x) → ((v w : Around) (r : LeftOrKept) → bare_around v ≡ bare_around (around_less w) → RestIsOf r → RestCanBegin w r → Q2 w r → P2 v r)
+          → Each (λ (x : FormOrKept). FormFits x.kept) xs → AtTurns Q Q2 (anew turns) known xs t → AtTurns P P2 way known xs s
+      turns_out f f2 fit k =
+          let first = firsts_back turns way law known fs P Q kept f xs [] [] s t e refl b.0 k.0 in
+          let like = firsts_like turns way law known fs xs [] [] s t e refl b.0 fit (firsts_only turns way law known fs P (IsKept turns) kept xs [] s first) in (
             first,
-            right_onwards (λ y u. AtSeconds (IsRestKept turns) way known fs y u)
-                (λ u u2 x y z. subst (λ (l : List LeftOrKept). AtSeconds (IsRestKept turns) way known fs l u2) (sym z.1.1.1) (seconds_out turns way law known fs x u2 u z.1.1.0 z.1.0 z.1.1.2 z.0))
-                (onwards_left (λ x u. AtSeconds (IsRestKept turns) (anew turns) known fs x u) k.1.1 (onwards_left (λ x u. AtSeconds RestCanBegin (anew turns) known fs x u) b.1 like.both)),
-          ),
-        )
+            right_onwards (λ y u. AtSeconds P2 way known fs y u)
+                (λ u u2 x y z. subst (λ (l : List LeftOrKept). AtSeconds P2 way known fs l u2) (sym z.1.1.1) (seconds_back turns way law known fs P2 Q2 kept2 f2 x u2 u z.1.1.0 z.1.0 z.1.1.2 z.0))
+                (onwards_left (λ x u. AtSeconds Q2 (anew turns) known fs x u) k.1 (onwards_left (λ x u. AtSeconds RestCanBegin (anew turns) known fs x u) b.1 like.both)),
+          )
 
     pub all_kept : AllKept way turns known xs s ↔ AllKept (anew turns) turns known xs t
-    all_kept = (all_in, all_out)
+    all_kept =
+        let P = IsKept turns in let P2 = IsRestKept turns in (
+          λ k. (k.0, turns_in P P P2 P2 (λ v x h. h) (λ v r h. h) (λ v w x same c h. (law.kept v w same x.tree x.kept c.0).0 h) (λ v w r same i c h. (law.rest_kept v w same r.left r.kept i.0 c.0).0 h) k.0 k.1),
+          λ k. (k.0, turns_out P P P2 P2 (λ v x h. h) (λ v r h. h) (λ v w x same c h. (law.kept v w same x.tree x.kept c.0).1 h) (λ v w r same i c h. (law.rest_kept v w same r.left r.kept i.0 c.0).1 h) k.0 k.1),
+        )

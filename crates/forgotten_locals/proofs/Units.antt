@@ -48,7 +48,7 @@ module _ (all : List Placed) (ps : List Prepared) (known : Known) (g : ScopedPro
     abbrev s : ScopedState
     s = scoped_start_after all p h
 
-    start_outside : EndedLess macros_outside (λ ps. []) (λ ds. []) t s
+    pub start_outside : EndedLess macros_outside (λ ps. []) (λ ds. []) t s
     start_outside =
         let a = sym o.table in let m = sym o.macros in let q = ap (map bare_place) (sym o.places) in let d = sym o.definitions in let e = sym o.entry in let r = sym o.results in
         λ j. record {

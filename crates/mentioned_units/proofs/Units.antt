@@ -162,11 +162,11 @@ module _ (mask : Mask) (turns : ℕ) (known knows : Known) (same : KnowsSame mas
         mentions = (here x ns ms s t n d e b.0 c.0 f.0 m.0, right_onwards (λ q z. FirstsMention knows xs q.notes z) (λ z z2 p q g. let k = g.1.1.1 in (firsts_alike xs p.notes q.notes z z2 k.now k.notes k.noted g.1.0 g.1.1.0 f.1 g.0).mentions) first);
       }
 
-module _ (mask : Mask) (turns : ℕ) (known knows : Known) (same : KnowsSame mask known knows) (xs : List FormOrKept) (s t : ScopedState) (a : Alike mask s t) (h : IsClosed s) (k : IsClosed t) (b : AllBegin (anew turns) known xs s) (c : AllBegin (anew turns) knows xs t) (m : AllMentioned mask turns known xs s) where
+module _ (mask : Mask) (turns : ℕ) (known knows : Known) (same : KnowsSame mask known knows) (xs : List FormOrKept) (s t : ScopedState) (a : Alike mask s t) (h : IsClosed s) (k : IsClosed t) (b : AllBegin (anew turns) known xs s) (c : AllBegin (anew turns) knows xs t) (m : AllMentioned mask (anew turns) turns known xs s) where
   abbrev fs : List ℕ
   fs = numbers_of xs
 
-  unit_mentions : AllMentioned mask turns knows xs t
+  unit_mentions : AllMentioned mask (anew turns) turns knows xs t
   unit_mentions =
       let x = firsts_alike mask turns known knows same fs xs [] [] s t (record { alike = a; closed = h; there = k }) refl tt b.0 c.0 m.0 m.1.0 in (
         m.0,
@@ -189,7 +189,7 @@ module _ (mask : Mask) (turns : ℕ) (known knows : Known) (same : KnowsSame mas
 pub units_mention : (mask : Mask) (all there : List Placed) (units others : List Prepared) (known knows : Known) (n m : ℕ) (p q : Prepared) (xs : List FormOrKept) →
     let g = scoped_work all units known n scoped_before in let h = scoped_work there others knows m scoped_before in let s = scoped_start_after all p g in let t = scoped_start_after there q h in
     is_ready all units g.results p ≡ true → is_ready there others h.results q ≡ true → map form_of xs ≡ forms_over (Written p.number) p.number 0 (forms_at_work p) → map form_of xs ≡ forms_over (Written q.number) q.number 0 (forms_at_work q) →
-    Unchanged mask s t → KnowsSame mask known knows → AllMentioned mask enough_turns known xs s → AllMentioned mask enough_turns knows xs t
+    Unchanged mask s t → KnowsSame mask known knows → AllMentioned mask (anew enough_turns) enough_turns known xs s → AllMentioned mask (anew enough_turns) enough_turns knows xs t
 units_mention mask all there units others known knows n m p q xs ready ready2 forms forms2 same libraries k =
     let g = scoped_work all units known n scoped_before in let h = scoped_work there others knows m scoped_before in
     let s = scoped_start_after all p g in let t = scoped_start_after there q h in
@@ -222,7 +222,7 @@ module _ (mask : Mask) (turns : ℕ) (known : Known) (fs : List ℕ) where
       let v = around_form known r.form [] s in
       (mentioned_rest mask turns v r.left r.kept h.0, onwards_map (λ p t. AtSeconds Two (anew turns) known fs rs t) (λ p t. AtSeconds (IsRestKept turns) (anew turns) known fs rs t) (λ p t k. seconds_kept rs t k) (comes_to v turns fs r.left None) h.1)
 
-pub units_kept : (mask : Mask) (turns : ℕ) (known : Known) (xs : List FormOrKept) (s : ScopedState) → AllMentioned mask turns known xs s → AllKept (anew turns) turns known xs s
+pub units_kept : (mask : Mask) (turns : ℕ) (known : Known) (xs : List FormOrKept) (s : ScopedState) → AllMentioned mask (anew turns) turns known xs s → AllKept (anew turns) turns known xs s
 units_kept mask turns known xs s h =
     let fs = numbers_of xs in (
       h.0,

@@ -15,7 +15,7 @@ use Rattle.form_laws.specs.Begins.{Each}
 use Rattle.question_laws.specs.Noted.{all_noted, IsClosed}
 use Rattle.kept_forms.specs.KeptForms.{KeptForm, KeptParts, FormOrKept, LeftOrKept, kept_moved}
 use Rattle.kept_forms.specs.Carried.{kept_aside, kept_parts, PassStays, RestStays, FormFits}
-use Rattle.forgotten_locals.specs.Ways.{anew, AtTurns}
+use Rattle.forgotten_locals.specs.Ways.{Way, AtTurns}
 
 -- some units, and some names of libraries
 pub record Mask : Type 0 where
@@ -82,7 +82,7 @@ IsRestMentioned mask turns v (Ok m) None = ⊥
 IsRestMentioned mask turns v (Ok m) (Some k) = (w : Around) × (l : Left Ident) × (from : ℕ) × (to : ℕ) × RestMentions mask w v turns l × (k ≡ kept_moved (bound_moved from to) (kept_parts w turns from l))
 
 -- each form of a unit is kept, and mentions no others
-abbrev pub AllMentioned : Mask → ℕ → Known → List FormOrKept → ScopedState → Type 0
-AllMentioned mask turns known xs s =
+abbrev pub AllMentioned : Mask → Way → ℕ → Known → List FormOrKept → ScopedState → Type 0
+AllMentioned mask way turns known xs s =
     Each (λ (x : FormOrKept). FormFits x.kept) xs
-    × AtTurns (λ v (x : FormOrKept). IsMentioned mask turns v x.tree x.kept) (λ v (r : LeftOrKept). IsRestMentioned mask turns v r.left r.kept) (anew turns) known xs s
+    × AtTurns (λ v (x : FormOrKept). IsMentioned mask turns v x.tree x.kept) (λ v (r : LeftOrKept). IsRestMentioned mask turns v r.left r.kept) way known xs s

@@ -23,7 +23,9 @@ use Rattle.syntax_tree.proofs.SeenLaws.{same_finite}
 use Rattle.syntax_tree.proofs.InternLaws.{ident_told, ident_itself}
 use Rattle.renumbering_laws.specs.Moving.{move_tree, move_trees, move_tail}
 use Rattle.renumbering_laws.specs.Renumbering.{Renumbering, IsOneToOne, number, place, ident, change}
+use Rattle.renumbering_laws.specs.NewSurroundings.{HasOldNumbers}
 use Rattle.renumbering_laws.proofs.OneToOne.{ident_moved}
+use Rattle.renumbering_laws.proofs.NewSurroundings.{old_numbers_apart}
 use Rattle.moves.specs.Numbers.{IsBack}
 use Rattle.moves.specs.Works.{lived_as, NamesMove, TreesMove, WorkMoves}
 
@@ -162,3 +164,19 @@ module _ (r s : Renumbering) (back : IsBack r s) where
       let symbols : new.symbols.symbols ≡ old.symbols.symbols = again.names.symbols ∙ there.names.symbols in
       let idents : new.symbols.idents ≡ old.symbols.idents = again.names.idents ∙ ap (map (ident s)) there.names.idents ∙ idents_back old.symbols.idents in
       λ j. record { trees = trees j; symbols = record { symbols = symbols j; idents = idents j } }
+
+-- the old number of each
+pub old_numbers : (r s : Renumbering) → IsBack r s → ((u n : ℕ) → r.definition u n ≡ n) → HasOldNumbers r
+old_numbers r s back keeps = record {
+  unit_back = λ u. Some (s.unit u);
+  unit_here = λ u. ap (λ (n : ℕ). Some n) (back.unit u);
+  form_back = λ u f. Some (s.form (r.unit u) f);
+  form_here = λ u f. ap (λ (n : ℕ). Some n) (back.form u f);
+  definitions = keeps;
+}
+
+pub still_differ : (r s : Renumbering) → IsBack r s → IsOneToOne r
+still_differ r s back =
+    let bare : Renumbering = record { unit = r.unit; form = r.form; definition = λ u n. n } in
+    let one = old_numbers_apart bare (old_numbers bare s (record { unit = back.unit; form = back.form }) (λ u n. refl)) in
+    record { units = one.units; forms = one.forms }

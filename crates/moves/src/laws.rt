@@ -15,6 +15,7 @@ ghost use Rattle.syntax_tree.specs.declared.trees.nodes.Tree.{Tree};
 ghost use Rattle.syntax_tree.specs.declared.trees.table.Region.{Region};
 ghost use Rattle.renumbering_laws.specs.Moving.{move_tree};
 ghost use Rattle.renumbering_laws.specs.Renumbering.{Renumbering, IsOneToOne, ident, meaning, change};
+ghost use Rattle.renumbering_laws.specs.NewSurroundings.{HasOldNumbers};
 ghost use Rattle.moves.specs.Numbers.{meaning_as, IsBack};
 ghost use Rattle.moves.specs.Works.{NamesMove, TreesMove, WorkMoves};
 
@@ -44,6 +45,12 @@ pub fn regions_keep_their_nodes()
 /// Numbers that differ leave identifiers apart.
 pub fn identifiers_stay_apart()
     ensures { (r : Renumbering) (is : List Identifier) → IsOneToOne r → AreToldApart is → AreToldApart (map (ident r) is) }
+{}
+
+/// Where there is a way back, numbers that differ stay so, and the old number of each is told.
+pub fn ways_back_tell_old_numbers()
+    ensures one_to_one { (r s : Renumbering) → IsBack r s → IsOneToOne r }
+    ensures old_numbers { (r s : Renumbering) → IsBack r s → ((u n : ℕ) → r.definition u n ≡ n) → HasOldNumbers r }
 {}
 
 /// By the way back trees come to be what they were, and a work does with its table.
