@@ -1,7 +1,7 @@
 use Rattle.std.proofs.Common.{◌≡◌, take}
 use Rattle.syntax_tree.specs.Names.{KeepsNames}
-use Rattle.form_expansion.specs.Begun.{AddsStandard}
-use Rattle.form_expansion.proofs.prelude.add_standard.Given as goal
+use Rattle.standard_scopes.specs.Begun.{AddsStandard}
+use Rattle.standard_scopes.proofs.prelude.add_standard.Given as goal
 
 abbrev pub invariant-loop-name : goal.invariant-loop-name
 invariant-loop-name l = record {

@@ -9,10 +9,10 @@ use Rattle.base_library.specs.declared.macros.PreludeMacro.{PreludeMacro}
 use Rattle.unit_scopes.specs.Preluded.{prelude_begun}
 use Rattle.unit_scopes.specs.declared.scope.Imported.{Imported}
 use Rattle.unit_scopes.proofs.OutcomeLaws.{grows_on}
-use Rattle.form_expansion.specs.Begun.{AreStandard}
-use Rattle.form_expansion.proofs.BenchLaws.{grows_named, grows_twice, stands_on}
-use Rattle.form_expansion.proofs.prelude.begin.Goals as goal
-use Rattle.form_expansion.proofs.prelude.begin.Goals.{After-as_slice}
+use Rattle.standard_scopes.specs.Begun.{AreStandard}
+use Rattle.standard_scopes.proofs.Growing.{grows_named, grows_twice, stands_on}
+use Rattle.standard_scopes.proofs.prelude.begin.Goals as goal
+use Rattle.standard_scopes.proofs.prelude.begin.Goals.{After-as_slice}
 
 standard : (c : After-as_slice) → AreStandard c.all_standard.new.work.symbols c.as_slice.result.now
 standard c = subst (λ (xs : List Imported). AreStandard c.all_standard.new.work.symbols xs) (sym c.as_slice.ensures.value) c.in_ok-imports.ensures.standard

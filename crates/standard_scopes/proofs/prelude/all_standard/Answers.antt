@@ -2,10 +2,10 @@ use Rattle.std.proofs.Common.{ℕ, List, [], Bor, refl, sym, ◌∙◌, subst}
 use Rattle.core_tree.specs.Names.{AllMatch}
 use Rattle.unit_scopes.specs.declared.scope.Imported.{Imported}
 use Rattle.unit_scopes.proofs.OutcomeLaws.{names_itself, names_on}
-use Rattle.form_expansion.specs.Begun.{IsStandardName}
-use Rattle.form_expansion.proofs.StandardNames.{some_more, none_more, all_gathered}
-use Rattle.form_expansion.proofs.prelude.all_standard.Goals as goal
-use Rattle.form_expansion.proofs.prelude.all_standard.Goals.{in-Some+in_ok-add_standard, in_default}
+use Rattle.standard_scopes.specs.Begun.{IsStandardName}
+use Rattle.standard_scopes.proofs.StandardNames.{some_more, none_more, all_gathered}
+use Rattle.standard_scopes.proofs.prelude.all_standard.Goals as goal
+use Rattle.standard_scopes.proofs.prelude.all_standard.Goals.{in-Some+in_ok-add_standard, in_default}
 
 pub loop-library-init : goal.loop-library-init
 loop-library-init c = record {

@@ -1,8 +1,8 @@
 use Rattle.std.proofs.Common.{◌<◌, ℕ, List, Some, length, get_or, refl, ap, ◌∙◌, arith}
 use Rattle.unit_scopes.proofs.OutcomeLaws.{names_itself, names_on}
 use Rattle.syntax_tree.specs.Meant.{IsSymbol}
-use Rattle.form_expansion.proofs.StandardNames.{adds_none, adds_at}
-use Rattle.form_expansion.proofs.prelude.add_standard.Goals as goal
+use Rattle.standard_scopes.proofs.StandardNames.{adds_none, adds_at}
+use Rattle.standard_scopes.proofs.prelude.add_standard.Goals as goal
 
 pub loop-name-init : goal.loop-name-init
 loop-name-init c = record { adds = adds_none c.args.work.now.symbols c.args.imports.now.items; trees = refl; names = names_itself c.args.work.now.symbols }

@@ -2,8 +2,8 @@ use Rattle.std.proofs.Common.{◌≡◌, List, [], ◌∷◌, ◌++◌, length, 
 use Rattle.base_library.specs.declared.macros.PreludeMacro.{PreludeMacro}
 use Rattle.unit_scopes.proofs.ImportLaws.{same_trees}
 use Rattle.unit_scopes.proofs.OutcomeLaws.{names_itself, names_on}
-use Rattle.form_expansion.proofs.PreludeMacros.{adding_begins, adding_same, all_added, can_add_last, last_rules, last_added}
-use Rattle.form_expansion.proofs.prelude.add_macros.Goals as goal
+use Rattle.standard_scopes.proofs.PreludeMacros.{adding_begins, adding_same, all_added, can_add_last, last_rules, last_added}
+use Rattle.standard_scopes.proofs.prelude.add_macros.Goals as goal
 
 pub loop-name-init : goal.loop-name-init
 loop-name-init c = record { adding = adding_begins c.args.work.now c.args.scope.now c.args.macros.items c.requires.macros c.requires.stands; trees = refl; names = names_itself c.args.work.now.symbols; roots = refl }

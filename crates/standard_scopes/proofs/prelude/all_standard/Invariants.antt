@@ -1,9 +1,9 @@
 use Rattle.std.proofs.Common.{◌≡◌, take, map}
 use Rattle.core_tree.specs.Names.{AllMatch}
 use Rattle.syntax_tree.specs.Names.{KeepsNames}
-use Rattle.form_expansion.specs.Begun.{IsStandardName}
-use Rattle.form_expansion.proofs.StandardNames.{names_in}
-use Rattle.form_expansion.proofs.prelude.all_standard.Given as goal
+use Rattle.standard_scopes.specs.Begun.{IsStandardName}
+use Rattle.standard_scopes.proofs.StandardNames.{names_in}
+use Rattle.standard_scopes.proofs.prelude.all_standard.Given as goal
 
 abbrev pub invariant-loop-library : goal.invariant-loop-library
 invariant-loop-library l = record {

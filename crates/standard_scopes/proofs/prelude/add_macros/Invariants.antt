@@ -1,7 +1,7 @@
 use Rattle.std.proofs.Common.{◌≡◌, vec_len}
 use Rattle.syntax_tree.specs.Names.{KeepsNames}
-use Rattle.form_expansion.proofs.PreludeMacros.{Adding}
-use Rattle.form_expansion.proofs.prelude.add_macros.Given as goal
+use Rattle.standard_scopes.proofs.PreludeMacros.{Adding}
+use Rattle.standard_scopes.proofs.prelude.add_macros.Given as goal
 
 abbrev pub invariant-loop-name : goal.invariant-loop-name
 invariant-loop-name l = record {

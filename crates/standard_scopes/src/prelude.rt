@@ -10,15 +10,15 @@ ghost use Rattle.unit_scopes.specs.Opened.{IsNew};
 ghost use Rattle.unit_scopes.specs.Outcomes.{Grows};
 ghost use Rattle.unit_scopes.specs.Preluded.{prelude_begun, prelude_state};
 ghost use Rattle.unit_scopes.specs.Units.{UnitStands};
-ghost use Rattle.form_expansion.specs.Begun.{AreStandard, AddsStandard};
+ghost use Rattle.standard_scopes.specs.Begun.{AreStandard, AddsStandard};
 
 use base_library::{PreludeMacro, prelude, standard};
-use expander::{Imported, UnitScope};
 use ls_base::{Items, Mem, Memory, Text};
 use read_documents::standard_names::standard_library_names;
 use std::alloc::Global;
 use syntax_tree::meaning::Meaning;
 use syntax_tree::trees::{PoolFault, Region, Work};
+use unit_scopes::{Imported, UnitScope};
 
 /// Scopes in which the prelude stands, and no unit else. Its trees are added to the region; what stood before still stands, also where
 /// memory runs out.

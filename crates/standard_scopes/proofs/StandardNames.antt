@@ -20,7 +20,7 @@ use Rattle.unit_scopes.specs.Preluded.{standard_names}
 use Rattle.unit_scopes.specs.declared.scope.Imported.{Imported}
 use Rattle.unit_scopes.proofs.CoreStandLaws.{every_on}
 use Rattle.core_tree.proofs.Matched.{matched_at, matched_back, all_append}
-use Rattle.form_expansion.specs.Begun.{IsStandardName, AddsStandard, AreStandard}
+use Rattle.standard_scopes.specs.Begun.{IsStandardName, AddsStandard, AreStandard}
 
 -- ---- names of libraries
 
