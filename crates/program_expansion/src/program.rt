@@ -36,7 +36,7 @@ use document_units::known::known;
 use document_units::listing::{Units, list_units};
 use expander::Libraries;
 use form_expansion::forms::Bench;
-use form_expansion::prelude::begin;
+use standard_scopes::prelude::begin;
 use known_libraries::KnownLibraries;
 use ls_base::{Mem, Steps};
 use read_documents::documents::{Document, read};

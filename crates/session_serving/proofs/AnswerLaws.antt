@@ -4,11 +4,11 @@ use Rattle.std.specs.List.{AllByRecursion}
 use Rattle.std.specs.Option.{option_map}
 use Rattle.lookahead.specs.Looked.{Looked}
 use Rattle.scheme_model.specs.Session.{Clean, Early, Ending, Run, State}
-use Rattle.session_core.specs.Asked.{Question}
-use Rattle.session_core.specs.ToWire.{AreReplies}
-use Rattle.session_core.specs.States.{exit_code}
-use Rattle.session_core.specs.Stepped.{IsOutcome}
-use Rattle.session_core.specs.declared.out.Out.{Out}
+use Rattle.session_replies.specs.Asked.{Question}
+use Rattle.session_replies.specs.ToWire.{AreReplies}
+use Rattle.session_replies.specs.States.{exit_code}
+use Rattle.session_replies.specs.Stepped.{IsOutcome}
+use Rattle.session_replies.specs.declared.out.Out.{Out}
 use Rattle.lsp_messages.specs.declared.reply.Reply.{Reply}
 use Rattle.session_serving.specs.AheadOutput.{looked_from, looked_step}
 use Rattle.session_serving.specs.BodiesOutcome.{AreAnswered, AnswersBodies, AnswersSome, BodiesEndAs, EndsSession, IsQuietBody, body_end_of}

@@ -8,11 +8,11 @@ use Rattle.lookahead.specs.Looked.{Looked, looked}
 use Rattle.lookahead.specs.declared.looking.Looking.{Looking}
 use Rattle.scheme_model.specs.Session as model
 use Rattle.scheme_model.specs.Session.{Run, State, begin}
-use Rattle.session_core.specs.Asked.{Question}
-use Rattle.session_core.specs.Counted.{AreCounted}
-use Rattle.session_core.specs.Stepped.{IsOutcome}
-use Rattle.session_core.specs.declared.out.Out.{Out}
-use Rattle.session_core.proofs.CountedLaws.{counted_then}
+use Rattle.session_replies.specs.Asked.{Question}
+use Rattle.session_replies.specs.Counted.{AreCounted}
+use Rattle.session_replies.specs.Stepped.{IsOutcome}
+use Rattle.session_replies.specs.declared.out.Out.{Out}
+use Rattle.session_replies.proofs.CountedLaws.{counted_then}
 use Rattle.session_serving.specs.AheadOutcome.{CountsAllBy, CountsBeginBy}
 use Rattle.session_serving.specs.AheadOutput.{looked_from, looked_step}
 use Rattle.session_serving.specs.BodiesOutcome.{AnswersBodies, BodiesCountAs, CountsSome, EndsSession, body_end_of}

@@ -16,9 +16,9 @@ use Rattle.ls_outside.proofs.CallLaws.{calls_then, last_none_all}
 use Rattle.lookahead.specs.Looked.{Looked, looked}
 use Rattle.lookahead.specs.declared.looking.Looking.{Looking}
 use Rattle.scheme_model.specs.Session.{Run, begin}
-use Rattle.session_core.specs.Asked.{Question}
-use Rattle.session_core.specs.Counted.{AreCounted}
-use Rattle.session_core.specs.ToWire.{AreReplies}
+use Rattle.session_replies.specs.Asked.{Question}
+use Rattle.session_replies.specs.Counted.{AreCounted}
+use Rattle.session_replies.specs.ToWire.{AreReplies}
 use Rattle.session_serving.specs.AheadOutcome.{AnswersBeforeLast, CountsAllBy, CountsBeginBy, ServesBy}
 use Rattle.session_serving.specs.AheadOutput.{AnswerFirstBy, IsOutputBy, looked_from, looked_over}
 use Rattle.session_serving.specs.BodiesOutcome.{AnswersBodies}

@@ -16,10 +16,10 @@ use Rattle.lookahead.specs.Completed.{Complete}
 use Rattle.lookahead.specs.Looked.{Looked, looked}
 use Rattle.lookahead.specs.declared.looking.Looking.{Looking}
 use Rattle.scheme_model.specs.Session.{Run, State, begin}
-use Rattle.session_core.specs.Asked.{Question}
-use Rattle.session_core.specs.Counted.{AreCounted}
-use Rattle.session_core.specs.Stepped.{IsQuiet}
-use Rattle.session_core.specs.ToWire.{AreReplies}
+use Rattle.session_replies.specs.Asked.{Question}
+use Rattle.session_replies.specs.Counted.{AreCounted}
+use Rattle.session_replies.specs.Stepped.{IsQuiet}
+use Rattle.session_replies.specs.ToWire.{AreReplies}
 use Rattle.session_serving.specs.AheadOutcome.{CountsAllBy, ReadsPieces, ServesBy, TakesPieces}
 use Rattle.session_serving.specs.AheadOutput.{IsOutputBy, looked_from, looked_over}
 use Rattle.session_serving.specs.BodiesOutcome.{AnswersBodies}

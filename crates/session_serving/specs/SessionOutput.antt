@@ -6,9 +6,9 @@ use Rattle.lsp_messages.specs.Messages.{message_of}
 use Rattle.lsp_messages.specs.declared.reply.Reply.{Reply}
 use Rattle.lsp_messages.specs.declared.reply.Reply.TheVariants as replies
 use Rattle.scheme_model.specs.Session.{Ending, Message, Run, State, begin, run_from}
-use Rattle.session_core.specs.FromWire.{offsets, said_by}
-use Rattle.session_core.specs.Asked.{Question, questions}
-use Rattle.session_core.specs.ToWire.{AreReplies}
+use Rattle.session_replies.specs.FromWire.{offsets, said_by}
+use Rattle.session_replies.specs.Asked.{Question, questions}
+use Rattle.session_replies.specs.ToWire.{AreReplies}
 use Rattle.session_serving.specs.Wording.{fault_text}
 
 -- what a body says

@@ -1,6 +1,6 @@
 use Rattle.std.specs.FinMap.{entries}
-use Rattle.rename_planner.specs.ToldRenames.{opened_as}
-use Rattle.session_core.proofs.Refused.{refused_so}
+use Rattle.rename_answers.specs.ToldRenames.{opened_as}
+use Rattle.session_replies.proofs.Refused.{refused_so}
 use Rattle.session_core.proofs.renames.refusal.Goals as goal
 
 pub returns-clause-text : goal.returns-clause-text
