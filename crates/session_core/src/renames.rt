@@ -39,18 +39,18 @@ pub fn on_rename<L: Ledger>(
     match rename(alloc, workspace, &at.uri, at.pos, new_name, steps) {
         Ok(edits) => Ok(renamed(alloc, id, edits)?),
         Err(fault) => {
-            let text = refusal(alloc, workspace, &fault)?;
+            let text = refusal(alloc, workspace, fault)?;
             Ok(request_failed(alloc, id, text)?)
         }
     }
 }
 
 /// What a refused rename says. Want of memory is passed on.
-fn refusal(alloc: Global, workspace: &Workspace, fault: &RenameFault) -> Mem<Text>
-    requires documents { (d : Difference) → fault.now ≡ RenameFault.Differs d → 0 < length (entries workspace.now.texts) }
-    ensures memory { OnOk result (fault.now ≢ RenameFault.Memory) }
-    ensures text { (r : Reader) (answer : Result (List Edits) Refusal) → IsReader r → AnswersAs workspace.now.encoding (entries workspace.now.texts) answer (Err fault.now)
+fn refusal(alloc: Global, workspace: &Workspace, fault: RenameFault) -> Mem<Text>
+    requires documents { (d : Difference) → fault ≡ RenameFault.Differs d → 0 < length (entries workspace.now.texts) }
+    ensures memory { OnOk result (fault ≢ RenameFault.Memory) }
+    ensures text { (r : Reader) (answer : Result (List Edits) Refusal) → IsReader r → AnswersAs workspace.now.encoding (entries workspace.now.texts) answer (Err fault)
         → IfOk result (λ text. told_as workspace.now.encoding (entries workspace.now.texts) (opened_as r (entries workspace.now.texts)) answer ≡ Err text) }
 {
-    Ok(refusal_text(alloc, workspace, fault)?)
+    Ok(refusal_text(alloc, workspace, &fault)?)
 }

@@ -7,5 +7,5 @@ pub returns-clause-text : goal.returns-clause-text
 returns-clause-text c = λ r answer is h.
     let e = c.args.workspace.now.encoding in
     let ds = entries c.args.workspace.now.texts in
-    refused_so e ds (opened_as r ds) answer c.args.fault.now c.in_ok-refusal_text.field-0 c.in_ok-refusal_text.ensures.memory h
+    refused_so e ds (opened_as r ds) answer c.args.fault c.in_ok-refusal_text.field-0 c.in_ok-refusal_text.ensures.memory h
     (λ refusal k. c.in_ok-refusal_text.ensures.text r refusal is k)
