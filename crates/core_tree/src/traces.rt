@@ -1,5 +1,6 @@
 //! What an expansion meets on its way, and why it ends early.
 use crate::cores::{Binder, Target};
+use form_notes::Noting;
 use ls_base::{Items, Text};
 use scheme_model::Occ;
 use syntax_tree::symbols::IdNo;
@@ -11,12 +12,14 @@ pub struct MacroUse {
     pub literals: Vec<Target>,
 }
 
-/// What the expansion of a form met, in order: what the form defines in its unit, keywords of core forms and macro uses.
+/// What the expansion of a form met, in order: what the form defines in its unit, keywords of core forms and macro uses; and what the
+/// form noted of its questions.
 #[derive(Drop)]
 pub struct Trace {
     pub definitions: Items<Binder>,
     pub keywords: Items<Target>,
     pub uses: Items<MacroUse>,
+    pub notes: Noting,
 }
 
 /// The fault of a form that is broken: its code, the identifier that it names, with that identifier's place, the place of the form

@@ -1,1 +1,2 @@
-pub mod PlainSides  -- An expansion that notes what it asks, and the same without notes, as two sides
+pub mod PlainSides
+pub mod NoteLaws

@@ -1,1 +1,2 @@
-pub mod Noting  -- Expansion that notes what it asks
+pub mod Noting
+pub mod Standing

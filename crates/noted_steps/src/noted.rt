@@ -1,0 +1,132 @@
+//! What a form asks of what is around it, noted: what identifiers mean, whether literals mean the same as identifiers, and the rules of
+//! macros (R7RS 4.3, 5.3).
+ghost use Rattle.std.specs.Prelude.{◌≡◌, ℕ, ◌<◌, List, [], ◌∷◌, map, length, None};
+ghost use Rattle.scheme_model.specs.ExpansionFaults.{Named};
+ghost use Rattle.scheme_model.specs.Ident.{Ident as Identifier};
+ghost use Rattle.scheme_model.specs.Meaning.{Meaning as ModelMeaning};
+ghost use Rattle.scheme_model.specs.Order.{Headed, Meant, RulesOf, Alike, is_some};
+ghost use Rattle.scheme_model.specs.Questions.{bare_macro};
+ghost use Rattle.scheme_model.specs.Requirements.{Known};
+ghost use Rattle.scheme_model.specs.RulesShape.{option_map as map_option};
+ghost use Rattle.scheme_model.specs.ScopedExpansion.{Frames, ScopedState, macro_at};
+ghost use Rattle.syntax_tree.specs.Meant.{IsMeaning};
+ghost use Rattle.syntax_tree.specs.declared.trees.Work.{Work as AnyWork};
+ghost use Rattle.core_tree.specs.Names.{AllMatch, IsTarget};
+ghost use Rattle.unit_scopes.specs.State.{Stands as PlainStands};
+ghost use Rattle.unit_scopes.specs.Outcomes.{At, CanLook};
+ghost use Rattle.noted_steps.specs.Noting.{Noting, means_here, target_at, noting};
+ghost use Rattle.noted_steps.specs.Standing.{Stands, ComparedFor, with_notes};
+
+use core_forms::NamePart;
+use core_tree::cores::Target;
+use scope_env::ScopeNo;
+use syntax_tree::meaning::Meaning;
+use syntax_tree::symbols::IdNo;
+use syntax_tree::trees::Work;
+use unit_scopes::scope::UnitScope;
+use unit_scopes::uses::Comparison;
+
+/// Whether a macro means this.
+fn is_macro(units: &UnitScope, meaning: Meaning) -> bool
+    ensures { (work : AnyWork) (ls : List Frames) (s : ScopedState) (m : ModelMeaning) → PlainStands work units.now ls s → IsMeaning work.symbols s.unit s.form meaning m →
+        result ≡ is_some (macro_at s.macros m) }
+{
+    units.macros.meaning(units.form.number, meaning).is_some()
+}
+
+/// Notes what an identifier means where it is used.
+pub fn note(units: &mut UnitScope, work: &Work, target: Target)
+    requires { target.ident < length work.now.symbols.idents }
+    ensures noted { (known : Known) (ls : List Frames) (s : Noting) (fs : Frames) (n : Named Identifier) → Stands work.now units.old ls s →
+        IsTarget work.now.symbols s.unit s.form target (record { meaning = means_here s fs n.name; ident = n.name; occ = n.occ }) →
+        Stands work.now units.new ls ((noting known).ask (Headed fs n.name ∷ []) s) }
+    ensures rest { units.new ≡ with_notes units.old units.new.form.trace.notes }
+{
+    let keyword = is_macro(units, target.meaning);
+    units
+        .form
+        .trace
+        .notes
+        .look_up(&work.symbols, target.ident, target.meaning, keyword);
+}
+
+/// Notes what identifiers mean where they are used.
+pub fn note_all(units: &mut UnitScope, work: &Work, targets: &[Target])
+    requires { (s : Noting) × (fs : Frames) × (ns : List (Named Identifier)) × AllMatch (IsTarget work.now.symbols s.unit s.form) targets.now (map (target_at s fs) ns) }
+    ensures noted { (known : Known) (ls : List Frames) (s : Noting) (fs : Frames) (ns : List (Named Identifier)) → Stands work.now units.old ls s →
+        AllMatch (IsTarget work.now.symbols s.unit s.form) targets.now (map (target_at s fs) ns) → Stands work.now units.new ls ((noting known).ask (map (λ n. Meant fs n.name) ns) s) }
+    ensures rest { units.new ≡ with_notes units.old units.new.form.trace.notes }
+{
+    let mut left = targets.len();
+    while 0 < left {
+        left -= 1;
+        note(units, work, targets[left]);
+    }
+}
+
+/// Notes which rules what means this has, by their edition.
+pub fn note_rules(units: &mut UnitScope, meaning: Meaning, edition: u64)
+    ensures noted { (known : Known) (work : AnyWork) (ls : List Frames) (s : Noting) (m : ModelMeaning) → Stands work units.old ls s → IsMeaning work.symbols s.unit s.form meaning m →
+        s.since.editions edition ≡ map_option bare_macro (macro_at s.macros m) → Stands work units.new ls ((noting known).ask (RulesOf m ∷ []) s) }
+    ensures rest { units.new ≡ with_notes units.old units.new.form.trace.notes }
+{
+    units.form.trace.notes.use_rules(meaning, edition);
+}
+
+/// Notes whether a literal means in one scope the same as the identifier beside it in another.
+fn note_comparison(
+    units: &mut UnitScope,
+    work: &Work,
+    literal_scope: ScopeNo,
+    scope: ScopeNo,
+    comparison: Comparison,
+)
+    requires literals { CanLook work.now units.old literal_scope }
+    requires look { CanLook work.now units.old scope }
+    requires literal { comparison.pair.literal < length work.now.symbols.idents }
+    requires ident { comparison.pair.ident < length work.now.symbols.idents }
+    ensures noted { (known : Known) (ls : List Frames) (s : Noting) (gs fs : Frames) (q : Identifier × Identifier) → Stands work.now units.old ls s → At ls literal_scope gs → At ls scope fs →
+        ComparedFor work.now s gs fs comparison q → Stands work.now units.new ls ((noting known).ask (Alike gs q.0 fs q.1 ∷ []) s) }
+    ensures rest { units.new ≡ with_notes units.old units.new.form.trace.notes }
+{
+    let pair = comparison.pair;
+    let literal = units.target(work, literal_scope, named(pair.literal));
+    let ident = units.target(work, scope, named(pair.ident));
+    units.form.trace.notes.compare(
+        &work.symbols,
+        pair.literal,
+        pair.ident,
+        literal.meaning,
+        ident.meaning,
+        comparison.held,
+    );
+}
+
+/// An identifier without a place.
+fn named(ident: IdNo) -> NamePart
+    ensures { result ≡ record { ident = ident; occ = None } }
+{
+    NamePart { ident, occ: None }
+}
+
+/// Notes the comparisons of a use, of which the first comes to be the newest.
+pub fn note_comparisons(
+    units: &mut UnitScope,
+    work: &Work,
+    literal_scope: ScopeNo,
+    scope: ScopeNo,
+    comparisons: &[Comparison],
+)
+    requires literals { CanLook work.now units.old literal_scope }
+    requires look { CanLook work.now units.old scope }
+    requires compared { (s : Noting) × (gs : Frames) × (fs : Frames) × (qs : List (Identifier × Identifier)) × AllMatch (ComparedFor work.now s gs fs) comparisons.now qs }
+    ensures noted { (known : Known) (ls : List Frames) (s : Noting) (gs fs : Frames) (qs : List (Identifier × Identifier)) → Stands work.now units.old ls s → At ls literal_scope gs → At ls scope fs →
+        AllMatch (ComparedFor work.now s gs fs) comparisons.now qs → Stands work.now units.new ls ((noting known).ask (map (λ q. Alike gs q.0 fs q.1) qs) s) }
+    ensures rest { units.new ≡ with_notes units.old units.new.form.trace.notes }
+{
+    let mut left = comparisons.len();
+    while 0 < left {
+        left -= 1;
+        note_comparison(units, work, literal_scope, scope, comparisons[left]);
+    }
+}
