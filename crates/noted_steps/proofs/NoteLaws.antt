@@ -1,20 +1,24 @@
 -- A form's notes alone change: its scopes stand as they did.
-use Rattle.std.proofs.Common.{◌≡◌, ℕ, List, Bool, true, false, Option, Some, None, refl, sym, ap, subst}
+use Rattle.std.proofs.Common.{◌≡◌, ℕ, zero, suc, ◌+◌, ◌<◌, ◌≤◌, List, [], ◌∷◌, ◌++◌, length, drop, get_or, Bool, true, false, Option, Some, None, refl, sym, ap, ◌∙◌, subst, arith}
 use Rattle.std.specs.Option.{option_copied}
 use Rattle.std.specs.Prelude.{is_some as is_there, Bor}
 use Rattle.scheme_model.specs.Ident.{Ident as Identifier}
-use Rattle.scheme_model.specs.Meaning.{Meaning}
-use Rattle.scheme_model.specs.Order.{Transformer, is_some}
-use Rattle.scheme_model.specs.ScopedExpansion.{Frames, ScopedState}
+use Rattle.scheme_model.specs.Order.{Transformer, Headed, is_some}
+use Rattle.scheme_model.specs.Requirements.{Known}
+use Rattle.scheme_model.specs.ScopedExpansion.{Frames, ScopedState, macro_at}
+use Rattle.syntax_tree.specs.Meant.{IsMeaning}
+use Rattle.syntax_tree.specs.declared.meaning.Meaning as code_meaning
+use Rattle.core_tree.specs.Names.{AllMatch}
 use Rattle.syntax_tree.specs.declared.trees.Work.{Work}
-use Rattle.form_notes.specs.Noted.{Noted}
+use Rattle.form_notes.specs.Noted.{Noted, looked_up}
 use Rattle.form_notes.specs.Standing.{NotingStands}
 use Rattle.form_notes.specs.declared.noting.Noting as code_noting
+use Rattle.unit_scopes.specs.Outcomes.{CanLook}
 use Rattle.unit_scopes.specs.State.{IsMacroIfAny}
 use Rattle.unit_scopes.specs.State as plain
 use Rattle.unit_scopes.specs.declared.macros.Macro.{Macro}
 use Rattle.unit_scopes.specs.declared.scope.UnitScope.{UnitScope}
-use Rattle.noted_steps.specs.Noting.{Noting, state_of, with_state}
+use Rattle.noted_steps.specs.Noting.{Noting, state_of, means_here, look_up, noting}
 use Rattle.noted_steps.specs.Standing.{Stands, with_notes}
 
 -- what stands without notes
@@ -65,6 +69,40 @@ notes_stand work u ls s x ms h e =
       since_form = e.since_form;
     }
 
+-- where notes alone changed an identifier can be looked up as before
+pub plain_notes : (work : Work) (u : UnitScope) (ls : List Frames) (s : ScopedState) (x : code_noting.Noting) → plain.Stands work u ls s → plain.Stands work (with_notes u x) ls s
+plain_notes work u ls s x e =
+    let f = e.form in
+    record {
+      unit = e.unit;
+      program = e.program;
+      env = e.env;
+      macros = e.macros;
+      root = e.root;
+      own = e.own;
+      begun = e.begun;
+      form = record {
+        number = f.number;
+        locals = f.locals;
+        uses = f.uses;
+        nodes = f.nodes;
+        few_uses = f.few_uses;
+        few_nodes = f.few_nodes;
+        few_locals = f.few_locals;
+        definitions = f.definitions;
+        keywords = f.keywords;
+        met = f.met;
+      };
+      defined = e.defined;
+      known = e.known;
+      count = e.count;
+    }
+
+pub looks_on : (work : Work) (u v : UnitScope) (scope : ℕ) → v ≡ with_notes u v.form.trace.notes → CanLook work u scope → CanLook work v scope
+looks_on work u v scope same h =
+    subst (λ (x : UnitScope). CanLook work x scope) (sym same)
+    (record { layout = h.layout; state = h.state; frames = h.frames; stands = plain_notes work u h.layout h.state v.form.trace.notes h.stands; at = h.at })
+
 -- the code has a macro where the state has one
 pub macro_told : (work : Work) (ls : List Frames) (o : Option Macro) (p : Option (Transformer Frames Identifier)) → IsMacroIfAny work ls o p → is_some o ≡ is_some p
 macro_told work ls None None h = refl
@@ -72,6 +110,47 @@ macro_told work ls None (Some m) h = absurd h
 macro_told work ls (Some k) None h = absurd h
 macro_told work ls (Some k) (Some m) h = refl
 
-pub copied_some : (o : Option (Bor Macro)) → is_some o ≡ is_some (option_copied o)
+pub copied_some : (o : Option (Bor Macro)) → is_there o ≡ is_some (option_copied o)
 copied_some None = refl
 copied_some (Some b) = refl
+
+-- what an identifier means was noted
+pub lookup_stands : (known : Known) (work : Work) (u : UnitScope) (ls : List Frames) (s : Noting) (fs : Frames) (i : Identifier) (c : code_meaning.Meaning) (k : Bool) (x : code_noting.Noting) → k ≡ is_some (macro_at s.macros (means_here s fs i)) →
+    IsMeaning work.symbols s.unit s.form c (means_here s fs i) →
+    (NotingStands work.symbols u.form.trace.notes s.since s.noted → IsMeaning work.symbols s.since.unit s.since.form c (means_here s fs i) → NotingStands work.symbols x s.since (looked_up s.since i (means_here s fs i) k ++ s.noted)) →
+    Stands work u ls s → Stands work (with_notes u x) ls ((noting known).ask (Headed fs i ∷ []) s)
+lookup_stands known work u ls s fs i c k x keyword means law e =
+    let m = means_here s fs i in
+    notes_stand work u ls s x (look_up s fs i ++ s.noted)
+    (subst (λ b. NotingStands work.symbols x s.since (looked_up s.since i m b ++ s.noted)) keyword
+    (law e.notes (subst (λ n. IsMeaning work.symbols n s.since.form c m) (sym e.since_unit) (subst (λ n. IsMeaning work.symbols s.unit n c m) (sym e.since_form) means)))) e
+
+-- ---- lists that match, from their ends
+
+pub record Pair {X Y : Type 0} (P : X → Y → Type 0) (ys : List Y) (k : ℕ) (x : X) : Type 0 where
+  pub other : Y
+  pub held : P x other
+  pub split : drop k ys ≡ other ∷ drop (k + 1) ys
+
+pub pair_there : {X Y : Type 0} (P : X → Y → Type 0) (xs : List X) (ys : List Y) (k : ℕ) (d : X) → AllMatch P xs ys → k < length xs → Pair P ys k (get_or xs k d)
+pair_there P [] ys k d h l = absurd (omega (arith, l))
+pair_there P (x ∷ xs) [] k d h l = absurd h
+pair_there P (x ∷ xs) (y ∷ ys) zero d h l = record { other = y; held = h.0; split = refl }
+pair_there P (x ∷ xs) (y ∷ ys) (suc k) d h l =
+    let q = pair_there P xs ys k d h.1 (omega (arith, l)) in
+    let more : suc (k + 1) ≡ suc k + 1 = omega arith in
+    record { other = q.other; held = q.held; split = q.split ∙ ap (λ (i : ℕ). q.other ∷ drop i (y ∷ ys)) more }
+
+pub pairs_past : {X Y : Type 0} (P : X → Y → Type 0) (xs : List X) (ys : List Y) (k : ℕ) → AllMatch P xs ys → length xs ≤ k → drop k ys ≡ []
+pairs_past P [] [] zero h l = refl
+pairs_past P [] [] (suc k) h l = refl
+pairs_past P [] (y ∷ ys) k h l = absurd h
+pairs_past P (x ∷ xs) [] k h l = absurd h
+pairs_past P (x ∷ xs) (y ∷ ys) zero h l = absurd (omega (arith, l))
+pairs_past P (x ∷ xs) (y ∷ ys) (suc k) h l = pairs_past P xs ys k h.1 (omega (arith, l))
+
+-- a list without its first so many, where one more is behind
+pub one_back : {X Y : Type 0} (P : X → Y → Type 0) (xs : List X) (ys : List Y) (k left : ℕ) (d : X) → AllMatch P xs ys → left ≡ k + 1 → left ≤ length xs → (y : Y) × P (get_or xs k d) y × (drop k ys ≡ y ∷ drop left ys)
+one_back P xs ys k left d h next within =
+    let q = pair_there P xs ys k d h (omega (arith, next, within)) in
+    (q.other, q.held, q.split ∙ ap (λ (i : ℕ). q.other ∷ drop i ys) (sym next))

@@ -8,15 +8,18 @@ use Rattle.scheme_model.specs.Ident.{Ident as Identifier}
 use Rattle.scheme_model.specs.Meaning.{same_meaning}
 use Rattle.scheme_model.specs.Substitution.{defined_in, definition_count}
 use Rattle.scheme_model.specs.ScopedExpansion.{Frames}
+use Rattle.scheme_model.specs.ExpansionFaults.{Named}
 use Rattle.syntax_tree.specs.Macros.{IsIdent}
 use Rattle.syntax_tree.specs.declared.trees.Work.{Work}
+use Rattle.core_tree.specs.Names.{IsTarget}
+use Rattle.core_tree.specs.declared.cores.Target as code_target
 use Rattle.form_notes.specs.Standing.{NotingStands}
 use Rattle.form_notes.specs.declared.noting.Noting as code_noting
 use Rattle.unit_scopes.specs.State.{EnvStands, MacrosStand, HasBegun, FormStands, is_program}
 use Rattle.unit_scopes.specs.State as plain
 use Rattle.unit_scopes.specs.declared.scope.UnitScope as code
 use Rattle.unit_scopes.specs.declared.uses.Comparison as code_comparison
-use Rattle.noted_steps.specs.Noting.{Noting, state_of, means_here}
+use Rattle.noted_steps.specs.Noting.{Noting, state_of, means_here, target_at}
 
 -- what the form at work has noted
 abbrev pub with_notes : code.UnitScope → code_noting.Noting → code.UnitScope
@@ -38,6 +41,10 @@ pub record Stands (work : Work) (scope : code.UnitScope) (ls : List Frames) (s :
   pub notes : NotingStands work.symbols scope.form.trace.notes s.since s.noted
   pub since_unit : s.since.unit ≡ s.unit
   pub since_form : s.since.form ≡ s.form
+
+-- a use of an identifier in the code, inside some frames
+abbrev pub TargetFor : Work → Noting → Frames → code_target.Target → Named Identifier → Type 0
+TargetFor work s fs x n = IsTarget work.symbols s.unit s.form x (target_at s fs n)
 
 -- a comparison of the code, of a literal inside some frames with an identifier inside others
 pub record ComparedFor (work : Work) (s : Noting) (gs fs : Frames) (c : code_comparison.Comparison) (q : Identifier × Identifier) : Type 0 where

@@ -11,11 +11,11 @@ ghost use Rattle.scheme_model.specs.RulesShape.{option_map as map_option};
 ghost use Rattle.scheme_model.specs.ScopedExpansion.{Frames, ScopedState, macro_at};
 ghost use Rattle.syntax_tree.specs.Meant.{IsMeaning};
 ghost use Rattle.syntax_tree.specs.declared.trees.Work.{Work as AnyWork};
-ghost use Rattle.core_tree.specs.Names.{AllMatch, IsTarget};
+ghost use Rattle.core_tree.specs.Names.{AllMatch};
 ghost use Rattle.unit_scopes.specs.State.{Stands as PlainStands};
 ghost use Rattle.unit_scopes.specs.Outcomes.{At, CanLook};
-ghost use Rattle.noted_steps.specs.Noting.{Noting, means_here, target_at, noting};
-ghost use Rattle.noted_steps.specs.Standing.{Stands, ComparedFor, with_notes};
+ghost use Rattle.noted_steps.specs.Noting.{Noting, noting};
+ghost use Rattle.noted_steps.specs.Standing.{Stands, TargetFor, ComparedFor, with_notes};
 
 use core_forms::NamePart;
 use core_tree::cores::Target;
@@ -38,7 +38,7 @@ fn is_macro(units: &UnitScope, meaning: Meaning) -> bool
 pub fn note(units: &mut UnitScope, work: &Work, target: Target)
     requires { target.ident < length work.now.symbols.idents }
     ensures noted { (known : Known) (ls : List Frames) (s : Noting) (fs : Frames) (n : Named Identifier) → Stands work.now units.old ls s →
-        IsTarget work.now.symbols s.unit s.form target (record { meaning = means_here s fs n.name; ident = n.name; occ = n.occ }) →
+        TargetFor work.now s fs target n →
         Stands work.now units.new ls ((noting known).ask (Headed fs n.name ∷ []) s) }
     ensures rest { units.new ≡ with_notes units.old units.new.form.trace.notes }
 {
@@ -52,9 +52,9 @@ pub fn note(units: &mut UnitScope, work: &Work, target: Target)
 
 /// Notes what identifiers mean where they are used.
 pub fn note_all(units: &mut UnitScope, work: &Work, targets: &[Target])
-    requires { (s : Noting) × (fs : Frames) × (ns : List (Named Identifier)) × AllMatch (IsTarget work.now.symbols s.unit s.form) targets.now (map (target_at s fs) ns) }
+    requires { (s : Noting) × (fs : Frames) × (ns : List (Named Identifier)) × AllMatch (TargetFor work.now s fs) targets.now ns }
     ensures noted { (known : Known) (ls : List Frames) (s : Noting) (fs : Frames) (ns : List (Named Identifier)) → Stands work.now units.old ls s →
-        AllMatch (IsTarget work.now.symbols s.unit s.form) targets.now (map (target_at s fs) ns) → Stands work.now units.new ls ((noting known).ask (map (λ n. Meant fs n.name) ns) s) }
+        AllMatch (TargetFor work.now s fs) targets.now ns → Stands work.now units.new ls ((noting known).ask (map (λ n. Meant fs n.name) ns) s) }
     ensures rest { units.new ≡ with_notes units.old units.new.form.trace.notes }
 {
     let mut left = targets.len();
