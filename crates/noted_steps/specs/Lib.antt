@@ -1,2 +1,5 @@
-pub mod Noting
-pub mod Standing
+pub mod Noting  -- Expansion that notes what it asks
+pub mod Standing  -- What the scopes of the code and its notes stand for while a form is at work
+pub mod Stepped  -- What the operations make of a state of an expansion that notes, and of frames
+pub mod Outcomes  -- How a call of the expander ends while what is asked is noted
+pub mod Used  -- A macro use of which the comparisons are asked first (R7RS 4.3.2)
