@@ -11,7 +11,7 @@ use Rattle.scheme_model.specs.Steps.{Broken}
 use Rattle.scheme_model.specs.Order.{Here, Pending, Renamed, is_some, told}
 use Rattle.scheme_model.specs.Questions.{Outcome, Stands as stands_outcome, Redefines, StoodBefore, outcome_by}
 use Rattle.scheme_model.specs.Substitution.{Defined, Table, defined_in, unchanged}
-use Rattle.scheme_model.specs.ScopedExpansion.{Frames, FramedIdent, ScopedState, next_number, body_around, definition_added, is_defined}
+use Rattle.scheme_model.specs.ScopedExpansion.{Frames, FramedIdent, ScopedState, body_around, definition_added, is_defined}
 use Rattle.syntax_tree.specs.Names.{AreToldApart}
 use Rattle.syntax_tree.specs.Macros.{IsIdent}
 use Rattle.syntax_tree.specs.Meant.{IsMeaning}
@@ -42,7 +42,7 @@ use Rattle.unit_scopes.proofs.DefineLaws.{is_in_on}
 use Rattle.unit_scopes.proofs.OutcomeLaws.{same_itself}
 use Rattle.noted_steps.specs.Defined.{failed_as}
 use Rattle.noted_steps.specs.Kept.{SpotFor, GoesTo, EndsIn}
-use Rattle.noted_steps.specs.Noting.{Noting, state_of, with_state, refused, own_notes, ended, owned, define_by, define_noting}
+use Rattle.noted_steps.specs.Noting.{Noting, state_of, with_state, next_number, refused, own_notes, ended, owned, define_by, define_noting}
 use Rattle.noted_steps.specs.Outcomes.{Breaks}
 use Rattle.noted_steps.specs.Standing.{Stands, EditionsStand, with_notes}
 use Rattle.noted_steps.proofs.EditionLaws.{editions_beside, local_apart, global_apart, others_stay}
@@ -208,7 +208,7 @@ module _ (work : Work) (u v w : UnitScope) (ls : List Frames) (s : Noting) (spot
         (λ has. clash (sym none ∙ e.made n.name (ap (λ (k : ℕ). is_defined_in s.since.own k n.name) (sym e.since_unit) ∙ has)))
 
     made : (b : Bool) → spot.in_body ≡ b → IsIn work u ls (state_of s) spot.scope fs b → a ≡ false → c ≡ false → goes around → EndsIn (Same p) work u w ls spot fs (Ok tt) (noting_by around a c)
-    made false out h refused second g =
+    made false out h first_refused second g =
         let none : around ≡ None = ap body_around h.1 in
         let q = subst goes none g in
         let first : is_defined (state_of s) None n.name ≡ false = ap (λ (b : Option Number). is_defined (state_of s) b n.name) (sym none) ∙ second in
@@ -217,9 +217,9 @@ module _ (work : Work) (u v w : UnitScope) (ls : List Frames) (s : Noting) (spot
         let o = defined_as s.since fs n r (own_notes s p.notes) stands_outcome ++ s.noted in
         let stands = unit_stands work apart told_apart u v ls s name.ident n is.0 r fs e x o at_root q.stands
         (λ exact. noted s.since s.noted (is_some r) out (subst (λ (y : code_noting.Noting). NotingStands work.symbols y s.since s.noted) (sym notes) (e.notes exact)) (not_own first)) in
-        subst (λ (y : Result (Renamed Identifier FramedIdent) Broken × Noting). EndsIn (Same p) work u w ls spot fs (Ok tt) y) (λ j. noting_by (sym none j) (sym refused j) (sym second j))
+        subst (λ (y : Result (Renamed Identifier FramedIdent) Broken × Noting). EndsIn (Same p) work u w ls spot fs (Ok tt) y) (λ j. noting_by (sym none j) (sym first_refused j) (sym second j))
         (unchanged p, record { stands = subst (λ (y : UnitScope). Stands work y ls (in_unit work apart told_apart u v ls s name.ident n is.0 r fs e x o at_root)) (sym rest) stands; placed = spot_on work v w ls (definition_added None n r fs (state_of s)) spot fs rest q.placed; same = same_on u v w rest q.same }, refl, refl)
-    made true within h refused second g =
+    made true within h first_refused second g =
         let body : around ≡ Some h.body = ap body_around h.frames in
         let q = subst goes body g in
         let here_means : next_here u spot.in_body name.ident ≡ code.Local u.form.budget.locals = ap (λ (b : Bool). next_here u b name.ident) within in
@@ -227,7 +227,7 @@ module _ (work : Work) (u v w : UnitScope) (ls : List Frames) (s : Noting) (spot
         let means : model.Local (next_number s s.locals) ≡ model.Local (record { unit = s.unit; form = u.form.number; count = u.form.budget.locals }) = λ j. model.Local (record { unit = s.unit; form = sym e.form.number j; count = sym e.form.locals j }) in
         let same = inside within in
         subst (λ (x : UnitScope). EndsIn (Same p) work u x ls spot fs (Ok tt) (noting_by around a c)) (sym same)
-        (subst (λ (y : Result (Renamed Identifier FramedIdent) Broken × Noting). EndsIn (Same p) work u v ls spot fs (Ok tt) y) (λ j. noting_by (sym body j) (sym refused j) (sym second j))
+        (subst (λ (y : Result (Renamed Identifier FramedIdent) Broken × Noting). EndsIn (Same p) work u v ls spot fs (Ok tt) y) (λ j. noting_by (sym body j) (sym first_refused j) (sym second j))
         (unchanged p, record { stands = body_stands work apart told_apart u v ls s name.ident n is.0 r fs e h.body (code.Local u.form.budget.locals) tt means local q.stands notes; placed = q.placed; same = q.same }, refl, refl))
 
     pub made_ends : plain_define.EndsIn (Same p) work u v ls spot fs (Ok tt) (told here (define_searched around n r fs p (state_of s))) → EndsIn (Same p) work u w ls spot fs (Ok tt) (told here (define_noting around n r fs p s))
