@@ -14,3 +14,29 @@ pub look_at-requires : goal.look_at-requires
 look_at-requires c =
     let p = first_there c.args.work.now c.args.parts.now c.in-Some.head.now c.requires.0 c.in-Some.ensures.value c.requires.1 in
     (p.0, p.3)
+
+pub returns-in-Name : goal.returns-in-Name
+returns-in-Name c = λ ts stands.
+    let w = c.args.work.now in
+    let p = first_there w c.args.parts.now c.in-Some.head.now ts c.in-Some.ensures.value stands in
+    let l = c.in-Name.ensures.look p.0 p.3 in
+    let split = p.2 ∙ ap (λ (x : Tree Identifier). tree x p.1) l.2 in
+    c.connective_in.ensures ∙ (ap connective_named (c.name.ensures l.0 l.3) ∙ sym (ap word_named split))
+
+pub returns-in-Atom : goal.returns-in-Atom
+returns-in-Atom c = λ ts stands.
+    let p = first_there c.args.work.now c.args.parts.now c.in-Some.head.now ts c.in-Some.ensures.value stands in
+    let l = c.in-Atom.ensures.look p.0 p.3 in
+    sym (ap word_named (p.2 ∙ ap (λ (x : Tree Identifier). tree x p.1) l.2))
+
+pub returns-in-List : goal.returns-in-List
+returns-in-List c = λ ts stands.
+    let p = first_there c.args.work.now c.args.parts.now c.in-Some.head.now ts c.in-Some.ensures.value stands in
+    let l = c.in-List.ensures.look p.0 p.3 in
+    sym (ap word_named (p.2 ∙ ap (λ (x : Tree Identifier). tree x p.1) l.3))
+
+pub returns-in-Vector : goal.returns-in-Vector
+returns-in-Vector c = λ ts stands.
+    let p = first_there c.args.work.now c.args.parts.now c.in-Some.head.now ts c.in-Some.ensures.value stands in
+    let l = c.in-Vector.ensures.look p.0 p.3 in
+    sym (ap word_named (p.2 ∙ ap (λ (x : Tree Identifier). tree x p.1) l.2))
