@@ -29,14 +29,14 @@ use Rattle.noted_steps.proofs.AskedLaws.{asked_on}
 abbrev libraries : List LibraryName → List (Asked Frames Identifier)
 libraries ls = map Library ls
 
-libraries_both : (as bs : List LibraryName) → libraries as ++ libraries bs ≡ libraries (as ++ bs)
+libraries_both : (aa bs : List LibraryName) → libraries aa ++ libraries bs ≡ libraries (aa ++ bs)
 libraries_both [] bs = refl
-libraries_both (a ∷ as) bs = ap (λ (qs : List (Asked Frames Identifier)). Library a ∷ qs) (libraries_both as bs)
+libraries_both (a ∷ aa) bs = ap (λ (qs : List (Asked Frames Identifier)). Library a ∷ qs) (libraries_both aa bs)
 
 module _ (known : Known) (work : Work) (ls : List Frames) (s : Noting) where
-  names_on : (u : UnitScope) (as bs : List LibraryName) → Stands work u ls (names_asked known bs (names_asked known as s)) → Stands work u ls (names_asked known (as ++ bs) s)
-  names_on u as bs e =
-      subst (λ (qs : List (Asked Frames Identifier)). Stands work u ls ((noting known).ask qs s)) (libraries_both as bs) (asked_on known s work u ls (libraries as) (libraries bs) e)
+  names_on : (u : UnitScope) (aa bs : List LibraryName) → Stands work u ls (names_asked known bs (names_asked known aa s)) → Stands work u ls (names_asked known (aa ++ bs) s)
+  names_on u aa bs e =
+      subst (λ (qs : List (Asked Frames Identifier)). Stands work u ls ((noting known).ask qs s)) (libraries_both aa bs) (asked_on known s work u ls (libraries aa) (libraries bs) e)
 
   -- of all these some were asked, and some are left
   pub record NamesSoFar (u : UnitScope) (all left : List LibraryName) : Type 0 where

@@ -25,14 +25,14 @@ use Rattle.noted_steps.proofs.AskedLaws.{asked_on}
 abbrev headed : Frames → List Identifier → List (Asked Frames Identifier)
 headed fs is = map (Headed fs) is
 
-headed_both : (fs : Frames) (as bs : List Identifier) → headed fs as ++ headed fs bs ≡ headed fs (as ++ bs)
+headed_both : (fs : Frames) (aa bs : List Identifier) → headed fs aa ++ headed fs bs ≡ headed fs (aa ++ bs)
 headed_both fs [] bs = refl
-headed_both fs (a ∷ as) bs = ap (λ (qs : List (Asked Frames Identifier)). Headed fs a ∷ qs) (headed_both fs as bs)
+headed_both fs (a ∷ aa) bs = ap (λ (qs : List (Asked Frames Identifier)). Headed fs a ∷ qs) (headed_both fs aa bs)
 
 module _ (known : Known) (work : Work) (ls : List Frames) (fs : Frames) (s : Noting) where
-  heads_on : (u : UnitScope) (as bs : List Identifier) → Stands work u ls (heads_asked known fs bs (heads_asked known fs as s)) → Stands work u ls (heads_asked known fs (as ++ bs) s)
-  heads_on u as bs e =
-      subst (λ (qs : List (Asked Frames Identifier)). Stands work u ls ((noting known).ask qs s)) (headed_both fs as bs) (asked_on known s work u ls (headed fs as) (headed fs bs) e)
+  heads_on : (u : UnitScope) (aa bs : List Identifier) → Stands work u ls (heads_asked known fs bs (heads_asked known fs aa s)) → Stands work u ls (heads_asked known fs (aa ++ bs) s)
+  heads_on u aa bs e =
+      subst (λ (qs : List (Asked Frames Identifier)). Stands work u ls ((noting known).ask qs s)) (headed_both fs aa bs) (asked_on known s work u ls (headed fs aa) (headed fs bs) e)
 
   -- of all these some were asked, and some are left
   pub record HeadsSoFar (u : UnitScope) (all left : List Identifier) : Type 0 where

@@ -8,8 +8,8 @@ use Rattle.noted_steps.specs.Standing.{Stands}
 use Rattle.noted_steps.specs.declared.marks.Behind.{Behind}
 use Rattle.noted_steps.proofs.marks.note_first.Goals as goal
 
-pub note_mark-requires-clause-ident : goal.note_mark-requires-clause-ident
-note_mark-requires-clause-ident c =
+pub note_mark-keyword-requires-clause-ident : goal.note_mark-keyword-requires-clause-ident
+note_mark-keyword-requires-clause-ident c =
     let p = c.requires.part in
     let l = c.in-Name.ensures.look p.0 p.1 in
     slice_get_within c.args.work.now.symbols.idents c.in-Name.ident l.0 l.3

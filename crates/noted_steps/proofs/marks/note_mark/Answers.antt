@@ -11,8 +11,8 @@ use Rattle.noted_steps.specs.Noting.{state_of}
 use Rattle.noted_steps.proofs.NoteLaws.{plainly}
 use Rattle.noted_steps.proofs.marks.note_mark.Goals as goal
 
-pub target-requires-clause-ident : goal.target-requires-clause-ident
-target-requires-clause-ident c = subst (λ (x : NamePart). x.ident < length c.args.work.now.symbols.idents) (sym c.named.ensures) c.requires.ident
+pub target-target-requires-clause-ident : goal.target-target-requires-clause-ident
+target-target-requires-clause-ident c = subst (λ (x : NamePart). x.ident < length c.args.work.now.symbols.idents) (sym c.named.ensures) c.requires.ident
 
 pub head_by-requires : goal.head_by-requires
 head_by-requires c =
