@@ -68,11 +68,12 @@ module _ (old new : Work) (region : Region) (u v : UnitScope) (ls : List Frames)
   plain_here P (Err fault.Full) p h = h
   plain_here P (Err fault.Memory) p h = h
 
-pub plain_moves : (old new : Work) (region : Region) (u v : UnitScope) (ls : List Frames) (t : Noting) → Moves old new region u v ls t → plain.Moves old new region u v ls (state_of t)
+unfoldable pub plain_moves : (old new : Work) (region : Region) (u v : UnitScope) (ls : List Frames) (t : Noting) → Moves old new region u v ls t → plain.Moves old new region u v ls (state_of t)
 plain_moves old new region u v ls t h = record { layout = h.layout; kept = h.kept; stays = plain_stays old new region u v h.layout t h.stays }
 
 pub plain_ends : {X Y : Type 0} (P : List Frames → X → Y → Type 0) (old new : Work) (region : Region) (u v : UnitScope) (ls : List Frames) (r : Result X ExpandFault) (p : Result Y Broken × Noting) → Ends P old new region u v ls r p →
     plain.Ends P old new region u v ls r (unnoted p)
+unfolding plain_moves
 plain_ends P old new region u v ls (Ok x) p h = (h.0, plain_moves old new region u v ls p.1 h.1, h.2, h.3)
 plain_ends P old new region u v ls (Err (fault.At f)) p h = (plain_moves old new region u v ls p.1 h.0, h.1)
 plain_ends P old new region u v ls (Err fault.Full) p h = h

@@ -127,8 +127,13 @@ module _ (known : Known) (here : Here) (t : Tree Ident) (r : RulesParts Ident) (
   abbrev RulesBeside : (Result (Rules Ident) Broken × Noting) → Rules_plain → Type 0
   RulesBeside q p = (q ≡ (p.0, with_state s p.1)) × (p.1.table ≡ s.table) × (p.1.macros ≡ s.macros)
 
-  by_count : (b : Bool) (o : Result (Rules Ident) (Fault Ident)) →
-      RulesBeside (cond b (done tt ((noting known).spend (tree_size t) s)) (fails here NodeBudget s) >>= λ done. given (λ i. i) here o) (cond b (done tt ((searched known).spend (tree_size t) (state_of s))) (fails here NodeBudget (state_of s)) >>= λ done. given (λ i. i) here o)
+  abbrev noted_count : Bool → Result (Unit {0}) Broken × Noting
+  noted_count b = cond b (done tt ((noting known).spend (tree_size t) s)) (fails here NodeBudget s)
+
+  abbrev plain_count : Bool → Result (Unit {0}) Broken × ScopedState
+  plain_count b = cond b (done tt ((searched known).spend (tree_size t) (state_of s))) (fails here NodeBudget (state_of s))
+
+  by_count : (b : Bool) (o : Result (Rules Ident) (Fault Ident)) → RulesBeside (noted_count b >>= λ done. given (λ i. i) here o) (plain_count b >>= λ done. given (λ i. i) here o)
   by_count true (Ok x) = (refl, refl, refl)
   by_count true (Err e) = (refl, refl, refl)
   by_count false o = (refl, refl, refl)

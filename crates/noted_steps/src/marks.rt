@@ -41,10 +41,13 @@ pub fn note_marks(units: &mut UnitScope, work: &Work, scope: ScopeNo, form: Tree
         At ls scope fs → StandsFor work.now form (list (tree head ts) tail o) → Stands work.now units.new ls (marks_asked known fs ts tail s) }
     ensures rest { units.new ≡ with_notes units.old units.new.form.trace.notes }
 {
-    if let Some(datum) = operand(work, form) {
-        let depth = work.depth(datum);
-        let _size = work.size(datum);
-        note_datum(units, work, scope, datum, 0, depth);
+    match operand(work, form) {
+        None => {}
+        Some(datum) => {
+            let depth = work.depth(datum);
+            let _size = work.size(datum);
+            note_datum(units, work, scope, datum, 0, depth);
+        }
     }
 }
 
@@ -170,7 +173,7 @@ fn note_first(
     match look_at(work, part) {
         Look::Name(ident) => {
             let keyword = note_mark(units, work, scope, ident);
-            behind(keyword, level)
+            level_behind(keyword, level)
         }
         Look::Atom(_) => Behind::Level(level),
         Look::List(_, _) => Behind::Level(level),
@@ -200,7 +203,7 @@ fn note_mark(
 }
 
 /// What comes behind what marks this.
-fn behind(keyword: Option<CoreKeyword>, level: u32) -> Behind
+fn level_behind(keyword: Option<CoreKeyword>, level: u32) -> Behind
     requires { level + 1 < 2 ^ 32 }
     ensures behind { (m : Option Mark) → keyword ≡ mark_word m → result ≡ behind_by m level }
     ensures near { IsNear level result }
