@@ -108,6 +108,13 @@ impl Env {
         })
     }
 
+    /// How many scopes there are.
+    pub fn count(&self) -> usize
+        ensures { result ≡ length self.now.scopes }
+    {
+        self.scopes.len()
+    }
+
     /// Opens the own scope of a unit that has none yet. It binds nothing, and no scope is around it.
     pub fn root(&mut self, unit: u32) -> Mem<ScopeNo>
         requires { get self.old.roots unit ≡ None }

@@ -99,7 +99,7 @@ found_again None (Some l) h = absurd cc
 found_again (Some k) None h = absurd h
 found_again (Some k) (Some l) h = h
 
-pub macros_again : (ms ns : Macros) → ((k : ℕ × ℕ) → SameIfAny (get pair_cmp ms.locals k) (get pair_cmp ns.locals k)) → ((k : ℕ × ℕ) → SameIfAny (get pair_cmp ms.globals k) (get pair_cmp ns.globals k)) → ((k : ℕ) → SameIfAny (get nat_cmp ms.standards k) (get nat_cmp ns.standards k)) → SameMacros ms ns
+pub macros_again : (ms ns : Macros) → ((k : ℕ × ℕ) → SameIfAny (get pair_cmp ms.locals k) (get pair_cmp ns.locals k)) → ((k : ℕ × ℕ) → SameIfAny (get pair_cmp ms.globals.all k) (get pair_cmp ns.globals.all k)) → ((k : ℕ) → SameIfAny (get nat_cmp ms.standards k) (get nat_cmp ns.standards k)) → SameMacros ms ns
 macros_again ms ns locals globals standards form (Local n) = locals (form, n)
 macros_again ms ns locals globals standards form (Global u i) = globals (u, i)
 macros_again ms ns locals globals standards form (Standard x) = standards x

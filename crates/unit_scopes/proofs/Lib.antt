@@ -39,3 +39,5 @@ pub mod UseSizes  -- A use gives a tree of at most 4,194,304 nodes
 pub mod SyntaxLaws  -- The rules of macros where they are defined, by what the code was told
 pub mod CoreStandLaws  -- What stood for a core, a part, a clause or what was set aside in a work still does in one that grew
 pub mod FreshLaws  -- A unit that was begun just now
+pub mod WithinLaws  -- Notes and macros are in scopes that are no newer than one
+pub mod ForgottenLaws  -- Units stand for the same once what is local to their forms is forgotten, without what was local

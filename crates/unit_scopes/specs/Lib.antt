@@ -17,3 +17,5 @@ pub mod Opened  -- What a unit begins with, in the definition and in the code (R
 pub mod Preluded  -- The prelude's unit (R7RS 4.2, 7.3)
 pub mod Copied  -- Units that are copied
 pub mod Others  -- What a step of a form leaves of the forms beside it
+pub mod Within  -- Notes and macros in scopes that are no newer than one
+pub mod Forgotten  -- What is local to the forms of units, and is forgotten between two of them (R7RS 4.3, 5.3)

@@ -5,6 +5,7 @@ ghost use Rattle.syntax_tree.specs.declared.meaning.Meaning.{Meaning as AnyMeani
 ghost use Rattle.unit_scopes.specs.Copied.{SameMacros};
 ghost use Rattle.unit_scopes.specs.Macros.{macro_in, IsBound, Keeps};
 
+use crate::unit_macros::UnitMacros;
 use ls_base::{Items, Mem};
 use rules_check::RuleLeaf;
 use scope_env::ScopeNo;
@@ -12,7 +13,7 @@ use std::alloc::{AllocError, Global};
 use std::collections::BTreeMap;
 use syntax_tree::meaning::Meaning;
 use syntax_tree::rules::Rules;
-use syntax_tree::symbols::{IdNo, SymNo};
+use syntax_tree::symbols::SymNo;
 
 /// A macro: the scope in which it was defined, its rules, and their leaves.
 #[derive(Drop)]
@@ -44,7 +45,7 @@ impl Clone for Macro {
 #[derive(Drop)]
 pub struct Macros {
     pub locals: BTreeMap<(u32, u64), Macro>,
-    pub globals: BTreeMap<(u32, IdNo), Macro>,
+    pub globals: UnitMacros,
     pub standards: BTreeMap<SymNo, Macro>,
 }
 
@@ -55,7 +56,7 @@ impl Macros {
     {
         Macros {
             locals: BTreeMap::new(alloc),
-            globals: BTreeMap::new(alloc),
+            globals: UnitMacros::new(alloc),
             standards: BTreeMap::new(alloc),
         }
     }
@@ -66,7 +67,7 @@ impl Macros {
     {
         match meaning {
             Meaning::Local(number) => self.locals.get(&(form, number)),
-            Meaning::Global { unit, ident } => self.globals.get(&(unit, ident)),
+            Meaning::Global { unit, ident } => self.globals.get(unit, ident),
             Meaning::Standard(symbol) => self.standards.get(&symbol),
             Meaning::Free(_) => None,
         }
@@ -78,7 +79,7 @@ impl Macros {
     {
         Ok(Macros {
             locals: self.locals.clone()?,
-            globals: self.globals.clone()?,
+            globals: self.globals.copy()?,
             standards: self.standards.clone()?,
         })
     }
@@ -94,7 +95,7 @@ impl Macros {
                 self.locals.insert((form, number), kept)?;
             }
             Meaning::Global { unit, ident } => {
-                self.globals.insert((unit, ident), kept)?;
+                self.globals.insert(unit, ident, kept)?;
             }
             Meaning::Standard(symbol) => {
                 self.standards.insert(symbol, kept)?;

@@ -40,6 +40,7 @@ impl UnitScope {
         ensures rests { HasUnits work.old self.old [] nothing_yet → ImportsFor work.old.symbols imports.now standard_names →
             OnOk result (UnitStands work.new self.new ([] ∷ []) prelude_begun []) }
         ensures others { (v : ℕ) → (v ≡ prelude_unit → ⊥) → IsNew self.old v → OnOk result (IsNew self.new v) }
+        ensures own { AllOwn self.old → OnOk result (OwnFirst self.new × AllOwn self.new) }
         ensures trees { work.new.trees ≡ work.old.trees }
         ensures symbols { work.new.symbols.symbols ≡ work.old.symbols.symbols }
         ensures names { KeepsNames work.old.symbols work.new.symbols }
