@@ -265,10 +265,11 @@ module _ (work : Work) (u : UnitScope) (ns : Macros) (b : Asked) (sound : IsSoun
         };
       }
 
-  pub own_forgotten : OwnFirst forgotten
+module _ (u : UnitScope) (ns : Macros) (b : Asked) (own : OwnFirst u) where
+  pub own_forgotten : OwnFirst (without_local_scopes u ns b)
   own_forgotten = record { older = own.older; newest = own.newest }
 
-  pub all_forgotten : AllOwn forgotten
+  pub all_forgotten : AllOwn (without_local_scopes u ns b)
   all_forgotten n within =
       let counted : length (take (u.root + 1) u.env.scopes) ≡ min (u.root + 1) (length u.env.scopes) = length-take (u.root + 1) u.env.scopes in
       own.older n (omega (arith, within, counted))
@@ -313,3 +314,11 @@ module _ (u : UnitScope) (unit : ℕ) (sound : IsSound u.env) (new : map_of.get 
             | inl same ↦ let e : next ≡ n = same_Some next n (sym same.1 ∙ there) in omega (arith, e, root)
             | inr other ↦ let o = sound.roots v n (sym other ∙ there) in let lt : n < next = slice_get_within u.env.scopes n o.scope o.there in omega (arith, lt, root)
           ]
+
+-- ---- the open unit's own scope
+
+pub root_there : (u : UnitScope) → IsSound u.env → OwnFirst u → u.root < length u.env.scopes
+root_there u sound own =
+    let v = own.older u.root (omega arith) in
+    let o = sound.roots v.0 u.root v.1 in
+    slice_get_within u.env.scopes u.root o.scope o.there

@@ -23,7 +23,6 @@ pub mod OutcomeLaws  -- How steps follow one another
 pub mod OpenedStand  -- A unit is begun
 pub mod ImportLaws  -- The imports of a unit, bound one after another, and the unit once all are bound
 pub mod RestLaws  -- Between two calls, when no form is at work
-pub mod CopyLaws  -- A copy of units stands for what they stand for
 pub mod NodeLaws  -- A core node that begins, and nodes that are counted
 pub mod SearchedNotes  -- The notes that speak of an identifier, by their numbers
 pub mod DefineLaws  -- A definition where forms are gone through

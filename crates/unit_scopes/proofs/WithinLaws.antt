@@ -1,9 +1,11 @@
 -- Notes and macros are in scopes that are no newer than one: once they were put there, as one more comes, and as they are copied.
-use Rattle.std.proofs.Common.{◌≡◌, ℕ, zero, suc, ◌≤◌, List, [], ◌∷◌, ◌++◌, map, Bool, true, false, cond, min, max, slice_get, Option, Some, None, inl, inr, refl, sym, ap, ◌∙◌, subst, arith}
+use Rattle.std.proofs.Common.{◌≡◌, ℕ, zero, suc, ◌≤◌, List, [], ◌∷◌, ◌++◌, map, Bool, true, false, cond, min, max, take, drop, length, slice_get, Result, Ok, Err, OnOk, OnErr, Option, Some, None, inl, inr, refl, sym, ap, ◌∙◌, subst, arith}
 use Rattle.std.specs.Option.{option_map}
+use Rattle.std.specs.BTreeMap.{BTreeMap, is_at, get, Updates, IsUnchanged}
+use Rattle.std.specs.Map.{lookup}
 use Rattle.std.proofs.lemmas.Option.{same_Some}
+use Rattle.rules_match.specs.Found.{pair_cmp}
 use Rattle.syntax_tree.proofs.Places.{none_some, push_cases, map_get}
-use Rattle.unit_scopes.specs.Copied.{SameIfAny}
 use Rattle.unit_scopes.specs.Within.{newest_of, place_within, note_within, macro_within}
 use Rattle.unit_scopes.specs.declared.asked.Asking.{Asking}
 use Rattle.unit_scopes.specs.declared.asked.Note.{Note}
@@ -64,11 +66,17 @@ pub macro_more_fits : (o p : Option Macro) (b : Bool) (kept : Macro) (before aft
 macro_more_fits o p true kept before after is fits le all k there = subst (λ (x : Macro). x.scope ≤ after) (same_Some kept k (sym is ∙ there)) fits
 macro_more_fits o p false kept before after is fits le all k there = let h = all k (sym is ∙ there) in omega (arith, h, le)
 
-pub macro_copy_fits : (o p : Option Macro) (newest : ℕ) → SameIfAny o p → ((k : Macro) → o ≡ Some k → k.scope ≤ newest) → (k : Macro) → p ≡ Some k → k.scope ≤ newest
-macro_copy_fits None None newest same all k there = none_some k there
-macro_copy_fits None (Some l) newest same all k there = absurd same
-macro_copy_fits (Some m) None newest same all k there = none_some k there
-macro_copy_fits (Some m) (Some l) newest same all k there =
-    let h = all m refl in
-    let s = same.scope in
-    subst (λ (x : Macro). x.scope ≤ newest) (same_Some l k there) (omega (arith, h, s))
+pub macro_put_fits : {V E : Type 0} (r : Result V E) (m n : BTreeMap (ℕ × ℕ) Macro) (key : ℕ × ℕ) (kept : Macro) (before after : ℕ) → OnOk r (Updates pair_cmp m n key (Some kept)) → OnErr r (IsUnchanged m n) → kept.scope ≤ after → before ≤ after →
+    ((u i : ℕ) (k : Macro) → get pair_cmp m (u, i) ≡ Some k → k.scope ≤ before) → (u i : ℕ) (k : Macro) → get pair_cmp n (u, i) ≡ Some k → k.scope ≤ after
+macro_put_fits (Ok v) m n key kept before after updates same fits le all u i k there = macro_more_fits (get pair_cmp m (u, i)) (get pair_cmp n (u, i)) (is_at (pair_cmp key) (u, i)) kept before after (updates.0 (u, i)) fits le (all u i) k there
+macro_put_fits (Err e) m n key kept before after updates same fits le all u i k there = let h = all u i k (sym (ap (lookup (is_at (pair_cmp (u, i)))) same) ∙ there) in omega (arith, h, le)
+
+-- ---- lists that are written over
+
+pub whole_slice : {A : Type 0} (len : ℕ) (new old : List A) → length new ≡ length old → len ≡ length old → take len (new ++ drop (length new) old) ≡ new
+whole_slice zero [] [] same all = refl
+whole_slice (suc n) [] [] same all = refl
+whole_slice len [] (y ∷ old) same all = absurd (omega (arith, same))
+whole_slice len (x ∷ new) [] same all = absurd (omega (arith, same))
+whole_slice zero (x ∷ new) (y ∷ old) same all = absurd (omega (arith, all))
+whole_slice (suc n) (x ∷ new) (y ∷ old) same all = ap (λ zs. x ∷ zs) (whole_slice n new old (omega (arith, same)) (omega (arith, all)))

@@ -110,19 +110,6 @@ impl Asked {
         }
     }
 
-    /// The same notes once more.
-    pub fn copy(&self) -> Mem<Asked>
-        ensures notes { IfOk result (λ asked. asked.notes.items ≡ self.now.notes.items) }
-        ensures asking { IfOk result (λ asked. (n : ℕ) → numbers_in asked n ≡ numbers_in self.now n) }
-    {
-        Ok(Asked {
-            alloc: self.alloc,
-            notes: Vec::from_slice(self.alloc, self.notes.as_slice())?,
-            asking: self.asking.clone()?,
-            newest: self.newest,
-        })
-    }
-
     /// Adds a note.
     pub fn push(&mut self, symbols: &Symbols, note: Note) -> Mem<()>
         requires { AreWithin symbols.now (idents_of note) }

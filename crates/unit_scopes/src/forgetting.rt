@@ -4,7 +4,7 @@ ghost use Rattle.std.specs.Prelude.{◌≡◌, ℕ, ◌+◌, List, None, take, m
 ghost use Rattle.std.specs.Option.{option_map};
 ghost use Rattle.scheme_model.specs.Order.{Note};
 ghost use Rattle.scheme_model.specs.ScopedExpansion.{Frames, FramedIdent, ScopedState};
-ghost use Rattle.syntax_tree.specs.declared.meaning.Meaning.TheVariants.{Local, Global, Standard};
+ghost use Rattle.syntax_tree.specs.declared.meaning.Meaning.TheVariants as meanings;
 ghost use Rattle.syntax_tree.specs.declared.trees.Work.{Work as AnyWork};
 ghost use Rattle.unit_scopes.specs.Forgotten.{ForgetsLocals, MacrosAtRoot, AreAtRoot, AllOwn, OwnFirst, without_local_scopes};
 ghost use Rattle.unit_scopes.specs.Macros.{macro_in};
@@ -20,9 +20,9 @@ use std::collections::BTreeMap;
 impl Macros {
     /// Forgets the local macros. Others of newer scopes than this one are from now on of this one.
     pub(crate) fn forget_locals(&mut self, alloc: Global, last: ScopeNo)
-        ensures locals { (f n : ℕ) → macro_in self.new f (Local n) ≡ None }
-        ensures globals { (f u i : ℕ) → macro_in self.new f (Global u i) ≡ option_map (macro_within last) (macro_in self.old f (Global u i)) }
-        ensures standards { (f s : ℕ) → macro_in self.new f (Standard s) ≡ option_map (macro_within last) (macro_in self.old f (Standard s)) }
+        ensures locals { (f n : ℕ) → macro_in self.new f (meanings.Local n) ≡ None }
+        ensures globals { (f u i : ℕ) → macro_in self.new f (meanings.Global u i) ≡ option_map (macro_within last) (macro_in self.old f (meanings.Global u i)) }
+        ensures standards { (f s : ℕ) → macro_in self.new f (meanings.Standard s) ≡ option_map (macro_within last) (macro_in self.old f (meanings.Standard s)) }
     {
         self.locals = BTreeMap::new(alloc);
         self.globals.keep_within(last);

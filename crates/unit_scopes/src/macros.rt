@@ -2,14 +2,13 @@
 ghost use Rattle.std.specs.Prelude.{◌≡◌, ℕ, None, IfOk, OnOk, OnErr};
 ghost use Rattle.std.specs.Option.{option_copied};
 ghost use Rattle.syntax_tree.specs.declared.meaning.Meaning.{Meaning as AnyMeaning};
-ghost use Rattle.unit_scopes.specs.Copied.{SameMacros};
 ghost use Rattle.unit_scopes.specs.Macros.{macro_in, IsBound, Keeps};
 
 use crate::unit_macros::UnitMacros;
 use ls_base::{Items, Mem};
 use rules_check::RuleLeaf;
 use scope_env::ScopeNo;
-use std::alloc::{AllocError, Global};
+use std::alloc::Global;
 use std::collections::BTreeMap;
 use syntax_tree::meaning::Meaning;
 use syntax_tree::rules::Rules;
@@ -21,24 +20,6 @@ pub struct Macro {
     pub scope: ScopeNo,
     pub rules: Rules,
     pub leaves: Vec<RuleLeaf>,
-}
-
-impl Clone for Macro {
-    ghost use Rattle.unit_scopes.specs.Copied.{SameMacro};
-
-    ghost is_clone = { SameMacro };
-
-    fn clone(&self) -> Result<Macro, AllocError> {
-        let alloc = *self.leaves.allocator();
-        let Ok(rules) = copy_rules(alloc, &self.rules) else {
-            return Err(AllocError);
-        };
-        Ok(Macro {
-            scope: self.scope,
-            rules,
-            leaves: Vec::from_slice(alloc, self.leaves.as_slice())?,
-        })
-    }
 }
 
 /// All macros: the open unit's local ones by form and number, those that units define, and the standard ones.
@@ -71,17 +52,6 @@ impl Macros {
             Meaning::Standard(symbol) => self.standards.get(&symbol),
             Meaning::Free(_) => None,
         }
-    }
-
-    /// The same macros once more.
-    pub fn copy(&self) -> Mem<Macros>
-        ensures { IfOk result (SameMacros self.now) }
-    {
-        Ok(Macros {
-            locals: self.locals.clone()?,
-            globals: self.globals.copy()?,
-            standards: self.standards.clone()?,
-        })
     }
 
     /// Keeps a macro as what means this in a form. Nothing free means a macro.

@@ -22,7 +22,6 @@ pub struct UnitMacros {
 }
 
 impl UnitMacros {
-    ghost use Rattle.unit_scopes.specs.Copied.{SameIfAny};
     ghost use Rattle.unit_scopes.specs.Within.{macro_within};
 
     /// No macros, which takes no memory.
@@ -33,16 +32,6 @@ impl UnitMacros {
             all: BTreeMap::new(alloc),
             newest: 0,
         }
-    }
-
-    /// The same macros once more.
-    pub fn copy(&self) -> Mem<UnitMacros>
-        ensures { IfOk result (λ copy. (q : ℕ × ℕ) → SameIfAny (get pair_cmp self.now.all q) (get pair_cmp copy.all q)) }
-    {
-        Ok(UnitMacros {
-            all: self.all.clone()?,
-            newest: self.newest,
-        })
     }
 
     /// The macro that a unit defines as this identifier, where it does.
