@@ -17,8 +17,8 @@ use Rattle.scheme_model.specs.Ident.{Ident as Identifier}
 use Rattle.scheme_model.specs.Meaning as model
 use Rattle.scheme_model.specs.Order.{Note, LookedUp, Compared, Transformer, is_some}
 use Rattle.scheme_model.specs.Scopes.{Uses, Own, defined_or}
-use Rattle.scheme_model.specs.Substitution.{Defined, Table, Entries, defined_in, definition_count}
-use Rattle.scheme_model.specs.ScopedExpansion.{Frame, Frames, FramedIdent, BodyDefinitions, UsePlace, ScopedState, around, macro_at}
+use Rattle.scheme_model.specs.Substitution.{Defined, defined_in, definition_count}
+use Rattle.scheme_model.specs.ScopedExpansion.{Frames, FramedIdent, BodyDefinitions, UsePlace, ScopedState, around, macro_at}
 use Rattle.syntax_tree.specs.Names.{Names}
 use Rattle.syntax_tree.specs.Meant.{IsMeaning}
 use Rattle.syntax_tree.specs.declared.meaning.Meaning.{Meaning}
@@ -31,11 +31,11 @@ use Rattle.scope_env.specs.Standing.{EnvFor, StandsFor}
 use Rattle.scope_env.specs.Moved.{parent_of, AreNamed, AreGivenNamed}
 use Rattle.scope_env.proofs.Forgotten.{scope_forgotten, env_forgotten}
 use Rattle.unit_scopes.specs.Asks.{idents_of, asked_by, asked_from, items_of, numbers_in, AreKnown, AreNotesKnown, AskedStands}
-use Rattle.unit_scopes.specs.Chains.{chain_of, chain_in, uses_in, given_in, imported_in}
+use Rattle.unit_scopes.specs.Chains.{chain_in, uses_in, given_in, imported_in}
 use Rattle.unit_scopes.specs.Forgotten.{is_local, ForgetsLocals, MacrosAtRoot, IsAtRoot, AreAtRoot, AllOwn, OwnFirst, without_local_scopes}
-use Rattle.unit_scopes.specs.Kept.{PlaceFor, NoteFor, NotesFor}
+use Rattle.unit_scopes.specs.Kept.{PlaceFor, NoteFor}
 use Rattle.unit_scopes.specs.Macros.{macro_in}
-use Rattle.unit_scopes.specs.State.{AreBegun, HasBegun, BodiesBegun, AreEntered, AreDefined, EnvStands, IsMacroIfAny, MacrosStand, Rests}
+use Rattle.unit_scopes.specs.State.{AreBegun, BodiesBegun, AreEntered, AreDefined, EnvStands, IsMacroIfAny, MacrosStand}
 use Rattle.unit_scopes.specs.Units.{UnitStands}
 use Rattle.unit_scopes.specs.Within.{place_within, note_within, macro_within}
 use Rattle.unit_scopes.specs.declared.asked.Asked.{Asked}

@@ -1,5 +1,5 @@
 -- Notes and macros are in scopes that are no newer than one: once they were put there, as one more comes, and as they are copied.
-use Rattle.std.proofs.Common.{◌≡◌, ℕ, zero, suc, ◌≤◌, List, [], ◌∷◌, ◌++◌, map, Bool, true, false, cond, min, max, take, drop, length, slice_get, Result, Ok, Err, OnOk, OnErr, Option, Some, None, inl, inr, refl, sym, ap, ◌∙◌, subst, arith}
+use Rattle.std.proofs.Common.{◌≡◌, ℕ, zero, suc, ◌≤◌, List, [], ◌∷◌, ◌++◌, map, Bool, true, false, cond, min, take, drop, length, slice_get, Result, Ok, Err, OnOk, OnErr, Option, Some, None, inl, inr, refl, sym, ap, ◌∙◌, subst, arith}
 use Rattle.std.specs.Option.{option_map}
 use Rattle.std.specs.BTreeMap.{BTreeMap, is_at, get, Updates, IsUnchanged}
 use Rattle.std.specs.Map.{lookup}

@@ -15,6 +15,7 @@ ghost use Rattle.syntax_tree.specs.Macros.{identifiers, RulesFor};
 ghost use Rattle.syntax_tree.specs.Meant.{IsSymbol};
 ghost use Rattle.syntax_tree.specs.Names.{KeepsNames};
 ghost use Rattle.rules_check.specs.Gathered.{AreUnplaced};
+ghost use Rattle.unit_scopes.specs.Forgotten.{AllOwn, OwnFirst};
 ghost use Rattle.unit_scopes.specs.Opened.{IsNew, AreNumbered, ImportsFor, HasUnits, nothing_yet, started};
 ghost use Rattle.unit_scopes.specs.Preluded.{standard_names, prelude_begun, prelude_with, prelude_state, IsPrelude, CanAdd, Continues, AddsMacro};
 ghost use Rattle.unit_scopes.specs.Units.{UnitStands};

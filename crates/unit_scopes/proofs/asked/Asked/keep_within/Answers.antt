@@ -1,4 +1,5 @@
-use Rattle.std.proofs.Common.{◌≡◌, List, ◌++◌, map, take, drop, length, slice_get, Some, ap, ◌∙◌, subst, arith, length-map}
+use Rattle.std.proofs.Common.{◌≡◌, List, ◌++◌, map, take, drop, length, slice_get, Some, ap, ◌∙◌, subst, arith}
+use Rattle.std.proofs.lemmas.List.{length-map}
 use Rattle.unit_scopes.specs.Within.{note_within}
 use Rattle.unit_scopes.specs.declared.asked.Note.{Note}
 use Rattle.unit_scopes.proofs.WithinLaws.{notes_fit, notes_same, whole_slice}
@@ -14,5 +15,5 @@ invariant_of-self c =
     let old = c.args.self.now.notes in
     let new = c.all_within.new.notes in
     let is : new ≡ map (note_within c.args.last) old.items = c.all_within.ensures ∙ ap (map (note_within c.args.last)) c.as_mut_slice.ensures.value in
-    let whole : take old.len (new ++ drop (length new) old.items) ≡ new = whole_slice old.len new old.items (ap length is ∙ length-map (note_within c.args.last) old.items) (omega (arith, old.ok.0)) in
+    let whole : take old.len (new ++ drop (length new) old.items) ≡ new = whole_slice old.len new old.items (ap length is ∙ length-map old.items (note_within c.args.last)) (omega (arith, old.ok.0)) in
     record { within = λ n note there. notes_fit c.args.last old.items n note (subst (λ (xs : List Note). slice_get xs n ≡ Some note) (whole ∙ is) there) }
