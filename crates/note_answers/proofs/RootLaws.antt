@@ -1,5 +1,8 @@
 -- What identifiers mean outside of all forms, by the code's scopes, and whether it is what a note tells.
-use Rattle.std.proofs.Common.{◌≡◌, ◌↔◌, ℕ, List, [], ◌∷◌, Bool, true, false, Option, Some, None, refl, sym, ap, ◌∙◌, subst}
+use Rattle.std.proofs.Common.{◌≡◌, ◌↔◌, ◌&&◌, ℕ, List, [], ◌∷◌, Bool, true, false, Option, Some, None, refl, sym, ap, ◌∙◌, subst}
+use Rattle.std.specs.BTreeMap.{get}
+use Rattle.std.specs.Option as std
+use Rattle.std.specs.Ordering.{nat_cmp}
 use Rattle.std.proofs.lemmas.Option.{same_Some, slice_get_within}
 use Rattle.scheme_model.specs.Identifiers.{Number}
 use Rattle.scheme_model.specs.Ident.{Ident, Written, Inserted}
@@ -7,10 +10,11 @@ use Rattle.scheme_model.specs.Meaning.{of_form}
 use Rattle.scheme_model.specs.Meaning as model
 use Rattle.scheme_model.specs.Order.{Transformer, is_some}
 use Rattle.scheme_model.specs.OwnAnswers.{root_means}
-use Rattle.scheme_model.specs.Questions.{Answer, Means, Expands, Says, Ends}
+use Rattle.scheme_model.specs.RulesShape.{option_map}
+use Rattle.scheme_model.specs.Questions.{Around, Question, LooksUp, UsesRules, Answer, Means, Expands, Says, Ends, bare_macro}
 use Rattle.scheme_model.specs.Scopes.{given_or, defined_or, own_of, means}
-use Rattle.scheme_model.specs.Substitution.{Defined, Table, Entries, defined_in}
-use Rattle.scheme_model.specs.ScopedExpansion.{Frames, UsePlace, BodyDefinitions, ScopedState, around, means_inside, means_outside, macro_at}
+use Rattle.scheme_model.specs.Substitution.{Defined, Table, Entries, defined_in, is_variable}
+use Rattle.scheme_model.specs.ScopedExpansion.{Frames, UsePlace, BodyDefinitions, ScopedState, around, means_inside, means_outside, macro_at, assigned}
 use Rattle.syntax_tree.specs.Names.{Names, AreToldApart}
 use Rattle.syntax_tree.specs.Macros.{IsIdent}
 use Rattle.syntax_tree.specs.Meant.{IsSymbol, IsMeaning}
@@ -18,10 +22,15 @@ use Rattle.syntax_tree.specs.declared.meaning.Meaning.{Meaning}
 use Rattle.syntax_tree.specs.declared.meaning.Meaning.TheVariants as code
 use Rattle.syntax_tree.specs.declared.trees.Work.{Work}
 use Rattle.form_laws.specs.Begins.{IsEntry}
-use Rattle.form_notes.specs.Noted.{is_local}
+use Rattle.form_notes.specs.Noted.{Since, is_local}
+use Rattle.form_notes.specs.declared.notes.Question.TheVariants as questions
 use Rattle.unit_scopes.specs.Chains.{chain_in, uses_in, given_in}
-use Rattle.unit_scopes.specs.State.{IsMacroIfAny}
+use Rattle.unit_scopes.specs.State.{IsMacroIfAny, Rests, is_program}
+use Rattle.unit_scopes.specs.Macros.{edition_in}
 use Rattle.unit_scopes.specs.declared.macros.Macro.{Macro}
+use Rattle.unit_scopes.specs.declared.macros.Macros.{Macros}
+use Rattle.unit_scopes.specs.declared.scope.UnitScope.{UnitScope}
+use Rattle.note_answers.specs.Answered.{answer_now, CanAsk, KeepsEdition, variable_by}
 use Rattle.unit_scopes.proofs.ChainLaws.{chain_means}
 
 true_false : true ≡ false → ⊥
@@ -189,3 +198,39 @@ macro_there work ls None None h = refl
 macro_there work ls None (Some m) h = absurd h
 macro_there work ls (Some k) None h = absurd h
 macro_there work ls (Some k) (Some m) h = refl
+
+-- ---- definitions of the unit
+
+variable_is : (o : Option Defined) → variable_by (std.option_map (λ (d : Defined). d.keyword) o) ≡ is_variable o
+variable_is None = refl
+variable_is (Some d) = refl
+
+pub assigned_is : (work : Work) (u : UnitScope) (ls : List Frames) (s : ScopedState) (ident : ℕ) (i : Ident) (program result : Bool) → Rests work u ls s → IsIdent work.symbols ident i → is_program u.kind ≡ program →
+    result ≡ (program && variable_by (get nat_cmp u.defined ident)) → result ≡ assigned s None i
+assigned_is work u ls s ident i program result e is kind h =
+    h ∙ (λ j. (sym kind ∙ e.program) j && (ap variable_by (e.defined ident i is) ∙ variable_is (defined_in s.table s.unit i)) j)
+
+-- ---- one note
+
+pub means_arm : (P : Type 0) (l m : model.Meaning) (c d : Meaning) (j k : Bool) → P ↔ ((c ≡ d) × (j ≡ k)) → ((c ≡ d) ↔ (l ≡ m)) → P ↔ (Means l j ≡ Means m k)
+means_arm P l m c d j k told same = (λ p. let h = told.0 p in (means_same l m j k).1 (same.0 h.0, h.1), λ e. let h = (means_same l m j k).0 e in told.1 (same.1 h.0, h.1))
+
+pub says_arm : (P : Type 0) (a : Answer) (r b : Bool) → a ≡ Says r → P ↔ (r ≡ b) → P ↔ (a ≡ Says b)
+says_arm P a r b is same = (λ p. is ∙ ap Says (same.0 p), λ e. same.1 ((says_same r b).0 (sym is ∙ e)))
+
+pub carried : (P : Type 0) (v : Around) (q p : Question) (a b : Answer) → q ≡ p → a ≡ b → P ↔ (answer_now v p ≡ b) → P ↔ (answer_now v q ≡ a)
+carried P v q p a b e f h = (λ x. ap (answer_now v) e ∙ (h.0 x ∙ sym f), λ k. h.1 (sym (ap (answer_now v) e) ∙ (k ∙ f)))
+
+same_form : (ms : Macros) (names : Names) (u f : ℕ) (g h : ℕ) (c : Meaning) (m : model.Meaning) → is_local m ≡ false → IsMeaning names u f c m → edition_in ms g c ≡ edition_in ms h c
+same_form ms names u f g h (code.Local n) m lasts is = absurd (true_false (sym (ap is_local is) ∙ lasts))
+same_form ms names u f g h (code.Global w n) m lasts is = refl
+same_form ms names u f g h (code.Standard n) m lasts is = refl
+same_form ms names u f g h (code.Free n) m lasts is = refl
+
+pub rules_arm : (P : Type 0) (work : Work) (u : UnitScope) (v : Around) (r : Since) (c : Meaning) (m : model.Meaning) (e form : ℕ) → CanAsk work u v r → is_local m ≡ false → IsMeaning work.symbols r.unit r.form c m → KeepsEdition work u v r (questions.Rules c e) →
+    P ↔ (edition_in u.macros form c ≡ e) → P ↔ (answer_now v (UsesRules m) ≡ Expands (r.editions e))
+rules_arm P work u v r c m e form can lasts is keeps same =
+    let here : IsMeaning work.symbols v.state.unit v.state.form c m = any_form work.symbols r.unit r.form v.state.unit v.state.form c m lasts is in
+    let told = can.editions.tells form c m here lasts in
+    (λ p. ap Expands (sym told ∙ ap r.editions (same.0 p)),
+    λ k. same.1 (same_form u.macros work.symbols r.unit r.form form v.state.form c m lasts is ∙ keeps m here (sym ((expands_same (option_map bare_macro (macro_at v.state.macros m)) (r.editions e)).0 k))))

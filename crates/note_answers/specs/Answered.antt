@@ -1,5 +1,5 @@
 -- Whether what a form asked has its answers still, asked outside of all forms (R7RS 4.3, 5.3).
-use Rattle.std.specs.Prelude.{◌≡◌, ℕ, List, [], false}
+use Rattle.std.specs.Prelude.{◌≡◌, ℕ, List, [], Bool, false, not, Option, Some, None}
 use Rattle.std.specs.List.{Contains}
 use Rattle.scheme_model.specs.Meaning.{Meaning}
 use Rattle.scheme_model.specs.RulesShape.{option_map}
@@ -58,6 +58,11 @@ KeepsEdition work u v r (code.Definition n o) = Unit {0}
 abbrev pub HasAnswer : Work → UnitScope → code_note.Note → Type 0
 HasAnswer work u x =
     (v : Around) (r : Since) (m : Noted) → CanAsk work u v r → IsNote work.symbols r x m → IsAskedOutside m.question → KeepsEdition work u v r x.question → answer_now v m.question ≡ m.answer
+
+-- whether a unit defines a variable, by the table of what it defines as keywords
+abbrev pub variable_by : Option Bool → Bool
+variable_by None = false
+variable_by (Some keyword) = not keyword
 
 -- ---- all notes
 

@@ -16,6 +16,8 @@ use Rattle.scheme_model.specs.Identifiers.{Number}
 use Rattle.scheme_model.specs.Ident.{Ident as Identifier}
 use Rattle.scheme_model.specs.Meaning as model
 use Rattle.scheme_model.specs.Order.{Note, LookedUp, Compared, Transformer, is_some}
+use Rattle.scheme_model.specs.Questions.{bare_macro}
+use Rattle.scheme_model.specs.RulesShape as shapes
 use Rattle.scheme_model.specs.Scopes.{Uses, Own, defined_or}
 use Rattle.scheme_model.specs.Substitution.{Defined, defined_in, definition_count}
 use Rattle.scheme_model.specs.ScopedExpansion.{Frames, FramedIdent, BodyDefinitions, UsePlace, ScopedState, around, macro_at}
@@ -32,9 +34,11 @@ use Rattle.scope_env.specs.Moved.{parent_of, AreNamed, AreGivenNamed}
 use Rattle.scope_env.proofs.Forgotten.{scope_forgotten, env_forgotten}
 use Rattle.unit_scopes.specs.Asks.{idents_of, asked_by, asked_from, items_of, numbers_in, AreKnown, AreNotesKnown, AskedStands}
 use Rattle.unit_scopes.specs.Chains.{chain_in, uses_in, given_in, imported_in}
-use Rattle.unit_scopes.specs.Forgotten.{is_local, ForgetsLocals, MacrosAtRoot, IsAtRoot, AreAtRoot, AllOwn, OwnFirst, without_local_scopes}
+use Rattle.form_notes.specs.Noted.{is_local}
+use Rattle.unit_scopes.specs.Forgotten.{ForgetsLocals, MacrosAtRoot, IsAtRoot, AreAtRoot, AllOwn, OwnFirst, without_local_scopes}
 use Rattle.unit_scopes.specs.Kept.{PlaceFor, NoteFor}
-use Rattle.unit_scopes.specs.Macros.{macro_in}
+use Rattle.unit_scopes.specs.Editions.{EditionsTell}
+use Rattle.unit_scopes.specs.Macros.{macro_in, edition_of, edition_in}
 use Rattle.unit_scopes.specs.State.{AreBegun, BodiesBegun, AreEntered, AreDefined, EnvStands, IsMacroIfAny, MacrosStand}
 use Rattle.unit_scopes.specs.Units.{UnitStands}
 use Rattle.unit_scopes.specs.Within.{place_within, note_within, macro_within}
@@ -322,3 +326,25 @@ root_there u sound own =
     let v = own.older u.root (omega arith) in
     let o = sound.roots v.0 u.root v.1 in
     slice_get_within u.env.scopes u.root o.scope o.there
+
+-- ---- the editions of macros
+
+module _ (names : Names) (last : ℕ) (ms ns : Macros) (globals : (f u i : ℕ) → macro_in ns f (GlobalOf u i) ≡ option_map (macro_within last) (macro_in ms f (GlobalOf u i)))
+    (standards : (f x : ℕ) → macro_in ns f (Standard x) ≡ option_map (macro_within last) (macro_in ms f (Standard x))) where
+  edition_within : (o : Option Macro) → edition_of (option_map (macro_within last) o) ≡ edition_of o
+  edition_within None = refl
+  edition_within (Some k) = refl
+
+  same_edition : (form : ℕ) (c : Meaning) (unit : ℕ) (m : model.Meaning) → is_local m ≡ false → IsMeaning names unit form c m → edition_in ns form c ≡ edition_in ms form c
+  same_edition form (Local n) unit m lasts is = absurd (false_true (sym lasts ∙ ap is_local is))
+  same_edition form (GlobalOf u n) unit m lasts is = ap edition_of (globals form u n) ∙ edition_within (macro_in ms form (GlobalOf u n))
+  same_edition form (Standard n) unit m lasts is = ap edition_of (standards form n) ∙ edition_within (macro_in ms form (Standard n))
+  same_edition form (Free n) unit m lasts is = refl
+
+  pub editions_forgotten : (s t : ScopedState) (editions : ℕ → Option (Transformer Frames Identifier)) → ForgetsLocals s t → EditionsTell names ms s editions → EditionsTell names ns t editions
+  editions_forgotten s t editions forgets h = record {
+    none = h.none;
+    tells = λ form c m is lasts.
+        ap editions (same_edition form c t.unit m lasts is)
+        ∙ (h.tells form c m (subst (λ (u : ℕ). IsMeaning names u form c m) forgets.unit is) lasts ∙ ap (shapes.option_map bare_macro) (sym (forgets.macros m lasts)));
+  }

@@ -7,17 +7,12 @@ use Rattle.scheme_model.specs.Ident.{Ident}
 use Rattle.scheme_model.specs.Order.{Note, LookedUp, Compared, Transformer}
 use Rattle.scheme_model.specs.ScopedExpansion.{Frames, FramedIdent, ScopedState, macro_at}
 use Rattle.scope_env.specs.Environment.{without_locals}
+use Rattle.form_notes.specs.Noted.{is_local}
 use Rattle.unit_scopes.specs.declared.asked.Asked.{Asked}
 use Rattle.unit_scopes.specs.declared.macros.Macros.{Macros}
 use Rattle.unit_scopes.specs.declared.scope.UnitScope.{UnitScope}
 
 -- ---- in the definition
-
-abbrev pub is_local : Meaning → Bool
-is_local (Local v) = true
-is_local (Global u i) = false
-is_local (Standard x) = false
-is_local (Free x) = false
 
 -- what units define and import and their macros are the same in t, and nothing local is there
 pub record ForgetsLocals (s t : ScopedState) : Type 0 where

@@ -1,11 +1,14 @@
 //! What is local to the forms of units is forgotten between two of them (R7RS 4.3, 5.3): the scopes inside of units, where macros were
 //! used, and local macros.
-ghost use Rattle.std.specs.Prelude.{◌≡◌, ℕ, ◌+◌, List, None, take, min};
+ghost use Rattle.std.specs.Prelude.{◌≡◌, ℕ, ◌+◌, List, Option, None, take, min};
 ghost use Rattle.std.specs.Option.{option_map};
-ghost use Rattle.scheme_model.specs.Order.{Note};
+ghost use Rattle.scheme_model.specs.Ident.{Ident as Identifier};
+ghost use Rattle.scheme_model.specs.Order.{Note, Transformer};
 ghost use Rattle.scheme_model.specs.ScopedExpansion.{Frames, FramedIdent, ScopedState};
+ghost use Rattle.syntax_tree.specs.Names.{Names};
 ghost use Rattle.syntax_tree.specs.declared.meaning.Meaning.TheVariants as meanings;
 ghost use Rattle.syntax_tree.specs.declared.trees.Work.{Work as AnyWork};
+ghost use Rattle.unit_scopes.specs.Editions.{EditionsTell};
 ghost use Rattle.unit_scopes.specs.Forgotten.{ForgetsLocals, MacrosAtRoot, AreAtRoot, AllOwn, OwnFirst, without_local_scopes};
 ghost use Rattle.unit_scopes.specs.Macros.{macro_in};
 ghost use Rattle.unit_scopes.specs.Units.{UnitStands};
@@ -42,6 +45,7 @@ impl UnitScope {
         ensures all_own { AllOwn self.new }
         ensures rests { (work : AnyWork) (ls : List Frames) (s t : ScopedState) (notes : List (Note FramedIdent)) → UnitStands work self.old ls s notes →
             ForgetsLocals s t → MacrosAtRoot s → AreAtRoot notes → UnitStands work self.new (take (self.old.root + 1) ls) t notes }
+        ensures editions { (names : Names) (s t : ScopedState) (editions : ℕ → Option (Transformer Frames Identifier)) → ForgetsLocals s t → EditionsTell names self.old.macros s editions → EditionsTell names self.new.macros t editions }
     {
         self.env.sound();
         let _scopes = self.env.count();

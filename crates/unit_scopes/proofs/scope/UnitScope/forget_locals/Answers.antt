@@ -2,7 +2,7 @@ use Rattle.std.proofs.Common.{◌≡◌, ◌+◌, ◌<◌, length, take, sym, su
 use Rattle.unit_scopes.specs.Forgotten.{AllOwn, OwnFirst, without_local_scopes}
 use Rattle.unit_scopes.specs.Units.{UnitStands}
 use Rattle.unit_scopes.specs.declared.scope.UnitScope.{UnitScope}
-use Rattle.unit_scopes.proofs.ForgottenLaws.{units_forgotten, own_forgotten, all_forgotten, root_there}
+use Rattle.unit_scopes.proofs.ForgottenLaws.{units_forgotten, own_forgotten, all_forgotten, root_there, editions_forgotten}
 use Rattle.unit_scopes.proofs.scope.UnitScope.forget_locals.Goals as goal
 use Rattle.unit_scopes.proofs.scope.UnitScope.forget_locals.Goals.{After-forget_from}
 
@@ -30,3 +30,6 @@ returns-clause-rests c = λ work ls s t notes h forgets none at.
     subst (λ (v : UnitScope). UnitStands work v (take (c.args.self.now.root + 1) ls) t notes) (sym (after c))
     (units_forgotten work c.args.self.now c.forget_locals.new.self c.keep_within.new.self c.sound.ensures c.requires c.forget_locals.ensures.locals c.forget_locals.ensures.globals c.forget_locals.ensures.standards
     c.keep_within.ensures.notes c.keep_within.ensures.asking ls s t notes h forgets none at)
+
+pub returns-clause-editions : goal.returns-clause-editions
+returns-clause-editions c = λ names s t editions forgets h. editions_forgotten names c.args.self.now.root c.args.self.now.macros c.forget_locals.new.self c.forget_locals.ensures.globals c.forget_locals.ensures.standards s t editions forgets h
