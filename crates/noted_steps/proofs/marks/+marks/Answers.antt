@@ -1,8 +1,8 @@
-use Rattle.std.proofs.Common.{◌≡◌, ℕ, suc, ◌+◌, ◌-◌, ◌≤◌, List, [], ◌++◌, append-nil, refl, sym, ap, ◌∙◌, subst, add-one, rules, arith}
+use Rattle.std.proofs.Common.{ℕ, suc, List, [], ◌++◌, append-nil, refl, sym, ap, ◌∙◌, subst, add-one, rules, arith}
 use Rattle.std.specs.Prelude.{is_some}
 use Rattle.scheme_model.specs.Ident.{Ident as Identifier}
 use Rattle.scheme_model.specs.Matching.{behind}
-use Rattle.scheme_model.specs.Quasiquote.{first_name, mark_in, level_behind, marks_by, marks_at, pair_marks, tail_marks, element_marks}
+use Rattle.scheme_model.specs.Quasiquote.{first_name, mark_in, level_behind, marks_at, pair_marks, tail_marks, element_marks}
 use Rattle.scheme_model.specs.Trees.{Tree, Trees, Tail}
 use Rattle.syntax_tree.proofs.Looking.{part_standing, part_there, behind_past, no_end}
 use Rattle.core_forms.proofs.Finding.{Counted, can_positive, into_row, into_parts, part_of_parts, part_of_row, room_at, counted_more, last_of_row}
@@ -113,11 +113,13 @@ note_row-note_first-requires t c =
 pub note_row-note_datum-requires : goal.note_row-note_datum-requires
 note_row-note_datum-requires t c =
     let w = c.args.work.now in
-    let k = c.loop-k.k in
-    (first_of (search rules, omega arith), (
-      looks_on w c.loop-k.units c.note_first.new.units c.args.scope c.note_first.ensures.rest c.loop-k.invariant.1,
-      part_of_row w c.args.items.now c.args.end c.args.level c.loop-k.inner c.args.left k (record { number = 0 }) c.requires.level c.loop-k.invariant.2 c.loop-k-test.true,
-    ))
+    let k = c.loop-k.k in (
+      first_of (search rules, omega arith),
+      (
+        looks_on w c.loop-k.units c.note_first.new.units c.args.scope c.note_first.ensures.rest c.loop-k.invariant.1,
+        part_of_row w c.args.items.now c.args.end c.args.level c.loop-k.inner c.args.left k (record { number = 0 }) c.requires.level c.loop-k.invariant.2 c.loop-k-test.true,
+      ),
+    )
 
 pub note_row-returns-in-Nothing-clause-noted : goal.note_row-returns-in-Nothing-clause-noted
 note_row-returns-in-Nothing-clause-noted t c = λ known ls s fs ts tail e at stands ends.
