@@ -1,7 +1,7 @@
-use Rattle.std.proofs.Common.{◌≡◌, ◌≤◌, List, [], refl, sym, ap, ◌∙◌, subst, arith}
-use Rattle.scheme_model.specs.Ident.{Ident as Identifier, symbol_of}
+use Rattle.std.proofs.Common.{◌≡◌, List, sym, ap, ◌∙◌, subst, arith}
+use Rattle.scheme_model.specs.Ident.{Ident as Identifier}
 use Rattle.scheme_model.specs.Requirements.{LibraryName}
-use Rattle.scheme_model.specs.Trees.{Tree, Trees, Tail, list, tree, proper}
+use Rattle.scheme_model.specs.Trees.{Tree, Tail, list, tree, proper}
 use Rattle.form_parts.proofs.LeafLaws.{first_there, first_gone}
 use Rattle.syntax_tree.proofs.Looking.{no_end, some_end}
 use Rattle.noted_steps.specs.Asked.{clause_asked, names_asked}

@@ -1,11 +1,8 @@
-use Rattle.std.proofs.Common.{◌≡◌, ◌+◌, ℕ, length, get_or, Some, sym, ap, ◌∙◌, subst, arith}
+use Rattle.std.proofs.Common.{◌≡◌, ◌+◌, ℕ, get_or, Some, sym, ap, ◌∙◌, subst, arith}
 use Rattle.scheme_model.specs.ExpansionFaults.{BadForm}
-use Rattle.scheme_model.specs.TreeParts.{count}
 use Rattle.scheme_model.specs.Shapes.{one_of}
-use Rattle.scheme_model.specs.Trees.{Trees, no_trees, Tail, list, tree, proper}
-use Rattle.scheme_model.specs.Ident.{Ident as Identifier}
+use Rattle.scheme_model.specs.Trees.{list, tree}
 use Rattle.syntax_tree.specs.Looks.{PartsStand}
-use Rattle.syntax_tree.specs.Works.{StandsFor}
 use Rattle.core_forms.proofs.Lists.{one_not, one_dotted}
 use Rattle.syntax_tree.proofs.Looking.{count_stands, no_end, some_end, part_standing}
 use Rattle.noted_steps.specs.Asked.{IsOperand}
