@@ -3,9 +3,9 @@ use Rattle.std.proofs.lemmas.List.{drop_all}
 use Rattle.std.proofs.lemmas.Result.{err_from_is_err_and}
 use Rattle.lsp_messages.specs.declared.reply.Reply.{Reply}
 use Rattle.command_output.specs.Prints.{sink_seen}
-use Rattle.session_serving.proofs.Items.{at_item}
-use Rattle.session_serving.proofs.Writes.{WroteFirst, wrote_all, wrote_more, wrote_none, wrote_some, stop_of, stop_as}
-use Rattle.session_serving.proofs.replies.write_replies.Goals as goal
+use Rattle.reply_writing.proofs.Items.{at_item}
+use Rattle.reply_writing.proofs.Writes.{WroteFirst, wrote_all, wrote_more, wrote_none, wrote_some, stop_of, stop_as}
+use Rattle.reply_writing.proofs.replies.write_replies.Goals as goal
 
 pub loop-reply-init : goal.loop-reply-init
 loop-reply-init g c = wrote_none _ _

@@ -2,8 +2,8 @@
 use Rattle.std.specs.Prelude.{ℕ, List, Ok, Err}
 use Rattle.std.specs.declared.result.Result.{Result}
 use Rattle.command_output.specs.Prints.{SinkSeen, Prints, PrintsFront, PrintsPart}
-use Rattle.session_serving.specs.declared.replies.WriteStop.{WriteStop}
-use Rattle.session_serving.specs.declared.replies.WriteStop.TheVariants as stop
+use Rattle.reply_writing.specs.declared.replies.WriteStop.{WriteStop}
+use Rattle.reply_writing.specs.declared.replies.WriteStop.TheVariants as stop
 
 -- how writing bytes ends that are made on the way
 abbrev pub WritingEndsAs : SinkSeen → SinkSeen → List ℕ → Result (Unit {0}) WriteStop → Type 0

@@ -1,7 +1,7 @@
 //! The text that a session says by itself.
 ghost use Rattle.std.specs.Prelude.{◌≡◌, IfOk};
 ghost use Rattle.std.specs.String.{string_bytes};
-ghost use Rattle.session_serving.specs.Wording as spec;
+ghost use Rattle.reply_writing.specs.Wording as spec;
 
 use std::alloc::{AllocError, Global};
 

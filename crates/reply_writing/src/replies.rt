@@ -1,10 +1,11 @@
 //! Writes replies, each in its frame.
-ghost use Rattle.session_serving.specs.ReplyFrames.{frame_of_reply, frames_of};
-ghost use Rattle.session_serving.specs.Writing.{WritingEndsAs};
+ghost use Rattle.reply_writing.specs.ReplyFrames.{fault_log, frame_of_reply, frames_of};
+ghost use Rattle.reply_writing.specs.Writing.{WritingEndsAs};
 ghost use Rattle.command_output.specs.Prints.{sink_seen};
 
+use crate::wording::fault_text;
 use command_output::{SinkFailed, print_all};
-use ls_base::Memory;
+use ls_base::{Memory, Text};
 use ls_outside::Sink;
 use lsp_framing::frame;
 use lsp_messages::{Reply, reply_bytes};
@@ -21,7 +22,7 @@ pub enum WriteStop {
 
 impl From<Memory> for WriteStop {
     ghost use Rattle.std.specs.Prelude.{◌≡◌};
-    ghost use Rattle.session_serving.specs.declared.replies.WriteStop.TheVariants as stop;
+    ghost use Rattle.reply_writing.specs.declared.replies.WriteStop.TheVariants as stop;
 
     ghost from_gives = { λ _ e. e ≡ stop.Memory };
 
@@ -32,7 +33,7 @@ impl From<Memory> for WriteStop {
 
 impl From<AllocError> for WriteStop {
     ghost use Rattle.std.specs.Prelude.{◌≡◌};
-    ghost use Rattle.session_serving.specs.declared.replies.WriteStop.TheVariants as stop;
+    ghost use Rattle.reply_writing.specs.declared.replies.WriteStop.TheVariants as stop;
 
     ghost from_gives = { λ _ e. e ≡ stop.Memory };
 
@@ -43,7 +44,7 @@ impl From<AllocError> for WriteStop {
 
 impl From<SinkFailed> for WriteStop {
     ghost use Rattle.std.specs.Prelude.{◌≡◌};
-    ghost use Rattle.session_serving.specs.declared.replies.WriteStop.TheVariants as stop;
+    ghost use Rattle.reply_writing.specs.declared.replies.WriteStop.TheVariants as stop;
 
     ghost from_gives = { λ _ e. e ≡ stop.Failed };
 
@@ -75,5 +76,21 @@ pub fn write_replies<O: Sink>(
     for reply in replies {
         write_reply(alloc, reply, output)?;
     }
+    Ok(())
+}
+
+/// Writes the last message of a session whose input has a fault of frames, by its number, at an offset: the log of the fault.
+pub fn say_farewell<O: Sink>(
+    alloc: Global,
+    number: u8,
+    offset: u64,
+    output: &mut O,
+) -> Result<(), WriteStop>
+    ensures { WritingEndsAs (sink_seen (O.taken output.old) (O.faults output.old) (O.writes output.old))
+        (sink_seen (O.taken output.new) (O.faults output.new) (O.writes output.new))
+        (frame_of_reply (fault_log number offset)) result }
+{
+    let text = fault_text(alloc, number, offset)?;
+    write_reply(alloc, &Reply::Log(Text::from_string(text)), output)?;
     Ok(())
 }

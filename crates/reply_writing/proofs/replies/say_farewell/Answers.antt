@@ -2,9 +2,9 @@ use Rattle.std.proofs.Common.{List, ℕ, ◌∙◌, subst}
 use Rattle.std.proofs.lemmas.Result.{err_from_is_err_and}
 use Rattle.lsp_messages.specs.declared.reply.Reply.TheVariants as replies
 use Rattle.command_output.specs.Prints.{Prints, sink_seen}
-use Rattle.session_serving.specs.ReplyFrames.{frame_of_reply}
-use Rattle.session_serving.proofs.Writes.{nothing_printed}
-use Rattle.session_serving.proofs.server.say_farewell.Goals as goal
+use Rattle.reply_writing.specs.ReplyFrames.{frame_of_reply}
+use Rattle.reply_writing.proofs.Writes.{nothing_printed}
+use Rattle.reply_writing.proofs.replies.say_farewell.Goals as goal
 
 pub returns-in_err-text : goal.returns-in_err-text
 returns-in_err-text g c =

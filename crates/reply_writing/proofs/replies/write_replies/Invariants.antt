@@ -1,7 +1,7 @@
 use Rattle.std.proofs.Common.{drop}
 use Rattle.command_output.specs.Prints.{sink_seen}
-use Rattle.session_serving.proofs.Writes.{WroteFirst}
-use Rattle.session_serving.proofs.replies.write_replies.Given as goal
+use Rattle.reply_writing.proofs.Writes.{WroteFirst}
+use Rattle.reply_writing.proofs.replies.write_replies.Given as goal
 
 -- the frames of the replies so far are written
 abbrev pub invariant-loop-reply : goal.invariant-loop-reply

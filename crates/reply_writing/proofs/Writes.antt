@@ -8,11 +8,11 @@ use Rattle.ls_outside.specs.Counts.{Fails}
 use Rattle.ls_outside.proofs.CallLaws.{last_then, take_none, take_then}
 use Rattle.lsp_messages.specs.declared.reply.Reply.{Reply}
 use Rattle.std.specs.Prelude.{Err}
-use Rattle.session_serving.specs.declared.replies.WriteStop.{WriteStop}
-use Rattle.session_serving.specs.declared.replies.WriteStop.TheVariants as stop
+use Rattle.reply_writing.specs.declared.replies.WriteStop.{WriteStop}
+use Rattle.reply_writing.specs.declared.replies.WriteStop.TheVariants as stop
 use Rattle.command_output.specs.Prints.{SinkSeen, Prints, PrintsPart, PrintsFront}
-use Rattle.session_serving.specs.Writing.{WritingEndsAs}
-use Rattle.session_serving.specs.ReplyFrames.{frame_of_reply, frames_of}
+use Rattle.reply_writing.specs.Writing.{WritingEndsAs}
+use Rattle.reply_writing.specs.ReplyFrames.{frame_of_reply, frames_of}
 
 -- a front of what comes second is a longer front of both
 pub take_second : (first second : List ℕ) (count : ℕ) → take (length first + count) (first ++ second) ≡ first ++ take count second

@@ -2,8 +2,8 @@ use Rattle.std.proofs.Common.{List, ℕ, ◌∙◌, ap, subst}
 use Rattle.std.proofs.lemmas.Result.{err_from_is_err_and}
 use Rattle.ls_base.specs.Frames.{frame_text}
 use Rattle.command_output.specs.Prints.{Prints, PrintsFront, sink_seen}
-use Rattle.session_serving.proofs.Writes.{nothing_printed}
-use Rattle.session_serving.proofs.replies.write_reply.Goals as goal
+use Rattle.reply_writing.proofs.Writes.{nothing_printed}
+use Rattle.reply_writing.proofs.replies.write_reply.Goals as goal
 
 pub returns-in_err-body : goal.returns-in_err-body
 returns-in_err-body g c =
