@@ -1,9 +1,9 @@
 -- The lines were printed, or memory ran out before.
 use Rattle.std.proofs.Common.{refl}
 use Rattle.command_output.specs.Prints.{sink_seen}
-use Rattle.scheme_ls.specs.WorkOutcome.{work_seen}
-use Rattle.scheme_ls.proofs.WorkLaws.{selfrun_out, selfruns}
-use Rattle.scheme_ls.proofs.work.selfrun.Goals as goal
+use Rattle.file_runs.specs.WorkOutcome.{work_seen}
+use Rattle.file_runs.proofs.WorkLaws.{selfrun_out, selfruns}
+use Rattle.file_runs.proofs.work.selfrun.Goals as goal
 
 pub returns-in-Ok : goal.returns-in-Ok
 returns-in-Ok g c = λ files.

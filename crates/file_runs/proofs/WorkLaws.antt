@@ -1,9 +1,8 @@
 -- How a command ends that works on files, or on a workspace made of a number, once its lines were printed or memory ran out.
-use Rattle.std.proofs.Common.{◌≡◌, ◌⊎◌, ◌∙◌, ap, refl, sym, subst, inl, inr, ℕ, ◌+◌, List, [], Some, Bool}
+use Rattle.std.proofs.Common.{◌≡◌, ◌⊎◌, ◌∙◌, ap, refl, sym, subst, inl, inr, ℕ, ◌+◌, List, Bool}
 use Rattle.std.specs.FinMap.{entries}
 use Rattle.ls_base.specs.Limits.{max_text}
 use Rattle.ls_base.specs.declared.places.Pos.{Pos}
-use Rattle.ls_outside.specs.Sources.{AreCuts}
 use Rattle.read_documents.specs.Readings.{Read, AreReadAs}
 use Rattle.program_answers.proofs.TextLists.{some_row}
 use Rattle.program_expansion.specs.UsesInTurn.{uses_in}
@@ -18,12 +17,7 @@ use Rattle.file_commands.specs.declared.renaming.Renamed.{Renamed}
 use Rattle.generated_workspace.specs.Generated.{selfrun_texts}
 use Rattle.generated_workspace.specs.Selfrun.{selfrun_lines, selfrun_uses}
 use Rattle.command_output.specs.Prints.{SinkSeen}
-use Rattle.command_output.specs.Reads.{SourceSeen, source_seen}
-use Rattle.session_serving.specs.ServeOutcome.{Serves}
-use Rattle.session_serving.specs.SessionEnds.{session_status}
-use Rattle.command_output.specs.Streams.{streams}
-use Rattle.scheme_ls.specs.WorkOutcome.{CheckEndsAs, PrintsLines, RenameEndsAs, Replays, RunsOut, SelfrunEndsAs, WorkSeen, check_status, recording_piece, rename_status, renamed_lines}
-use Rattle.session_serving.specs.declared.serve.SessionEnd.{SessionEnd}
+use Rattle.file_runs.specs.WorkOutcome.{CheckEndsAs, PrintsLines, RenameEndsAs, RunsOut, SelfrunEndsAs, WorkSeen, check_status, rename_status, renamed_lines}
 use Rattle.command_output.specs.declared.status.Status.{Status}
 use Rattle.command_output.specs.declared.status.Status.TheVariants.{Done}
 
@@ -112,18 +106,3 @@ module _ (libraries : ℕ) (old new : WorkSeen) (status : Status) where
           steps r reader_is_there.1,
         );
       }
-
--- ---- `replay`
-
--- a session over a source that tells these pieces and has given none yet
-pub replays : (bytes : List ℕ) (pieces : List (List ℕ)) (old new : WorkSeen) (before after : SourceSeen) (end : SessionEnd) → AreCuts recording_piece bytes pieces → before ≡ source_seen (Some pieces) 0 [] → after.faults ≡ 0 →
-    Serves (streams before old.sink) (streams after new.sink) old.steps new.steps end → Replays bytes old new (session_status end)
-replays bytes pieces old new before after end cut begins sure serves = record {
-  pieces = pieces;
-  cut = cut;
-  after = after;
-  sure = sure;
-  end = end;
-  serves = subst (λ (s : SourceSeen). Serves (streams s old.sink) (streams after new.sink) old.steps new.steps end) begins serves;
-  status_is = refl;
-}

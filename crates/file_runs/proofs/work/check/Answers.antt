@@ -3,9 +3,9 @@ use Rattle.std.proofs.Common.{ap, refl}
 use Rattle.file_fetching.specs.FilesSeen.{files_seen}
 use Rattle.file_fetching.specs.Fetching.{bytes_in}
 use Rattle.command_output.specs.Prints.{sink_seen}
-use Rattle.scheme_ls.specs.WorkOutcome.{work_seen}
-use Rattle.scheme_ls.proofs.WorkLaws.{checked_out, checks}
-use Rattle.scheme_ls.proofs.work.check.Goals as goal
+use Rattle.file_runs.specs.WorkOutcome.{work_seen}
+use Rattle.file_runs.proofs.WorkLaws.{checked_out, checks}
+use Rattle.file_runs.proofs.work.check.Goals as goal
 
 pub returns-in-Ok-check_files : goal.returns-in-Ok-check_files
 returns-in-Ok-check_files g c =

@@ -1,14 +1,13 @@
 -- How a command ends that works on files, or on a workspace made of a number, and prints the lines of its work.
-use Rattle.std.specs.Prelude.{◌≡◌, ◌⊎◌, ℕ, ◌+◌, List, [], Bool, true, false, Err, Some}
+use Rattle.std.specs.Prelude.{◌≡◌, ◌⊎◌, ℕ, ◌+◌, List, Bool, true, false, Err}
 use Rattle.std.specs.FinMap.{entries}
 use Rattle.ls_base.specs.Limits.{max_text}
 use Rattle.ls_base.specs.declared.places.Pos.{Pos}
-use Rattle.ls_outside.specs.Sources.{AreCuts}
 use Rattle.read_documents.specs.Readings.{Read, AreReadAs}
 use Rattle.program_expansion.specs.UsesInTurn.{uses_in}
 use Rattle.rename_conditions.specs.Readers.{Reader, IsReader}
 use Rattle.file_fetching.specs.FilesSeen.{FilesSeen}
-use Rattle.file_fetching.specs.Fetching.{FetchStopsAs, Fetches, FetchesAll, FetchingEndsAs, max_recording}
+use Rattle.file_fetching.specs.Fetching.{FetchStopsAs, Fetches, FetchesAll, FetchingEndsAs}
 use Rattle.file_fetching.specs.declared.fetching.FetchStop.{FetchStop}
 use Rattle.file_commands.specs.Checking.{checked_in, opened}
 use Rattle.file_commands.specs.Renaming.{renamed_in, renaming_uses}
@@ -17,12 +16,7 @@ use Rattle.file_commands.specs.declared.renaming.Renamed.TheVariants.{Edits, Ref
 use Rattle.generated_workspace.specs.Generated.{selfrun_texts}
 use Rattle.generated_workspace.specs.Selfrun.{selfrun_lines, selfrun_uses}
 use Rattle.command_output.specs.Prints.{Prints, PrintsFront, SinkSeen}
-use Rattle.command_output.specs.Reads.{SourceSeen, source_seen}
-use Rattle.session_serving.specs.ServeOutcome.{Serves}
 use Rattle.command_output.specs.Statuses.{fetch_status}
-use Rattle.session_serving.specs.SessionEnds.{session_status}
-use Rattle.command_output.specs.Streams.{streams}
-use Rattle.session_serving.specs.declared.serve.SessionEnd.{SessionEnd}
 use Rattle.command_output.specs.declared.status.Status.{Status}
 use Rattle.command_output.specs.declared.status.Status.TheVariants as statuses
 
@@ -113,31 +107,6 @@ pub record RenamesFile (name : List ℕ) (position : Pos) (new_name : List ℕ) 
 
 abbrev pub RenameEndsAs : (name : List ℕ) → Pos → (new_name : List ℕ) → WorkSeen → WorkSeen → Status → Type 0
 RenameEndsAs name position new_name old new status = RenamesFile name position new_name old new status ⊎ StopsAtFile name max_text old new status
-
--- ---- `replay FILE`
-
--- how long the pieces are in which a recorded session is read
-abbrev pub recording_piece : ℕ
-recording_piece = 65536
-
--- a session over a source that never fails, and tells these bytes in such pieces
-pub record Replays (bytes : List ℕ) (old new : WorkSeen) (status : Status) : Type 0 where
-  pub pieces : List (List ℕ)
-  pub cut : AreCuts recording_piece bytes pieces
-  pub after : SourceSeen
-  pub sure : after.faults ≡ 0
-  pub end : SessionEnd
-  pub serves : Serves (streams (source_seen (Some pieces) 0 []) old.sink) (streams after new.sink) old.steps new.steps end
-  pub status_is : status ≡ session_status end
-
--- the file was fetched, and its bytes were a session's, or memory ran out before
-pub record ReplaysFile (name : List ℕ) (old new : WorkSeen) (status : Status) : Type 0 where
-  pub content : List ℕ
-  pub fetched : Fetches old.files new.files name max_recording content
-  pub ends : Replays content old new status ⊎ RunsOut old.sink new.sink status
-
-abbrev pub ReplayEndsAs : (name : List ℕ) → WorkSeen → WorkSeen → Status → Type 0
-ReplayEndsAs name old new status = ReplaysFile name old new status ⊎ StopsAtFile name max_recording old new status
 
 -- ---- `selfrun N`
 

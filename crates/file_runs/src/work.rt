@@ -3,7 +3,7 @@ ghost use Rattle.std.specs.Prelude.{◌≡◌, ◌≤◌, length};
 ghost use Rattle.ls_base.specs.Limits.{max_documents};
 ghost use Rattle.file_fetching.specs.FilesSeen.{FilesSeen, files_seen};
 ghost use Rattle.command_output.specs.Prints.{sink_seen};
-ghost use Rattle.scheme_ls.specs.WorkOutcome.{CheckEndsAs, PrintsLines, RenameEndsAs, SelfrunEndsAs, check_status, work_seen};
+ghost use Rattle.file_runs.specs.WorkOutcome.{CheckEndsAs, PrintsLines, RenameEndsAs, SelfrunEndsAs, check_status, work_seen};
 
 use command_output::{SinkFailed, Status, print_all};
 use file_commands::{Renamed, check_files, rename_in};

@@ -4,9 +4,9 @@ use Rattle.ls_base.specs.Limits.{max_text}
 use Rattle.file_fetching.specs.FilesSeen.{files_seen}
 use Rattle.file_fetching.specs.Fetching.{Fetches}
 use Rattle.command_output.specs.Prints.{sink_seen}
-use Rattle.scheme_ls.specs.WorkOutcome.{rename_status, renamed_lines, work_seen}
-use Rattle.scheme_ls.proofs.WorkLaws.{renamed_out, renames}
-use Rattle.scheme_ls.proofs.work.rename.Goals as goal
+use Rattle.file_runs.specs.WorkOutcome.{rename_status, renamed_lines, work_seen}
+use Rattle.file_runs.proofs.WorkLaws.{renamed_out, renames}
+use Rattle.file_runs.proofs.work.rename.Goals as goal
 
 pub returns-in-Ok-Edits : goal.returns-in-Ok-Edits
 returns-in-Ok-Edits g c =
