@@ -110,8 +110,9 @@ module _ {E A L S : Type 0} (loud : Ops E A L S) (k : Likeness loud) where
     answered = λ s t n qs a. answers s t n qs;
     ask_back = λ s qs a. tt;
     ask_later = λ s qs g. (g, k.itself s);
-    ask_near = λ s t n qs. n;
+    ask_near = λ s t n qs rs a. n;
     ask_means = λ s qs e i. refl;
+    ask_meant = λ t rs f i. refl;
     counts = λ s t n. ap loud.counted n.0;
     spend_back = λ s n a. tt;
     spend_later = λ s n g. k.spend s g n;

@@ -177,3 +177,50 @@ module _ {A : Type 0} (mark there : A → Option Mark) where
 
   pub quasi_same : (ts : Trees A) (tail : Tail A) → SameMarks (marks_in mark ts tail) → (one_of ts tail >> quasi_of there) ≡ (one_of ts tail >> quasi_of mark)
   quasi_same ts tail h = by_datum (one_of ts tail) h
+
+  -- ---- which identifiers are asked
+
+  both_marks : (xs xs2 ys ys2 : List A) → (SameMarks xs → xs2 ≡ xs) → (SameMarks ys → ys2 ≡ ys) → SameMarks (xs ++ ys) → xs2 ++ ys2 ≡ xs ++ ys
+  both_marks xs xs2 ys ys2 ha hb h = let q = parted (λ (i : A). there i ≡ mark i) xs ys h in let a = ha q.0 in let b = hb q.1 in λ j. a j ++ b j
+
+  by_mark : (m : Option Mark) (level : ℕ) (xs xs2 ys ys2 : List A) → (SameMarks xs → xs2 ≡ xs) → (SameMarks ys → ys2 ≡ ys) → SameMarks (marks_by m level xs ys) → marks_by m level xs2 ys2 ≡ marks_by m level xs ys
+  by_mark None level xs xs2 ys ys2 ha hb h = both_marks xs xs2 ys ys2 ha hb h
+  by_mark (Some Nested) level xs xs2 ys ys2 ha hb h = both_marks xs xs2 ys ys2 ha hb h
+  by_mark (Some Unquoted) zero xs xs2 ys ys2 ha hb h = refl
+  by_mark (Some Unquoted) (suc level) xs xs2 ys ys2 ha hb h = both_marks xs xs2 ys ys2 ha hb h
+  by_mark (Some Spliced) zero xs xs2 ys ys2 ha hb h = refl
+  by_mark (Some Spliced) (suc level) xs xs2 ys ys2 ha hb h = both_marks xs xs2 ys ys2 ha hb h
+
+  mutual
+    marks_at_same : (t : Tree A) (level : ℕ) → SameMarks (marks_at mark level t) → marks_at there level t ≡ marks_at mark level t
+    marks_at_same (name i o) level h = refl
+    marks_at_same (atom a o) level h = refl
+    marks_at_same (list ts tail o) level h = pair_marks_same ts (tail_marks mark tail) (tail_marks there tail) (λ l k. tail_marks_same tail l k) level h
+    marks_at_same (vector ts o) level h = element_marks_same ts level h
+
+    pair_marks_same : (ts : Trees A) (end end2 : ℕ → List A) → ((l : ℕ) → SameMarks (end l) → end2 l ≡ end l) → (level : ℕ) → SameMarks (pair_marks mark level ts end) → pair_marks there level ts end2 ≡ pair_marks mark level ts end
+    pair_marks_same no_trees end end2 he level h = he level h
+    pair_marks_same (tree t ts) end end2 he level h =
+        let m = mark_in mark t in
+        let q = parted (λ (i : A). there i ≡ mark i) (first_name t) (marks_by m level (marks_at mark level t) (pair_marks mark (level_behind m level) ts end)) h in
+        ap (λ x. first_name t ++ marks_by x level (marks_at there level t) (pair_marks there (level_behind x level) ts end2)) (first_same t q.0)
+        ∙ ap (λ xs. first_name t ++ xs)
+        (by_mark m level (marks_at mark level t) (marks_at there level t) (pair_marks mark (level_behind m level) ts end) (pair_marks there (level_behind m level) ts end2) (λ k. marks_at_same t level k)
+        (λ k. pair_marks_same ts end end2 he (level_behind m level) k) q.1)
+
+    element_marks_same : (ts : Trees A) (level : ℕ) → SameMarks (element_marks mark level ts) → element_marks there level ts ≡ element_marks mark level ts
+    element_marks_same no_trees level h = refl
+    element_marks_same (tree t ts) level h =
+        let q = parted (λ (i : A). there i ≡ mark i) (marks_at mark level t) (element_marks mark level ts) h in
+        let a = marks_at_same t level q.0 in let b = element_marks_same ts level q.1 in λ j. a j ++ b j
+
+    tail_marks_same : (tail : Tail A) (level : ℕ) → SameMarks (tail_marks mark tail level) → tail_marks there tail level ≡ tail_marks mark tail level
+    tail_marks_same proper level h = refl
+    tail_marks_same (dotted t) level h = marks_at_same t level h
+
+  asked_same : (r : Result (Tree A) (Fault A)) → SameMarks (datum_marks mark r) → datum_marks there r ≡ datum_marks mark r
+  asked_same (Ok t) h = marks_at_same t zero h
+  asked_same (Err e) h = refl
+
+  pub marks_same : (ts : Trees A) (tail : Tail A) → SameMarks (marks_in mark ts tail) → marks_in there ts tail ≡ marks_in mark ts tail
+  marks_same ts tail h = asked_same (one_of ts tail) h

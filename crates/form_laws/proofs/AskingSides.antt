@@ -34,7 +34,7 @@ nothing_behind : {X : Type 0} (xs : List X) → xs ++ [] ≡ xs
 nothing_behind [] = refl
 nothing_behind (x ∷ xs) = ap (λ zs. x ∷ zs) (nothing_behind xs)
 
-head_same : (f g : Meaning → Bool) (m : Meaning) → f m ≡ g m → head_as f m ≡ head_as g m
+pub head_same : (f g : Meaning → Bool) (m : Meaning) → f m ≡ g m → head_as f m ≡ head_as g m
 head_same f g (Local v) e = ap (λ t. macro_or_none t (Local v)) e
 head_same f g (Global u i) e = ap (λ t. macro_or_none t (Global u i)) e
 head_same f g (Standard s) e = ap (λ t. standard_head (core_named s) (auxiliary_named s) t (Standard s)) e
@@ -151,7 +151,7 @@ module _ (w v : Around) (same_unit : v.state.unit ≡ w.state.unit) (same_form :
   pub number_moved : (n : ℕ) → number_in v n ≡ number_in w n
   number_moved n = let u = same_unit in let f = same_form in λ j. record { unit = u j; form = f j; count = n }
 
-  found_moved : (n : Moment) (b : Option Number) (x : Named Ident) (r : Option (Rules Ident)) (fs : Frames) → found v b x r fs n ≡ found w b x r fs n
+  pub found_moved : (n : Moment) (b : Option Number) (x : Named Ident) (r : Option (Rules Ident)) (fs : Frames) → found v b x r fs n ≡ found w b x r fs n
   found_moved n None x r fs = let u = same_unit in let f = same_form in λ j. record n {
     table = record { unit = u j; form = f j; ident = x.name; keyword = is_some r; occ = x.occ } ∷ n.table;
     macros = macro_added (Global (u j) x.name) fs r n.macros;
@@ -164,14 +164,14 @@ module _ (w v : Around) (same_unit : v.state.unit ≡ w.state.unit) (same_form :
 
   -- ---- answers
 
-  abbrev Same : List (Moment × Question) → Type 0
+  abbrev pub Same : List (Moment × Question) → Type 0
   Same qs = AllOf (SameAnswer w v) qs
 
   module _ (n : Moment) where
-    abbrev own : Own
+    abbrev pub own : Own
     own = own_at n
 
-    means_alike : (fs : Frames) (i : Ident) → Same (dated n (unless_own (own_local own fs i) (LooksUp i ∷ []))) → own_means own (at_moment v n) fs i ≡ own_means own (at_moment w n) fs i
+    pub means_alike : (fs : Frames) (i : Ident) → Same (dated n (unless_own (own_local own fs i) (LooksUp i ∷ []))) → own_means own (at_moment v n) fs i ≡ own_means own (at_moment w n) fs i
     means_alike fs i a = go (own_local own fs i) a
       where
         go : (o : Option Number) → Same (dated n (unless_own o (LooksUp i ∷ []))) → local_or o (root_means (at_moment v n) i) ≡ local_or o (root_means (at_moment w n) i)
@@ -184,20 +184,20 @@ module _ (w v : Around) (same_unit : v.state.unit ≡ w.state.unit) (same_form :
     macro_known (Standard x) a = a
     macro_known (Free x) a = a
 
-    keyword_alike : (fs : Frames) (i : Ident) → Same (dated n (unless_own (own_local own fs i) (LooksUp i ∷ []))) → is_some (own_macro own (at_moment v n) (own_means own (at_moment w n) fs i)) ≡ is_some (own_macro own (at_moment w n) (own_means own (at_moment w n) fs i))
+    pub keyword_alike : (fs : Frames) (i : Ident) → Same (dated n (unless_own (own_local own fs i) (LooksUp i ∷ []))) → is_some (own_macro own (at_moment v n) (own_means own (at_moment w n) fs i)) ≡ is_some (own_macro own (at_moment w n) (own_means own (at_moment w n) fs i))
     keyword_alike fs i a = go (own_local own fs i) a
       where
         go : (o : Option Number) → Same (dated n (unless_own o (LooksUp i ∷ []))) → is_some (own_macro own (at_moment v n) (local_or o (root_means (at_moment w n) i))) ≡ is_some (own_macro own (at_moment w n) (local_or o (root_means (at_moment w n) i)))
         go None a = macro_known (root_means (at_moment w n) i) (ap (λ m. is_some (macro_at (at_moment v n).macros m)) (sym (ap meaning_in a.0)) ∙ ap truth_in a.0)
         go (Some k) a = refl
 
-    rules_alike : (m : Meaning) → Same (dated n (unless_local m)) → option_map bare_macro (own_macro own (at_moment v n) m) ≡ option_map bare_macro (own_macro own (at_moment w n) m)
+    pub rules_alike : (m : Meaning) → Same (dated n (unless_local m)) → option_map bare_macro (own_macro own (at_moment v n) m) ≡ option_map bare_macro (own_macro own (at_moment w n) m)
     rules_alike (Local k) a = refl
     rules_alike (Global u i) a = ap macro_in a.0
     rules_alike (Standard x) a = ap macro_in a.0
     rules_alike (Free x) a = ap macro_in a.0
 
-    both_alike : (ds : Frames) (l : Ident) (fs : Frames) (i : Ident) → Same (dated n (unless_own (own_local own ds l) (unless_own (own_local own fs i) (Compares l i ∷ []))))
+    pub both_alike : (ds : Frames) (l : Ident) (fs : Frames) (i : Ident) → Same (dated n (unless_own (own_local own ds l) (unless_own (own_local own fs i) (Compares l i ∷ []))))
         → same_meaning (own_means own (at_moment v n) ds l) (own_means own (at_moment v n) fs i) ≡ same_meaning (own_means own (at_moment w n) ds l) (own_means own (at_moment w n) fs i)
     both_alike ds l fs i a = go (own_local own ds l) (own_local own fs i) a
       where
@@ -208,14 +208,14 @@ module _ (w v : Around) (same_unit : v.state.unit ≡ w.state.unit) (same_form :
         go (Some k) None a = apart_left k (root_means (at_moment v n) i) (root_no (n.table ++ v.state.table) v.state.entry em i) ∙ sym (apart_left k (root_means (at_moment w n) i) (root_no (n.table ++ w.state.table) w.state.entry en i))
         go (Some k) (Some z) a = refl
 
-    assigned_alike : (b : Option Number) (i : Ident) → Same (dated n (in_unit b (IsAssigned i))) → assigned (at_moment v n) b i ≡ assigned (at_moment w n) b i
+    pub assigned_alike : (b : Option Number) (i : Ident) → Same (dated n (in_unit b (IsAssigned i))) → assigned (at_moment v n) b i ≡ assigned (at_moment w n) b i
     assigned_alike None i a = ap truth_in a.0
     assigned_alike (Some b) i a = refl
 
-    known_alike : (l : LibraryName) → Same (dated n (Requires l ∷ [])) → v.known l ≡ w.known l
+    pub known_alike : (l : LibraryName) → Same (dated n (Requires l ∷ [])) → v.known l ≡ w.known l
     known_alike l a = ap truth_in a.0
 
-    ends_alike : (b : Option Number) (fs : Frames) (x : Named Ident) (r : Option (Rules Ident)) (ns : List (Note FramedIdent)) → Same (dated n (in_unit b (Defines fs x r ns))) → outcome v n b fs x r ns ≡ outcome w n b fs x r ns
+    pub ends_alike : (b : Option Number) (fs : Frames) (x : Named Ident) (r : Option (Rules Ident)) (ns : List (Note FramedIdent)) → Same (dated n (in_unit b (Defines fs x r ns))) → outcome v n b fs x r ns ≡ outcome w n b fs x r ns
     ends_alike None fs x r ns a = ap outcome_in a.0
     ends_alike (Some b) fs x r ns a =
         let m = found_moved n (Some b) x r fs in let k = number_moved n.locals in
@@ -241,11 +241,11 @@ module _ (w v : Around) (same_unit : v.state.unit ≡ w.state.unit) (same_form :
 
   -- ---- what definitions bind
 
-  abbrev BindsIn : Option Number → Bound → Bound → Type 0
+  abbrev pub BindsIn : Option Number → Bound → Bound → Type 0
   BindsIn None x y = y ≡ moved_by w v x
   BindsIn (Some b) x y = y ≡ x
 
-  abbrev Binds : Frames → Bound → Bound → Type 0
+  abbrev pub Binds : Frames → Bound → Bound → Type 0
   Binds fs x y = BindsIn (body_around fs) x y
 
   pub some_binds : (b : Option Number) (x : Bound) → (y : Bound) × BindsIn b x y
@@ -310,8 +310,9 @@ module _ (w v : Around) (same_unit : v.state.unit ≡ w.state.unit) (same_form :
     answered = λ s t h qs a. all_answered s t h qs (all_parted (SameAnswer w v) (all_left s.moment qs) s.asked a).0;
     ask_back = λ s qs a. (all_parted (SameAnswer w v) (all_left s.moment qs) s.asked a).1;
     ask_later = λ s qs. tt;
-    ask_near = λ s t h qs. h;
+    ask_near = λ s t h qs rs a. h;
     ask_means = λ s qs fs i. refl;
+    ask_meant = λ t rs f i. refl;
     counts = λ s t h. counts_are v s.moment t h v.known;
     spend_back = λ s n a. a;
     spend_later = λ s n. tt;

@@ -23,7 +23,7 @@ use Rattle.form_laws.proofs.AskingSides.{NoLocals, fits, sides}
 use Rattle.form_laws.proofs.OwnStates.{entry_given}
 use Rattle.form_laws.proofs.OwnSide.{run_own, finish_own}
 
-each_all : {X : Type 0} (P : X → Type 0) (xs : List X) → Each P xs → AllOf P xs
+pub each_all : {X : Type 0} (P : X → Type 0) (xs : List X) → Each P xs → AllOf P xs
 each_all P [] h = tt
 each_all P (x ∷ xs) h = (h.0, each_all P xs h.1)
 
@@ -84,10 +84,10 @@ or_same G f e (Err x) (Err y) h = ap (λ z. Err z) h
 -- ---- what was set aside, with definitions of other numbers
 
 module _ (f : Bound → Bound) where
-  abbrev Moved : Bound → Bound → Type 0
+  abbrev pub Moved : Bound → Bound → Type 0
   Moved x y = y ≡ f x
 
-  items_moved : (is : List (Item Ident)) → Both (ItemLike Moved) is (map (item_with f) is)
+  pub items_moved : (is : List (Item Ident)) → Both (ItemLike Moved) is (map (item_with f) is)
   items_moved [] = tt
   items_moved (i ∷ is) = (item_moved i, items_moved is)
     where
@@ -105,7 +105,7 @@ module _ (f : Bound → Bound) where
       item_moved (Record r) = (record_with f r, (names_moved r.binders, refl, refl, refl), refl)
       item_moved (Macro b here) = (binder_with f b, (refl, refl, refl), refl)
 
-moved_meant : (m n : ℕ) (x : Bound) (i : Ident) → meaning_of (bound_moved m n x) i ≡ meaning_of x i
+pub moved_meant : (m n : ℕ) (x : Bound) (i : Ident) → meaning_of (bound_moved m n x) i ≡ meaning_of x i
 moved_meant m n (LocalNumber k) i = refl
 moved_meant m n (Definition u c) i = refl
 
@@ -115,7 +115,7 @@ moved_itself n (Definition u c) = let e : c + n - n ≡ c = omega arith in ap (D
 
 -- ---- there
 
-no_locals : (w : Around) → Begins w.state → NoLocals w
+pub no_locals : (w : Around) → Begins w.state → NoLocals w
 no_locals w h = λ u x. entry_given (w.state.entry u x) (h.entries u x)
 
 -- one question by one

@@ -10,6 +10,7 @@ pub mod AskingSides  -- A form with its questions, and the same form in other su
 pub mod OwnStates  -- A form at work, by what it has made and found since it began
 pub mod OwnSide  -- A form expanded by its own answers, and by what is asked at the root, comes to what it comes to by counts
 pub mod FormLaws  -- A form whose questions have the same answers in two surroundings comes to the same in both, but for the numbers of the unit's definitions
+pub mod AskingAlike  -- A form with its questions, and the same form with its questions in other surroundings, as two sides
 pub mod Beginnings  -- States in which a form may begin
 pub mod QuestionRows  -- What small forms ask, computed
 pub mod QuestionsMatter  -- Each question of a form matters

@@ -19,10 +19,10 @@ use Rattle.scheme_model.specs.Order.{Here, Item, Expression, Value, Function, As
 use Rattle.scheme_model.specs.Expression.{Task, whole, body, Expander, node, each, each_of, bound, procedure, lambda, clauses, meaning_of, macro_with, macro_def, leaves_asked, macro_asked, assignment, item_part, parts, left_of, body_in, body_core, expressions, sequence, heads, keep_all, numbers, local_defs, locals_asked, local_macros, recursive, let_syntax, letrec_syntax, mark_of, symbol_or_hole, quasi, quote, unless_keyword, set, reference, call, chosen_sequence, core_form, macro_use, by_head, expression, expand}
 use Rattle.model_laws.proofs.FrameAsks.{AllOf}
 use Rattle.model_laws.proofs.FrameHeads.{IfMacro}
-use Rattle.form_laws.proofs.Sides.{Both, Equal, BinderLike, MacroLike, ItemLike, PartLike, PartsLike, LeftLike, TransformerLike, Answer, Sides}
-use Rattle.form_laws.proofs.SideSteps.{other, Goes, Same, comes_into, comes_after, comes_read, comes_asked, asked_fits, goes_done, goes_same, goes_fails, bind_like, bind_same, counting_goes, given_goes, meet_goes, meet_later, meet_all_goes, meet_all_later, use_goes, parts_goes, rules_goes, Runs}
-use Rattle.form_laws.proofs.SideRuns.{run_runs}
-use Rattle.form_laws.proofs.AskedReaders.{chosen_same, quasi_same}
+use Rattle.form_laws.proofs.Sides.{Both, Equal, BinderLike, MacroLike, ItemLike, PartLike, PartsLike, LeftLike, TransformerLike, AskedLike, Answer, Sides}
+use Rattle.form_laws.proofs.SideSteps.{other, Goes, Same, comes_into, comes_after, comes_read, AskAlike, comes_asking, comes_asked, meant_alike, libraries_alike, asked_fits, goes_done, goes_same, goes_fails, bind_like, bind_same, counting_goes, given_goes, meet_goes, meet_later, meet_all_goes, meet_all_later, use_goes, parts_goes, rules_goes, Runs}
+use Rattle.form_laws.proofs.SideRuns.{both_append, run_runs}
+use Rattle.form_laws.proofs.AskedReaders.{chosen_same, quasi_same, marks_same}
 
 parted : {X : Type 0} (P : X → Type 0) (xs ys : List X) → AllOf P (xs ++ ys) → AllOf P xs × AllOf P ys
 parted P [] ys h = (tt, h)
@@ -142,17 +142,18 @@ module _ {E A L S T : Type 0} (ops : Ops E A L S) (others : Ops E A L T) (fits :
   -- a variable that isn't a keyword, and something with its target
   variable_goes : {V : Type 0} (depth : ℕ) (here : Here) (e f : E) (n : Named A) (s : S) → fits s e f → (step : Target → ℕ → Step S V) (step2 : Target → ℕ → Step T V) → ((x : Target) (below : ℕ) (u : S) → fits u e f → Gives u (step x below u) (step2 x below))
       → Gives s (unless_keyword ops here (head_of ops e s n.name) n (node ops here 1 depth (λ below u. step (target_of ops e u n.name n.occ) below u)) (ops.ask (Headed e n.name ∷ []) s))
-      (λ t. unless_keyword there here (head_of there f t n.name) n (node there here 1 depth (λ below u. step2 (target_of there f u n.name n.occ) below u)) t)
+      (λ t. unless_keyword there here (head_of there f t n.name) n (node there here 1 depth (λ below u. step2 (target_of there f u n.name n.occ) below u)) (others.ask (Headed f n.name ∷ []) t))
   variable_goes {V} depth here e f n s h step step2 law =
       let c = head_of ops e s n.name in
       let qs = Headed e n.name ∷ [] in
+      let rs = Headed f n.name ∷ [] in
       let u = ops.ask qs s in
       let x = target_of ops e u n.name n.occ in
       let hu = asked_fits ops others fits k s qs e f h in
-      comes_asked ops others fits k s qs _ (unless_keyword there here c n (node there here 1 depth (step2 x)))
-      (λ t w a. let b = a.0 f h in let p = b.0 ∙ sym (k.ask_means s qs e n.name) in
-      unless_fixed there here (head_of there f t n.name) n _ _ t (fixed there k.spend_meant here depth f n V step2 t)
-      ∙ (λ j. unless_keyword there here (b.1 j) n (node there here 1 depth (step2 (record { meaning = p j; ident = ops.plain n.name; occ = n.occ }))) t))
+      comes_asked ops others fits k s qs rs ((f, h, refl), tt) _ (unless_keyword there here c n (node there here 1 depth (step2 x)))
+      (λ t w a. let b = a.0 f h in let v = others.ask rs t in let p = k.ask_meant t rs f n.name ∙ (b.0 ∙ sym (k.ask_means s qs e n.name)) in
+      unless_fixed there here (head_of there f t n.name) n _ _ v (fixed there k.spend_meant here depth f n V step2 v)
+      ∙ (λ j. unless_keyword there here (b.1 j) n (node there here 1 depth (step2 (record { meaning = p j; ident = ops.plain n.name; occ = n.occ }))) v))
       (subst (λ (z : Result V Broken × S). Gives u z (unless_keyword there here c n (node there here 1 depth (step2 x)))) (sym (unless_fixed ops here c n _ _ u (fixed ops k.spend_means here depth e n V step u)))
       (unless_goes here c n u (node ops here 1 depth (step x)) (node there here 1 depth (step2 x)) (node_goes here 1 depth u (step x) (step2 x) (λ below w a. law x below w (still u w a e f hu)))))
     where
@@ -163,11 +164,11 @@ module _ {E A L S T : Type 0} (ops : Ops E A L S) (others : Ops E A L T) (fits :
       unless_fixed o here IsNone n go go2 s e = e
 
   -- a target is read, and asked for
-  target_goes : {V : Type 0} (s : S) (e f : E) → fits s e f → (n : Named A) {q : Result V Broken × S} (g0 : Step T V) (g : Target → Step T V) → ((t : T) → g0 t ≡ g (target_of there f t n.name n.occ) t)
+  target_goes : {V : Type 0} (s : S) (e f : E) → fits s e f → (n : Named A) {q : Result V Broken × S} (g0 : Step T V) (g : Target → Step T V) → ((t : T) → g0 t ≡ g (target_of there f t n.name n.occ) (others.ask (Meant f n.name ∷ []) t))
       → Gives (ops.ask (Meant e n.name ∷ []) s) q (g (target_of ops e s n.name n.occ)) → Gives s q g0
   target_goes s e f h n g0 g find law =
-      comes_asked ops others fits k s (Meant e n.name ∷ []) g0 (g (target_of ops e s n.name n.occ))
-      (λ t w a. find t ∙ (let p = a.0 f h in λ j. g (record { meaning = p j; ident = ops.plain n.name; occ = n.occ }) t)) law
+      comes_asked ops others fits k s (Meant e n.name ∷ []) (Meant f n.name ∷ []) ((f, h, refl), tt) g0 (g (target_of ops e s n.name n.occ))
+      (λ t w a. find t ∙ (let p = a.0 f h in λ j. g (record { meaning = p j; ident = ops.plain n.name; occ = n.occ }) (others.ask (Meant f n.name ∷ []) t))) law
 
   -- ---- macro definitions
 
@@ -189,6 +190,19 @@ module _ {E A L S T : Type 0} (ops : Ops E A L S) (others : Ops E A L T) (fits :
       let m : Meaning = meaning_of b.bound b.ident in
       let same : meaning_of c.bound c.ident ≡ m = ap (λ i. meaning_of c.bound i) h.1 ∙ meant b.bound c.bound h.0 b.ident in
       subst (λ (n : Meaning). MacroLike R (macro_def ops s b) (macro_with there t c (others.transformer t n))) (sym same) (macro_by R s t b c h (ops.transformer s m) (others.transformer t m) a.0 a.1)
+
+  -- both ask alike of it
+  leaves_alike : (s : S) (o o2 : Option (Transformer E A)) → TransformerLike (fits s) o o2 → AskAlike ops others fits k s (leaves_asked ops o) (leaves_asked there o2)
+  leaves_alike s None o2 x = subst (λ (z : Option (Transformer E A)). AskAlike ops others fits k s [] (leaves_asked there z)) (sym x) tt
+  leaves_alike s (Some m) o2 x =
+      subst (λ (z : Option (Transformer E A)). AskAlike ops others fits k s (leaves_asked ops (Some m)) (leaves_asked there z)) (sym x.2) (meant_alike ops others fits k (λ (l : Leaf A). l.leaf.name) s m.env x.0 x.1 (leaves_of ops.names m.rules))
+
+  macro_alike : (R : Bound → Bound → Type 0) → ((x y : Bound) → R x y → (i : Ident) → meaning_of y i ≡ meaning_of x i) → (s : S) (t : T) (b c : Binder) → BinderLike R b c → AllOf (Answer ops others fits s t) (macro_asked ops s b)
+      → AskAlike ops others fits k s (macro_asked ops s b) (macro_asked there t c)
+  macro_alike R meant s t b c h a =
+      let m : Meaning = meaning_of b.bound b.ident in
+      let same : meaning_of c.bound c.ident ≡ m = ap (λ i. meaning_of c.bound i) h.1 ∙ meant b.bound c.bound h.0 b.ident in
+      subst (λ (n : Meaning). AskAlike ops others fits k s (macro_asked ops s b) (RulesOf n ∷ leaves_asked there (others.transformer t n))) (sym same) (refl, leaves_alike s (ops.transformer s m) (others.transformer t m) a.0)
 
   -- the macro of another binder is told by the first's
   macro_some : (R : Bound → Bound → Type 0) (s : S) (b c : Binder) → BinderLike R b c → (n : MacroDef) × MacroLike R (macro_def ops s b) n
@@ -213,6 +227,15 @@ module _ {E A L S T : Type 0} (ops : Ops E A L S) (others : Ops E A L T) (fits :
       let b : Binder = record { bound = LocalNumber v; ident = ops.plain n.name; occ = n.occ } in
       let q = parted (Answer ops others fits s t) (macro_asked ops s b) (locals_asked ops s vs ns) a in
       let x = local_macro s t b q.0 in let y = local_macros_same s t vs ns q.1 in λ j. x j ∷ y j
+
+  locals_alike : (s : S) (t : T) (vs : List Number) (ns : List (Named A)) → AllOf (Answer ops others fits s t) (locals_asked ops s vs ns) → AskAlike ops others fits k s (locals_asked ops s vs ns) (locals_asked there t vs ns)
+  locals_alike s t [] ns a = tt
+  locals_alike s t (v ∷ vs) [] a = tt
+  locals_alike s t (v ∷ vs) (n ∷ ns) a =
+      let b : Binder = record { bound = LocalNumber v; ident = ops.plain n.name; occ = n.occ } in
+      let q = parted (Answer ops others fits s t) (macro_asked ops s b) (locals_asked ops s vs ns) a in
+      both_append (AskedLike (fits s)) (macro_asked ops s b) (macro_asked there t b) (locals_asked ops s vs ns) (locals_asked there t vs ns)
+      (macro_alike (λ (x y : Bound). y ≡ x) (λ x y d i. ap (λ z. meaning_of z i) d) s t b b (refl, refl, refl) q.0) (locals_alike s t vs ns q.1)
 
   heads_goes : (here : Here) (e f : E) (ts : Trees A) (s : S) → fits s e f → Gives {V = List (RulesParts A)} s (heads ops here e ts s) (heads there here f ts)
   heads_goes here e f no_trees s h = goes_same ops others fits k s []
@@ -279,7 +302,8 @@ module _ {E A L S T : Type 0} (ops : Ops E A L S) (others : Ops E A L T) (fits :
             back = λ a. k.ask_back s (macro_asked ops s b) a;
             after = k.ask_later s (macro_asked ops s b);
             some = (Ok (syntax_part one.0), (one.0, one.1, refl));
-            same = λ t w a. ((macro_def there t l.0, macro_like R meant s t b l.0 l.1 (k.answered s t w (macro_asked ops s b) a), refl), k.ask_near s t w (macro_asked ops s b));
+            same = λ t w a. let x = k.answered s t w (macro_asked ops s b) a in
+                ((macro_def there t l.0, macro_like R meant s t b l.0 l.1 x, refl), k.ask_near s t w (macro_asked ops s b) (macro_asked there t l.0) (macro_alike R meant s t b l.0 l.1 x));
           })
 
       pub parts_go : (depth : ℕ) (e f : E) (is js : List (Item A)) → Both (ItemLike R) is js → (s : S) → fits s e f → Goes ops others fits k (λ u. PartsLike R) s (parts (item_part F ops depth e) is s) (parts (item_part G there depth f) js)
@@ -337,8 +361,8 @@ module _ {E A L S T : Type 0} (ops : Ops E A L S) (others : Ops E A L T) (fits :
         let zv = still u v b d g zu in let hv = still u v b e f hu in
         bind_same ops others fits k {V = Unit {0}} v _ _ (keep_goes here d g vs rules rs v zv) (λ x w c.
         let qs = locals_asked ops w vs ns in
-        comes_asked ops others fits k w qs _ (λ t. G below here f (body ts) t >>= λ c. done (LetSyntax (local_defs ops w vs ns) c))
-        (λ t y q. ap (λ ds. G below here f (body ts) t >>= λ c. done (LetSyntax ds c)) (local_macros_same w t vs ns q))
+        comes_asking ops others fits k w qs _ (λ t. G below here f (body ts) t >>= λ c. done (LetSyntax (local_defs ops w vs ns) c))
+        (λ t y q. let rs = locals_asked there t vs ns in (rs, locals_alike w t vs ns q, ap (λ ds. G below here f (body ts) (others.ask rs t) >>= λ c. done (LetSyntax ds c)) (local_macros_same w t vs ns q)))
         (made (ops.ask qs w) (λ c. LetSyntax (local_defs ops w vs ns) c) (law below here e f (body ts) (ops.ask qs w) (asked_fits ops others fits k w qs e f (still v w c e f hv)))))))
 
     recursive_goes : (depth : ℕ) (here : Here) (vs : List Number) (ns : List (Named A)) (e f : E) (ts : Trees A) (s : S) → fits s e f → Gives s (recursive F ops depth here vs ns e ts s) (recursive G there depth here vs ns f ts)
@@ -401,6 +425,10 @@ module _ {E A L S T : Type 0} (ops : Ops E A L S) (others : Ops E A L T) (fits :
     marks_there s t e f h [] a = tt
     marks_there s t e f h (i ∷ is) a = (ap mark_of (a.0 f h).1, marks_there s t e f h is a.1)
 
+    headed_alike : (s : S) (e f : E) → fits s e f → (is : List A) → AskAlike ops others fits k s (map (λ (i : A). Headed e i) is) (map (λ (i : A). Headed f i) is)
+    headed_alike s e f h [] = tt
+    headed_alike s e f h (i ∷ is) = ((f, h, refl), headed_alike s e f h is)
+
     known_there : (s : S) (t : T) (ns : List LibraryName) → AllOf (Answer ops others fits s t) (map (λ (n : LibraryName). Library n) ns) → AllOf (λ (n : LibraryName). others.known n ≡ ops.known n) ns
     known_there s t [] a = tt
     known_there s t (n ∷ ns) a = (a.0, known_there s t ns a.1)
@@ -410,8 +438,11 @@ module _ {E A L S T : Type 0} (ops : Ops E A L S) (others : Ops E A L T) (fits :
     core_goes depth here e f IsQuasiquote ts tail s h =
         let mark = λ (i : A). mark_of (head_of ops e s i) in
         let qs : List (Asked E A) = map (λ (i : A). Headed e i) (marks_in mark ts tail) in
-        comes_asked ops others fits k s qs _ (λ t. given ops.plain here (one_of ts tail >> quasi_of mark) t >>= quasi G there depth here f)
-        (λ t w a. ap (λ r. given ops.plain here r t >>= quasi G there depth here f) (quasi_same mark (λ (i : A). mark_of (head_of there f t i)) ts tail (marks_there s t e f h (marks_in mark ts tail) a)))
+        let rs : List (Asked E A) = map (λ (i : A). Headed f i) (marks_in mark ts tail) in
+        comes_asked ops others fits k s qs rs (headed_alike s e f h (marks_in mark ts tail)) _ (λ t. given ops.plain here (one_of ts tail >> quasi_of mark) t >>= quasi G there depth here f)
+        (λ t w a. let there_mark = λ (i : A). mark_of (head_of there f t i) in let x = marks_there s t e f h (marks_in mark ts tail) a in
+        let p = quasi_same mark there_mark ts tail x in let q = marks_same mark there_mark ts tail x in
+        λ j. given ops.plain here (p j) (others.ask (map (λ (i : A). Headed f i) (q j)) t) >>= quasi G there depth here f)
         (read_goes here e f (one_of ts tail >> quasi_of mark) (ops.ask qs s) (asked_fits ops others fits k s qs e f h) _ _ (λ p u hu. quasi_goes depth here e f p u hu))
     core_goes depth here e f IsLambda ts tail s h = read_goes here e f (lambda_of ops.names.same ts tail) s h _ _ (λ c u hu. lambda_goes depth here e f c u hu)
     core_goes depth here e f IsCaseLambda ts tail s h = read_goes here e f (case_lambda_of ops.names.same ts tail) s h _ _ (λ cs u hu. node_goes here 1 depth u _ _ (λ below v a. made v CaseLambda (clauses_goes below here e f cs v (still u v a e f hu))))
@@ -426,8 +457,8 @@ module _ {E A L S T : Type 0} (ops : Ops E A L S) (others : Ops E A L T) (fits :
     core_goes depth here e f IsLetrecSyntax ts tail s h = read_goes here e f (local_macros_of ops.names.same ts tail) s h _ _ (λ m u hu. letrec_goes depth here e f m u hu)
     core_goes depth here e f IsCondExpand ts tail s h =
         let qs : List (Asked E A) = map (λ (n : LibraryName). Library n) (libraries_in ops.names.strip ts tail) in
-        comes_asked ops others fits k s qs _ (λ t. given ops.plain here (chosen_of ops.names.strip ops.known ts tail) t >>= chosen_sequence G there depth here f)
-        (λ t w a. ap (λ r. given ops.plain here r t >>= chosen_sequence G there depth here f) (chosen_same ops.names.strip others.known ops.known ts tail (known_there s t (libraries_in ops.names.strip ts tail) a)))
+        comes_asked ops others fits k s qs qs (libraries_alike ops others fits k s (libraries_in ops.names.strip ts tail)) _ (λ t. given ops.plain here (chosen_of ops.names.strip ops.known ts tail) t >>= chosen_sequence G there depth here f)
+        (λ t w a. ap (λ r. given ops.plain here r (others.ask qs t) >>= chosen_sequence G there depth here f) (chosen_same ops.names.strip others.known ops.known ts tail (known_there s t (libraries_in ops.names.strip ts tail) a)))
         (read_goes here e f (chosen_of ops.names.strip ops.known ts tail) (ops.ask qs s) (asked_fits ops others fits k s qs e f h) _ _ (λ o u hu. chosen_goes depth here e f o u hu))
     core_goes depth here e f IsSyntaxError ts tail s h = read_goes here e f (error_text_of ts tail) s h _ _ (λ text u hu. goes_fails ops others fits k here (SyntaxError text) u)
     core_goes depth here e f IsInclude ts tail s h = goes_fails ops others fits k here IncludeRefused s
@@ -435,9 +466,10 @@ module _ {E A L S T : Type 0} (ops : Ops E A L S) (others : Ops E A L T) (fits :
     -- ---- any expression
 
     macro_goes : (depth : ℕ) (here : Here) (e f : E) (x : Target) (ts : Trees A) (tail : Tail A) (s : S) → fits s e f → (m : Meaning) (o : Option (Transformer E A)) → o ≡ ops.transformer s m
-        → Gives s (macro_use F ops depth here e x o ts tail (ops.ask (RulesOf m ∷ []) s)) (λ t. macro_use G there depth here f x (others.transformer t m) ts tail t)
+        → Gives s (macro_use F ops depth here e x o ts tail (ops.ask (RulesOf m ∷ []) s)) (λ t. macro_use G there depth here f x (others.transformer t m) ts tail (others.ask (RulesOf m ∷ []) t))
     macro_goes depth here e f x ts tail s h m None d =
-        comes_asked ops others fits k s (RulesOf m ∷ []) _ (fails here BadForm) (λ t n a. ap (λ z. macro_use G there depth here f x z ts tail t) (by a.0)) (goes_fails ops others fits k here BadForm (ops.ask (RulesOf m ∷ []) s))
+        let qs = RulesOf m ∷ [] in
+        comes_asked ops others fits k s qs qs (refl, tt) _ (fails here BadForm) (λ t n a. ap (λ z. macro_use G there depth here f x z ts tail (others.ask qs t)) (by a.0)) (goes_fails ops others fits k here BadForm (ops.ask (RulesOf m ∷ []) s))
       where
         by : {z : Option (Transformer E A)} → TransformerLike (fits s) (ops.transformer s m) z → z ≡ None
         by {z} a = subst (λ (w : Option (Transformer E A)). TransformerLike (fits s) w z) (sym d) a
@@ -450,7 +482,7 @@ module _ {E A L S T : Type 0} (ops : Ops E A L S) (others : Ops E A L T) (fits :
         (λ g z. bind_same ops others fits k u _ _ (use_goes ops others fits k here e f x c.env g c.rules ts tail u hu z)
         (λ i v a. let hv = still u v a e f hu in let w = meet_waiting ops e i.met v in
         meet_goes ops others fits k e f i.met v (G depth here f (whole i.tree)) hv (law depth here e f (whole i.tree) w (still v w (meet_later ops others fits k e i.met v) e f hv))))
-        (λ t n a. let z = by (k.answered s t n qs a).0 in (z.0, asked_fits ops others fits k s qs c.env z.0 z.1, t, k.ask_near s t n qs, ap (λ w. macro_use G there depth here f x w ts tail t) z.2))
+        (λ t n a. let z = by (k.answered s t n qs a).0 in (z.0, asked_fits ops others fits k s qs c.env z.0 z.1, others.ask qs t, k.ask_near s t n qs qs (refl, tt), ap (λ w. macro_use G there depth here f x w ts tail (others.ask qs t)) z.2))
       where
         by : {z : Option (Transformer E A)} → TransformerLike (fits s) (ops.transformer s m) z → TransformerLike (fits s) (Some c) z
         by {z} a = subst (λ (w : Option (Transformer E A)). TransformerLike (fits s) w z) (sym d) a
@@ -459,25 +491,25 @@ module _ {E A L S T : Type 0} (ops : Ops E A L S) (others : Ops E A L T) (fits :
     head_goes : (depth : ℕ) (here : Here) (e f : E) (c : Head) (n : Named A) (ts : Trees A) (tail : Tail A) (s : S) → fits s e f → c ≡ head_of ops e s n.name
         → Gives s (by_head F ops depth here e c n ts tail s) (λ t. by_head G there depth here f (head_of there f t n.name) n ts tail t)
     head_goes depth here e f (IsCore c) n ts tail s h d =
-        let qs = Headed e n.name ∷ [] in
+        let qs = Headed e n.name ∷ [] in let rs = Headed f n.name ∷ [] in
         let u = ops.ask qs s in let x = target_of ops e s n.name n.occ in let w = ops.meet x u in
-        comes_asked ops others fits k s qs _ (λ t. core_form G there depth here f c ts tail (others.meet x t))
-        (λ t z a. let b = a.0 f h in ap (λ y. by_head G there depth here f y n ts tail t) (b.1 ∙ sym d) ∙ (let p = b.0 in λ j. core_form G there depth here f c ts tail (others.meet (record { meaning = p j; ident = ops.plain n.name; occ = n.occ }) t)))
+        comes_asked ops others fits k s qs rs ((f, h, refl), tt) _ (λ t. core_form G there depth here f c ts tail (others.meet x t))
+        (λ t z a. let b = a.0 f h in ap (λ y. by_head G there depth here f y n ts tail t) (b.1 ∙ sym d) ∙ (let p = b.0 in λ j. core_form G there depth here f c ts tail (others.meet (record { meaning = p j; ident = ops.plain n.name; occ = n.occ }) (others.ask rs t))))
         (comes_after ops others fits k u w (core_form G there depth here f c ts tail) (others.meet x) (k.meet_back u x) (k.meet_later u x) (λ t z. k.meet_near u t z x)
         (core_goes depth here e f c ts tail w (still u w (k.meet_later u x) e f (asked_fits ops others fits k s qs e f h))))
     head_goes depth here e f (IsAuxiliary c) n ts tail s h d =
-        let qs = Headed e n.name ∷ [] in
-        comes_asked ops others fits k s qs _ (call G there depth here f (tree (name n.name n.occ) ts) tail) (λ t w a. ap (λ z. by_head G there depth here f z n ts tail t) ((a.0 f h).1 ∙ sym d))
+        let qs = Headed e n.name ∷ [] in let rs = Headed f n.name ∷ [] in
+        comes_asked ops others fits k s qs rs ((f, h, refl), tt) _ (call G there depth here f (tree (name n.name n.occ) ts) tail) (λ t w a. ap (λ z. by_head G there depth here f z n ts tail t) ((a.0 f h).1 ∙ sym d))
         (call_goes depth here e f (tree (name n.name n.occ) ts) tail (ops.ask qs s) (asked_fits ops others fits k s qs e f h))
     head_goes depth here e f (IsMacro m) n ts tail s h d =
-        let qs = Headed e n.name ∷ [] in
+        let qs = Headed e n.name ∷ [] in let rs = Headed f n.name ∷ [] in
         let u = ops.ask qs s in let x = target_of ops e s n.name n.occ in
-        comes_asked ops others fits k s qs _ (λ t. macro_use G there depth here f x (others.transformer t m) ts tail t)
-        (λ t w a. let b = a.0 f h in ap (λ z. by_head G there depth here f z n ts tail t) (b.1 ∙ sym d) ∙ (let p = b.0 in λ j. macro_use G there depth here f (record { meaning = p j; ident = ops.plain n.name; occ = n.occ }) (others.transformer t m) ts tail t))
+        comes_asked ops others fits k s qs rs ((f, h, refl), tt) _ (λ t. macro_use G there depth here f x (others.transformer t m) ts tail (others.ask (RulesOf m ∷ []) t))
+        (λ t w a. let b = a.0 f h in ap (λ z. by_head G there depth here f z n ts tail t) (b.1 ∙ sym d) ∙ (let p = b.0 in λ j. macro_use G there depth here f (record { meaning = p j; ident = ops.plain n.name; occ = n.occ }) (others.transformer (others.ask rs t) m) ts tail (others.ask (RulesOf m ∷ []) (others.ask rs t))))
         (macro_goes depth here e f x ts tail u (asked_fits ops others fits k s qs e f h) m (ops.transformer u m) refl)
     head_goes depth here e f IsNone n ts tail s h d =
-        let qs = Headed e n.name ∷ [] in
-        comes_asked ops others fits k s qs _ (call G there depth here f (tree (name n.name n.occ) ts) tail) (λ t w a. ap (λ z. by_head G there depth here f z n ts tail t) ((a.0 f h).1 ∙ sym d))
+        let qs = Headed e n.name ∷ [] in let rs = Headed f n.name ∷ [] in
+        comes_asked ops others fits k s qs rs ((f, h, refl), tt) _ (call G there depth here f (tree (name n.name n.occ) ts) tail) (λ t w a. ap (λ z. by_head G there depth here f z n ts tail t) ((a.0 f h).1 ∙ sym d))
         (call_goes depth here e f (tree (name n.name n.occ) ts) tail (ops.ask qs s) (asked_fits ops others fits k s qs e f h))
 
     expression_goes : (depth : ℕ) (here : Here) (e f : E) (t : Tree A) (s : S) → fits s e f → Gives s (expression F ops depth here e t s) (expression G there depth here f t)

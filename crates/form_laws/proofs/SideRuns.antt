@@ -16,10 +16,10 @@ use Rattle.scheme_model.specs.Order.{Here, Form, Item, Expression, Value, Functi
 use Rattle.model_laws.proofs.FrameAsks.{AllOf}
 use Rattle.model_laws.proofs.FrameHeads.{IfMacro}
 use Rattle.form_laws.proofs.Sides.{Both, Results, BinderLike, ItemLike, PendingLike, RenamedLike, TransformerLike, Answer, Sides}
-use Rattle.form_laws.proofs.SideSteps.{other, Comes, Goes, comes_into, comes_after, comes_read, comes_asked, asked_fits, goes_done, goes_fails, bind_like, bind_same, counting_goes, given_goes, pairs, held, held_first, questions, use_begun, use_read, use_from, compared_there, compared_read, compared_noted, parts_there, parts_from, rules_goes, fields_goes, Runs, caught_like, caught_same}
+use Rattle.form_laws.proofs.SideSteps.{other, Comes, Goes, comes_into, comes_after, comes_read, comes_asked, libraries_alike, asked_fits, goes_done, goes_fails, bind_like, bind_same, counting_goes, given_goes, pairs, held, held_first, questions, questions_there, questions_alike, use_begun, use_read, use_from, compared_there, compared_read, compared_noted, parts_there, parts_from, rules_goes, fields_goes, Runs, caught_like, caught_same}
 use Rattle.form_laws.proofs.AskedReaders.{chosen_same}
 
-both_append : {X : Type 0} (R : X → X → Type 0) (xs ys us vs : List X) → Both R xs ys → Both R us vs → Both R (xs ++ us) (ys ++ vs)
+pub both_append : {X : Type 0} (R : X → X → Type 0) (xs ys us vs : List X) → Both R xs ys → Both R us vs → Both R (xs ++ us) (ys ++ vs)
 both_append R [] [] us vs h l = l
 both_append R [] (y ∷ ys) us vs h l = absurd h
 both_append R (x ∷ xs) [] us vs h l = absurd h
@@ -161,13 +161,15 @@ module _ {E A L S T : Type 0} (ops : Ops E A L S) (others : Ops E A L T) (fits :
         define_runs p q (Variable n t) s h l =
             let b = ops.is_assigned e s n.name in
             let qs = Assigns e n.name ∷ [] in
-            comes_asked ops others fits k s qs (run_define there go2 here f q (Variable n t)) (run_variable there go2 here f n t b q)
-            (λ u z a. ap (λ c. run_variable there go2 here f n t c q u) (a.0 f h)) (variable_runs n t b p q (ops.ask qs s) (asked_fits ops others fits k s qs e f h) (asked_waits s qs p q l))
+            let rs = Assigns f n.name ∷ [] in
+            comes_asked ops others fits k s qs rs ((f, h, refl), tt) (run_define there go2 here f q (Variable n t)) (run_variable there go2 here f n t b q)
+            (λ u z a. ap (λ c. run_variable there go2 here f n t c q (others.ask rs u)) (a.0 f h)) (variable_runs n t b p q (ops.ask qs s) (asked_fits ops others fits k s qs e f h) (asked_waits s qs p q l))
         define_runs p q (Procedure n c) s h l =
             let b = ops.is_assigned e s n.name in
             let qs = Assigns e n.name ∷ [] in
-            comes_asked ops others fits k s qs (run_define there go2 here f q (Procedure n c)) (run_function there go2 here f n c b q)
-            (λ u z a. ap (λ d. run_function there go2 here f n c d q u) (a.0 f h)) (function_runs n c b p q (ops.ask qs s) (asked_fits ops others fits k s qs e f h) (asked_waits s qs p q l))
+            let rs = Assigns f n.name ∷ [] in
+            comes_asked ops others fits k s qs rs ((f, h, refl), tt) (run_define there go2 here f q (Procedure n c)) (run_function there go2 here f n c b q)
+            (λ u z a. ap (λ d. run_function there go2 here f n c d q (others.ask rs u)) (a.0 f h)) (function_runs n c b p q (ops.ask qs s) (asked_fits ops others fits k s qs e f h) (asked_waits s qs p q l))
 
         -- ---- several names
 
@@ -231,12 +233,13 @@ module _ {E A L S T : Type 0} (ops : Ops E A L S) (others : Ops E A L T) (fits :
             let m : Note L = LookedUp (others.place f r.head) false (is_keyword hd) in
             let p1 = noted (n ∷ []) p in let q1 = noted (m ∷ []) q in
             let qs = Headed e r.head ∷ [] in
+            let rs = Headed f r.head ∷ [] in
             let s1 = ops.ask qs s in
             let h1 = asked_fits ops others fits k s qs e f h in
             let l1 : Waits e s p1 q1 = record { todo = l.todo; aside = l.aside; uses = l.uses; notes = k.more_notes s e p.notes q.notes l.notes n m (k.placed s e f h r.head, refl, refl) } in
             let l2 = asked_waits s qs p1 q1 l1 in
-            comes_asked ops others fits k s qs _ (λ t. caught {B = Binder × Pending A L} q1.notes (parts_there ops others fits k here e f hd r t >>= macro_defined2 d q1) (λ x. go2 (put (Macro x.0 here) x.1)))
-            (λ t z a. let c = (a.0 f h).1 in λ j. caught {B = Binder × Pending A L} (noted (LookedUp (others.place f r.head) false (is_keyword (c j)) ∷ []) q).notes (parts_there ops others fits k here e f (c j) r t >>= macro_defined2 d (noted (LookedUp (others.place f r.head) false (is_keyword (c j)) ∷ []) q)) (λ x. go2 (put (Macro x.0 here) x.1)))
+            comes_asked ops others fits k s qs rs ((f, h, refl), tt) _ (λ t. caught {B = Binder × Pending A L} q1.notes (parts_there ops others fits k here e f hd r t >>= macro_defined2 d q1) (λ x. go2 (put (Macro x.0 here) x.1)))
+            (λ t z a. let c = (a.0 f h).1 in λ j. caught {B = Binder × Pending A L} (noted (LookedUp (others.place f r.head) false (is_keyword (c j)) ∷ []) q).notes (parts_there ops others fits k here e f (c j) r (others.ask rs t) >>= macro_defined2 d (noted (LookedUp (others.place f r.head) false (is_keyword (c j)) ∷ []) q)) (λ x. go2 (put (Macro x.0 here) x.1)))
             (caught_like ops others fits k {V = Binder × Pending A L} {W = Binder × Pending A L} {G = One} e p1.notes q1.notes (λ x. go (put (Macro x.0 here) x.1)) (λ x. go2 (put (Macro x.0 here) x.1)) s1 l2.notes
             (bind_same ops others fits k {V = RulesParts A} {H = One} s1 (macro_defined d p1) (macro_defined2 d q1) (parts_from ops others fits k here e f r s) (λ x u a. macro_goes d p1 q1 x u (k.fits_later s1 u a e f h1) (waits_later e s1 u a p1 q1 l2)))
             (macro_put s1 h1))
@@ -283,9 +286,9 @@ module _ {E A L S T : Type 0} (ops : Ops E A L S) (others : Ops E A L T) (fits :
 
             chosen_runs : Runs ops others fits k e s (run_core ops go here e IsCondExpand x y ts tail p s) (run_core there go2 here f IsCondExpand x y ts tail q)
             chosen_runs =
-                comes_after ops others fits k s met_state (read_then there here q (chosen_of ops.names.strip others.known ts tail) (λ c. splice there go2 here q (or_none c))) (others.meet x) (k.meet_back s x) (k.meet_later s x) (λ t z. k.meet_near s t z x)
-                (comes_asked ops others fits k met_state libraries _ (read_then there here q (chosen_of ops.names.strip ops.known ts tail) (λ c. splice there go2 here q (or_none c)))
-                (λ t z a. ap (λ c. read_then there here q c (λ c. splice there go2 here q (or_none c)) t) (chosen_same ops.names.strip others.known ops.known ts tail (known_there met_state t (libraries_in ops.names.strip ts tail) a)))
+                comes_after ops others fits k s met_state (λ t. read_then there here q (chosen_of ops.names.strip others.known ts tail) (λ c. splice there go2 here q (or_none c)) (others.ask libraries t)) (others.meet x) (k.meet_back s x) (k.meet_later s x) (λ t z. k.meet_near s t z x)
+                (comes_asked ops others fits k met_state libraries libraries (libraries_alike ops others fits k met_state (libraries_in ops.names.strip ts tail)) _ (read_then there here q (chosen_of ops.names.strip ops.known ts tail) (λ c. splice there go2 here q (or_none c)))
+                (λ t z a. ap (λ c. read_then there here q c (λ c. splice there go2 here q (or_none c)) (others.ask libraries t)) (chosen_same ops.names.strip others.known ops.known ts tail (known_there met_state t (libraries_in ops.names.strip ts tail) a)))
                 (read_runs (chosen_of ops.names.strip ops.known ts tail) (λ c. splice ops go here p (or_none c)) (λ c. splice there go2 here q (or_none c)) (ops.ask libraries met_state) (asked_fits ops others fits k met_state libraries e f met_fits) (asked_waits met_state libraries p q met_waits)
                 (λ c u hu lu. splice_runs p q (or_none c) u hu lu)))
 
@@ -313,6 +316,9 @@ module _ {E A L S T : Type 0} (ops : Ops E A L S) (others : Ops E A L T) (fits :
               abbrev asked_here : List (Asked E A)
               asked_here = questions ops others fits k here e f x m.env g m.rules ts tail s h z
 
+              abbrev asked_there : List (Asked E A)
+              asked_there = questions_there ops others fits k here e f x m.env g m.rules ts tail s h z
+
               abbrev macro_there : Transformer E A
               macro_there = record { env = g; rules = m.rules }
 
@@ -322,7 +328,7 @@ module _ {E A L S T : Type 0} (ops : Ops E A L S) (others : Ops E A L T) (fits :
                   map (λ (c : A × A). Compared (others.place g c.0) (others.place f c.1) (held ops others fits k here e f x m.env g m.rules ts tail s h z t c.0 c.1)) (pairs ops others fits k here e f x m.env g m.rules ts tail s h z)
 
               abbrev use_there : Step T (Instance A)
-              use_there t = used there here x macro_there (others.next_use t) (first_match (matcher ops.names m.rules (held ops others fits k here e f x m.env g m.rules ts tail s h z t)) m.rules.rules ts tail) (others.begin_use g t)
+              use_there t = used there here x macro_there (others.next_use t) (first_match (matcher ops.names m.rules (held ops others fits k here e f x m.env g m.rules ts tail s h z t)) m.rules.rules ts tail) (others.begin_use g (others.ask asked_there t))
 
               abbrev notes_here : List (Note L)
               notes_here =
@@ -351,7 +357,7 @@ module _ {E A L S T : Type 0} (ops : Ops E A L S) (others : Ops E A L T) (fits :
                   let s1 = ops.ask asked_here s in
                   let l1 : Waits e s p1 q1 = record { todo = l.todo; aside = l.aside; uses = l.uses; notes = compared_noted ops others fits k here e f x m.env g m.rules ts tail s h z e p.notes q.notes l.notes } in
                   let l2 = asked_waits s asked_here p1 q1 l1 in
-                  comes_asked ops others fits k s asked_here _ (λ t. caught q1.notes (use_begun ops others fits k here e f x m.env g m.rules ts tail s h z t) (next_there q1))
+                  comes_asked ops others fits k s asked_here asked_there (questions_alike ops others fits k here e f x m.env g m.rules ts tail s h z) _ (λ t. caught q1.notes (use_begun ops others fits k here e f x m.env g m.rules ts tail s h z t) (next_there q1))
                   (λ t n a. let c = compared_read ops others fits k here e f x m.env g m.rules ts tail s h z t a in let u = use_read ops others fits k here e f x m.env g m.rules ts tail s h z t n a in
                   λ j. caught (noted (c j) q).notes (u j) (next_there (noted (c j) q)))
                   (caught_same ops others fits k {V = Instance A} e p1.notes q1.notes (next_here p1) (next_there q1) s1 l2.notes (use_from ops others fits k here e f x m.env g m.rules ts tail s h z) (next_runs s1 (asked_fits ops others fits k s asked_here e f h) p1 q1 l2))
@@ -367,7 +373,7 @@ module _ {E A L S T : Type 0} (ops : Ops E A L S) (others : Ops E A L T) (fits :
             → Runs ops others fits k e s (run_use ops go here e x o y ts tail p (ops.ask (RulesOf m ∷ []) s)) (run_head there go2 here f (IsMacro m) x y ts tail q)
         macro_runs x y ts tail p q s h l m None d =
             let qs = RulesOf m ∷ [] in
-            comes_asked ops others fits k s qs _ (go2 (put (Expression y) q)) (λ t n a. ap (λ z. run_use there go2 here f x z y ts tail q t) (by a.0))
+            comes_asked ops others fits k s qs qs (refl, tt) _ (go2 (put (Expression y) q)) (λ t n a. ap (λ z. run_use there go2 here f x z y ts tail q (others.ask qs t)) (by a.0))
             (put_runs (Expression y) (Expression y) refl p q (ops.ask qs s) (asked_fits ops others fits k s qs e f h) (asked_waits s qs p q l))
           where
             by : {z : Option (Transformer E A)} → TransformerLike (fits s) (ops.transformer s m) z → z ≡ None
@@ -378,7 +384,7 @@ module _ {E A L S T : Type 0} (ops : Ops E A L S) (others : Ops E A L T) (fits :
             let one = subst (IfMacro (λ (c : Transformer E A). (g : E) × fits s c.env g)) (sym d) (k.macro s e f h m) in
             comes_into ops others fits k s u _ (fits u c.env) one.0 (asked_fits ops others fits k s qs c.env one.0 one.1) (λ g. run_use there go2 here f x (Some (record { env = g; rules = c.rules })) y ts tail q) (k.ask_back s qs) (k.ask_later s qs)
             (λ g z. use_runs p q x y ts tail u (asked_fits ops others fits k s qs e f h) (asked_waits s qs p q l) c g z)
-            (λ t n a. let z = by (k.answered s t n qs a).0 in (z.0, asked_fits ops others fits k s qs c.env z.0 z.1, t, k.ask_near s t n qs, ap (λ w. run_use there go2 here f x w y ts tail q t) z.2))
+            (λ t n a. let z = by (k.answered s t n qs a).0 in (z.0, asked_fits ops others fits k s qs c.env z.0 z.1, others.ask qs t, k.ask_near s t n qs qs (refl, tt), ap (λ w. run_use there go2 here f x w y ts tail q (others.ask qs t)) z.2))
           where
             by : {z : Option (Transformer E A)} → TransformerLike (fits s) (ops.transformer s m) z → TransformerLike (fits s) (Some c) z
             by {z} a = subst (λ (w : Option (Transformer E A)). TransformerLike (fits s) w z) (sym d) a
@@ -401,9 +407,10 @@ module _ {E A L S T : Type 0} (ops : Ops E A L S) (others : Ops E A L T) (fits :
             let n : Note L = LookedUp (ops.place e i) true (is_keyword hd) in
             let m : Note L = LookedUp (others.place f i) true (is_keyword hd) in
             let qs = Headed e i ∷ [] in
+            let rs = Headed f i ∷ [] in
             let l1 : Waits e s (noted (n ∷ []) p) (noted (m ∷ []) q) = record { todo = l.todo; aside = l.aside; uses = l.uses; notes = k.more_notes s e p.notes q.notes l.notes n m (k.placed s e f h i, refl, refl) } in
-            comes_asked ops others fits k s qs _ (run_head there go2 here f hd x y ts tail (noted (m ∷ []) q))
-            (λ t w a. let b = a.0 f h in λ j. run_head there go2 here f (b.1 j) (record { meaning = b.0 j; ident = ops.plain i; occ = z }) y ts tail (noted (LookedUp (others.place f i) true (is_keyword (b.1 j)) ∷ []) q) t)
+            comes_asked ops others fits k s qs rs ((f, h, refl), tt) _ (run_head there go2 here f hd x y ts tail (noted (m ∷ []) q))
+            (λ t w a. let b = a.0 f h in λ j. run_head there go2 here f (b.1 j) (record { meaning = b.0 j; ident = ops.plain i; occ = z }) y ts tail (noted (LookedUp (others.place f i) true (is_keyword (b.1 j)) ∷ []) q) (others.ask rs t))
             (head_runs hd x y ts tail (noted (n ∷ []) p) (noted (m ∷ []) q) (ops.ask qs s) (asked_fits ops others fits k s qs e f h) (asked_waits s qs (noted (n ∷ []) p) (noted (m ∷ []) q) l1))
         form_runs y (list (tree (atom a z) ts) tail o) p q s h l = put_runs (Expression y) (Expression y) refl p q s h l
         form_runs y (list (tree (list us end z) ts) tail o) p q s h l = put_runs (Expression y) (Expression y) refl p q s h l

@@ -8,14 +8,15 @@ use Rattle.scheme_model.specs.Measures.{tree_size}
 use Rattle.scheme_model.specs.ExpansionFaults.{Named, named, Fault, fault_map, NoRule, NodeBudget, UseBudget, BadForm}
 use Rattle.scheme_model.specs.Meaning.{Head, same_meaning}
 use Rattle.scheme_model.specs.RulesShape.{Rules, rules_of, role_of, dots_of}
+use Rattle.scheme_model.specs.Requirements.{LibraryName}
 use Rattle.scheme_model.specs.Matching.{Chosen, matcher, first_match, compared}
 use Rattle.scheme_model.specs.Building.{Built, build}
 use Rattle.scheme_model.specs.Cores.{Target, LocalNumber, Binder, MacroUse}
 use Rattle.scheme_model.specs.Steps.{Broken, Step, ◌>>=◌, done, fails}
-use Rattle.scheme_model.specs.Order.{Here, Note, Compared, Pass, Transformer, WaitingUse, Instance, Asked, Meant, Headed, Alike, Counted, Ops, head_of, target_of, counting, given, has_use, compared_asked, used, use_of, meet_waiting, meet_all, caught, is_rules, RulesParts, rules_parts, rules_at, max_nodes, fields_bound}
+use Rattle.scheme_model.specs.Order.{Here, Note, Compared, Pass, Transformer, WaitingUse, Instance, Asked, Meant, Headed, Alike, Library, Counted, Ops, head_of, target_of, counting, given, has_use, compared_asked, used, use_of, meet_waiting, meet_all, caught, is_rules, RulesParts, rules_parts, rules_at, max_nodes, fields_bound}
 use Rattle.model_laws.proofs.FrameAsks.{AllOf}
 use Rattle.scheme_model.proofs.MatchedLaws.{Agree, first_match_same}
-use Rattle.form_laws.proofs.Sides.{Results, Equal, LeftLike, second, Answer, Sides}
+use Rattle.form_laws.proofs.Sides.{Both, Results, Equal, LeftLike, AskedLike, second, Answer, Sides}
 
 module _ {E A L S T : Type 0} (ops : Ops E A L S) (others : Ops E A L T) (fits : S → E → E → Type 0) (k : Sides ops others fits) where
   abbrev pub other : Ops E A L T
@@ -58,14 +59,34 @@ module _ {E A L S T : Type 0} (ops : Ops E A L S) (others : Ops E A L T) (fits :
   pub comes_read : {X Y : Type 0} {R : S → X → Y → Type 0} (s : S) {q : X × S} (g g2 : T → Y × T) → ((t : T) → k.near s t → g t ≡ g2 t) → Comes R s q g2 → Comes R s q g
   comes_read {X} {Y} {R} s {q} g g2 e law = record { back = law.back; after = law.after; some = law.some; same = λ t n a. subst (λ (w : Y × T). R q.1 q.0 w.0 × k.near q.1 w.1) (sym (e t n)) (law.same t n a) }
 
-  -- once it was asked
-  pub comes_asked : {X Y : Type 0} {R : S → X → Y → Type 0} (s : S) (qs : List (Asked E A)) {q : X × S} (g g2 : T → Y × T) → ((t : T) → k.near s t → AllOf (Answer ops others fits s t) qs → g t ≡ g2 t) → Comes R (ops.ask qs s) q g2 → Comes R s q g
-  comes_asked {X} {Y} {R} s qs {q} g g2 e law = record {
+  abbrev pub AskAlike : S → List (Asked E A) → List (Asked E A) → Type 0
+  AskAlike s qs rs = Both (AskedLike (fits s)) qs rs
+
+  -- once it was asked, and the second has asked alike
+  pub comes_asking : {X Y : Type 0} {R : S → X → Y → Type 0} (s : S) (qs : List (Asked E A)) {q : X × S} (g g2 : T → Y × T)
+      → ((t : T) → k.near s t → AllOf (Answer ops others fits s t) qs → (rs : List (Asked E A)) × AskAlike s qs rs × (g t ≡ g2 (others.ask rs t))) → Comes R (ops.ask qs s) q g2 → Comes R s q g
+  comes_asking {X} {Y} {R} s qs {q} g g2 find law = record {
     back = λ a. k.ask_back s qs (law.back a);
     after = k.then_ s (ops.ask qs s) q.1 (k.ask_later s qs) law.after;
     some = law.some;
-    same = λ t n a. subst (λ (w : Y × T). R q.1 q.0 w.0 × k.near q.1 w.1) (sym (e t n (k.answered s t n qs (law.back a)))) (law.same t (k.ask_near s t n qs) a);
+    same = λ t n a. let x = find t n (k.answered s t n qs (law.back a)) in
+        subst (λ (w : Y × T). R q.1 q.0 w.0 × k.near q.1 w.1) (sym x.2) (law.same (others.ask x.0 t) (k.ask_near s t n qs x.0 x.1) a);
   }
+
+  -- and it has asked this
+  pub comes_asked : {X Y : Type 0} {R : S → X → Y → Type 0} (s : S) (qs rs : List (Asked E A)) → AskAlike s qs rs → {q : X × S} (g g2 : T → Y × T)
+      → ((t : T) → k.near s t → AllOf (Answer ops others fits s t) qs → g t ≡ g2 (others.ask rs t)) → Comes R (ops.ask qs s) q g2 → Comes R s q g
+  comes_asked s qs rs l g g2 e law = comes_asking s qs g g2 (λ t n a. (rs, l, e t n a)) law
+
+  -- what several identifiers mean
+  pub meant_alike : {X : Type 0} (name_of : X → A) (s : S) (e f : E) → fits s e f → (xs : List X) → AskAlike s (map (λ (x : X). Meant e (name_of x)) xs) (map (λ (x : X). Meant f (name_of x)) xs)
+  meant_alike name_of s e f h [] = tt
+  meant_alike name_of s e f h (x ∷ xs) = ((f, h, refl), meant_alike name_of s e f h xs)
+
+  -- the same libraries
+  pub libraries_alike : (s : S) (ns : List LibraryName) → AskAlike s (map (λ (n : LibraryName). Library n) ns) (map (λ (n : LibraryName). Library n) ns)
+  libraries_alike s [] = tt
+  libraries_alike s (n ∷ ns) = (refl, libraries_alike s ns)
 
   pub asked_fits : (s : S) (qs : List (Asked E A)) (e f : E) → fits s e f → fits (ops.ask qs s) e f
   asked_fits s qs e f h = k.fits_later s (ops.ask qs s) (k.ask_later s qs) e f h
@@ -143,8 +164,10 @@ module _ {E A L S T : Type 0} (ops : Ops E A L S) (others : Ops E A L T) (fits :
   pub meet_goes : {X Y : Type 0} {R : S → X → Y → Type 0} (e f : E) (w : WaitingUse A) (s : S) {q : X × S} (g : T → Y × T) → fits s e f → Comes R (meet_waiting ops e w s) q g → Comes R s q (λ t. g (meet_waiting other f w t))
   meet_goes e f w s g h law =
       let qs : List (Asked E A) = map (λ (n : Named A). Meant e n.name) w.literals in
+      let rs : List (Asked E A) = map (λ (n : Named A). Meant f n.name) w.literals in
       let u : MacroUse = record { keyword = w.keyword; literals = map (λ (n : Named A). target_of ops e s n.name n.occ) w.literals } in
-      comes_asked s qs (λ t. g (meet_waiting other f w t)) (λ t. g (others.meet_use u t)) (λ t n a. ap (λ (ls : List Target). g (others.meet_use (record { keyword = w.keyword; literals = ls }) t)) (targets_same s t e f h w.literals a))
+      comes_asked s qs rs (meant_alike (λ (n : Named A). n.name) s e f h w.literals) (λ t. g (meet_waiting other f w t)) (λ t. g (others.meet_use u t))
+      (λ t n a. ap (λ (ls : List Target). g (others.meet_use (record { keyword = w.keyword; literals = ls }) (others.ask rs t))) (targets_same s t e f h w.literals a))
       (comes_after (ops.ask qs s) (ops.meet_use u (ops.ask qs s)) g (others.meet_use u) (k.meet_use_back (ops.ask qs s) u) (k.meet_use_later (ops.ask qs s) u) (λ t n. k.meet_use_near (ops.ask qs s) t n u) law)
 
   pub meet_later : (e : E) (w : WaitingUse A) (s : S) → k.later s (meet_waiting ops e w s)
@@ -194,6 +217,16 @@ module _ {E A L S T : Type 0} (ops : Ops E A L S) (others : Ops E A L T) (fits :
       abbrev pub questions : List (Asked E A)
       questions = compared_asked ops e macro ts tail
 
+      abbrev pub questions_there : List (Asked E A)
+      questions_there = compared_asked other f macro_there ts tail
+
+      pub questions_alike : AskAlike s questions questions_there
+      questions_alike = go pairs
+        where
+          go : (qs : List (A × A)) → AskAlike s (map (λ (q : A × A). Alike d q.0 e q.1) qs) (map (λ (q : A × A). Alike g q.0 f q.1) qs)
+          go [] = tt
+          go (q ∷ qs) = ((g, f, z, h, refl), go qs)
+
       agreed : (t : T) (qs : List (A × A)) → AllOf (Answer ops others fits s t) (map (λ (q : A × A). Alike d q.0 e q.1) qs) → Agree A A (held t) held_first qs
       agreed t [] a = tt
       agreed t (q ∷ qs) a = (a.0 g f z h, agreed t qs a.1)
@@ -202,10 +235,10 @@ module _ {E A L S T : Type 0} (ops : Ops E A L S) (others : Ops E A L T) (fits :
       abbrev pub use_begun : Step T (Instance A)
       use_begun t = used other here x macro_there (ops.next_use s) (first_match (matcher ops.names r held_first) r.rules ts tail) (others.begin_use g t)
 
-      pub use_read : (t : T) → k.near s t → AllOf (Answer ops others fits s t) questions → used other here x macro_there (others.next_use t) (first_match (matcher ops.names r (held t)) r.rules ts tail) (others.begin_use g t) ≡ use_begun t
+      pub use_read : (t : T) → k.near s t → AllOf (Answer ops others fits s t) questions → used other here x macro_there (others.next_use t) (first_match (matcher ops.names r (held t)) r.rules ts tail) (others.begin_use g (others.ask questions_there t)) ≡ use_begun (others.ask questions_there t)
       use_read t n a =
           let u = k.next_use s t n in let m = first_match_same A A (role_of ops.names r) (dots_of ops.names r) (held t) held_first r.rules ts tail (agreed t pairs a) in
-          λ j. used other here x macro_there (u j) (m j) (others.begin_use g t)
+          λ j. used other here x macro_there (u j) (m j) (others.begin_use g (others.ask questions_there t))
 
       pub use_from : Same {V = Instance A} (ops.ask questions s) (used ops here x macro (ops.next_use s) (first_match (matcher ops.names r held_first) r.rules ts tail) (ops.begin_use d (ops.ask questions s))) use_begun
       use_from =
@@ -216,15 +249,15 @@ module _ {E A L S T : Type 0} (ops : Ops E A L S) (others : Ops E A L T) (fits :
 
       pub use_goes : Same {V = Instance A} s (use_of ops here e x macro ts tail s) (use_of other here f x macro_there ts tail)
       use_goes =
-          comes_read s (use_of other here f x macro_there ts tail) (λ t. cond (has_use ops s) (used other here x macro_there (others.next_use t) (first_match (matcher ops.names r (held t)) r.rules ts tail) (others.begin_use g t)) (fails here UseBudget t))
-          (λ t n. ap (λ b. cond b (used other here x macro_there (others.next_use t) (first_match (matcher ops.names r (held t)) r.rules ts tail) (others.begin_use g t)) (fails here UseBudget t)) (budget_same t n)) (go (has_use ops s))
+          comes_read s (use_of other here f x macro_there ts tail) (λ t. cond (has_use ops s) (used other here x macro_there (others.next_use t) (first_match (matcher ops.names r (held t)) r.rules ts tail) (others.begin_use g (others.ask questions_there t))) (fails here UseBudget t))
+          (λ t n. ap (λ b. cond b (used other here x macro_there (others.next_use t) (first_match (matcher ops.names r (held t)) r.rules ts tail) (others.begin_use g (others.ask questions_there t))) (fails here UseBudget t)) (budget_same t n)) (go (has_use ops s))
         where
           budget_same : (t : T) → k.near s t → has_use other t ≡ has_use ops s
           budget_same t n = ap (λ (c : Counted). has_use (record ops { counted = λ u. c }) s) (k.counts s t n)
 
           go : (b : Bool) → Same {V = Instance A} s (cond b (used ops here x macro (ops.next_use s) (first_match (matcher ops.names r held_first) r.rules ts tail) (ops.begin_use d (ops.ask questions s))) (fails here UseBudget s))
-              (λ t. cond b (used other here x macro_there (others.next_use t) (first_match (matcher ops.names r (held t)) r.rules ts tail) (others.begin_use g t)) (fails here UseBudget t))
-          go true = comes_asked s questions _ use_begun use_read use_from
+              (λ t. cond b (used other here x macro_there (others.next_use t) (first_match (matcher ops.names r (held t)) r.rules ts tail) (others.begin_use g (others.ask questions_there t))) (fails here UseBudget t))
+          go true = comes_asked s questions questions_there questions_alike _ use_begun use_read use_from
           go false = goes_fails here UseBudget s
 
       -- the second's notes of what is compared, with what the first found
@@ -263,7 +296,9 @@ module _ {E A L S T : Type 0} (ops : Ops E A L S) (others : Ops E A L T) (fits :
 
     pub parts_goes : (o : Option (RulesParts A)) (s : S) → fits s e f → Same {V = RulesParts A} s (rules_parts ops here e o s) (rules_parts other here f o)
     parts_goes None s h = goes_fails here BadForm s
-    parts_goes (Some r) s h = comes_asked s (Headed e r.head ∷ []) (rules_parts other here f (Some r)) (parts_there (head_of ops e s r.head) r) (λ t n a. ap (λ c. parts_there c r t) (a.0 f h).1) (parts_from r s)
+    parts_goes (Some r) s h =
+        comes_asked s (Headed e r.head ∷ []) (Headed f r.head ∷ []) ((f, h, refl), tt) (rules_parts other here f (Some r)) (parts_there (head_of ops e s r.head) r)
+        (λ t n a. ap (λ c. parts_there c r (others.ask (Headed f r.head ∷ []) t)) (a.0 f h).1) (parts_from r s)
 
   pub rules_goes : (here : Here) (t : Tree A) (r : RulesParts A) (s : S) → Same {V = Rules A} s (rules_at ops here t r s) (rules_at other here t r)
   rules_goes here t r s = bind_same s (λ u. given ops.plain here (rules_of ops.names r.parts r.tail)) (λ u. given ops.plain here (rules_of ops.names r.parts r.tail)) (counting_goes here (tree_size t) s) (λ u v a. given_goes here (rules_of ops.names r.parts r.tail) v)

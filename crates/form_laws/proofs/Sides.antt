@@ -94,10 +94,19 @@ LeftLike R l m = (m.uses ≡ l.uses) × Both (ItemLike R) l.items m.items
 
 -- ---- two sides
 
+-- what both ask, in environments that go together
+abbrev pub AskedLike : {E A : Type 0} → (E → E → Type 0) → Asked E A → Asked E A → Type 0
+AskedLike {E} fits (Meant e i) q = (f : E) × fits e f × (q ≡ Meant f i)
+AskedLike {E} fits (Headed e i) q = (f : E) × fits e f × (q ≡ Headed f i)
+AskedLike fits (RulesOf m) q = q ≡ RulesOf m
+AskedLike {E} fits (Alike d l e j) q = (g : E) × (f : E) × fits d g × fits e f × (q ≡ Alike g l f j)
+AskedLike {E} fits (Assigns e i) q = (f : E) × fits e f × (q ≡ Assigns f i)
+AskedLike fits (Library n) q = q ≡ Library n
+
 module _ {E A L S T : Type 0} (ops : Ops E A L S) (others : Ops E A L T) (fits : S → E → E → Type 0) where
-  -- the second tells identifiers as the first, and asks nothing itself
+  -- the second tells identifiers as the first
   abbrev pub second : Ops E A L T
-  second = record others { names = ops.names; plain = ops.plain; insert = ops.insert; ask = λ qs t. t }
+  second = record others { names = ops.names; plain = ops.plain; insert = ops.insert }
 
   -- what is asked has the same answer on the second
   abbrev pub Answer : S → T → Asked E A → Type 0
@@ -128,8 +137,9 @@ module _ {E A L S T : Type 0} (ops : Ops E A L S) (others : Ops E A L T) (fits :
     pub answered : (s : S) (t : T) → near s t → (qs : List (Asked E A)) → same_so_far (ops.ask qs s) → AllOf (Answer s t) qs
     pub ask_back : (s : S) (qs : List (Asked E A)) → same_so_far (ops.ask qs s) → same_so_far s
     pub ask_later : (s : S) (qs : List (Asked E A)) → later s (ops.ask qs s)
-    pub ask_near : (s : S) (t : T) → near s t → (qs : List (Asked E A)) → near (ops.ask qs s) t
+    pub ask_near : (s : S) (t : T) → near s t → (qs rs : List (Asked E A)) → Both (AskedLike (fits s)) qs rs → near (ops.ask qs s) (others.ask rs t)
     pub ask_means : (s : S) (qs : List (Asked E A)) (e : E) (i : A) → ops.means e (ops.ask qs s) i ≡ ops.means e s i
+    pub ask_meant : (t : T) (rs : List (Asked E A)) (f : E) (i : A) → others.means f (others.ask rs t) i ≡ others.means f t i
     pub counts : (s : S) (t : T) → near s t → others.counted t ≡ ops.counted s
     pub spend_back : (s : S) (n : ℕ) → same_so_far (ops.spend n s) → same_so_far s
     pub spend_later : (s : S) (n : ℕ) → later s (ops.spend n s)

@@ -37,3 +37,13 @@ pub fn forms_may_begin()
     ensures fresh { (s : ScopedState) → s.table ≡ [] → s.macros ≡ [] → s.places ≡ [] → s.definitions ≡ [] → ((u : ℕ) (x : List ℕ) → IsEntry (s.entry u x)) → Begins s }
     ensures written { (s : ScopedState) (u : ℕ) (t : Tree (List ℕ)) → TreeWith (IsRooted s) (map_tree (Written u) t) }
 {}
+
+/// Where all that a form asks has the same answers in other surroundings, it asks the same there, each question at the same moment (R7RS 4.3,
+/// 5.3): so what has its answers in both is the same for both. Its second part asks the same there too, with other numbers of the unit's
+/// definitions.
+pub fn forms_ask_alike()
+    ensures pass { (w v : Around) (turns : ℕ) (t : Tree Identifier) → SameForm w v → Begins w.state → Begins v.state → Each (SameAnswer w v) (questions_of_pass w turns t) →
+        questions_of_pass v turns t ≡ questions_of_pass w turns t }
+    ensures left { (w v : Around) (turns from to : ℕ) (l : Left Identifier) → SameForm w v → Begins w.state → Begins v.state → Each (SameAnswer w v) (questions_of_left w turns (Ok l)) →
+        questions_of_left v turns (Ok (left_with (bound_moved from to) l)) ≡ questions_of_left w turns (Ok l) }
+{}

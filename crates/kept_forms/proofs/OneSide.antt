@@ -253,8 +253,9 @@ module _ (known : Known) (I : ScopedState → Type 0) (begun : (fs : Frames) (s 
     answered = λ s t n qs a. answers s t n qs;
     ask_back = λ s qs a. tt;
     ask_later = λ s qs h. h;
-    ask_near = λ s t n qs. n;
+    ask_near = λ s t n qs rs a. n;
     ask_means = λ s qs e i. refl;
+    ask_meant = λ t rs f i. refl;
     counts = λ s t n. ap ops.counted n.0;
     spend_back = λ s n a. tt;
     spend_later = λ s n h. spent n s h;

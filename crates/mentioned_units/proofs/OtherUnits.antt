@@ -134,8 +134,9 @@ module _ (known : Known) where
     answered = λ s t h qs a. absurd h;
     ask_back = λ s qs a. tt;
     ask_later = λ s qs. (refl, refl, λ z ne i. refl, λ o q. refl, λ z ne. refl);
-    ask_near = λ s t h qs. h;
+    ask_near = λ s t h qs rs a. h;
     ask_means = λ s qs e i. refl;
+    ask_meant = λ t rs f i. refl;
     counts = λ s t h. absurd h;
     spend_back = λ s n a. tt;
     spend_later = λ s n. (refl, refl, λ z ne i. refl, λ o q. refl, λ z ne. refl);

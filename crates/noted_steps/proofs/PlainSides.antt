@@ -149,8 +149,9 @@ module _ (known : Known) where
     answered = λ s t h qs a. all_answered s t h qs;
     ask_back = λ s qs a. tt;
     ask_later = λ s qs. (refl, refl);
-    ask_near = λ s t h qs. h;
+    ask_near = λ s t h qs rs a. h;
     ask_means = λ s qs e i. refl;
+    ask_meant = λ t rs f i. refl;
     counts = λ s t h. ap (λ z. there.counted z) h;
     spend_back = λ s n a. tt;
     spend_later = λ s n. (refl, refl);

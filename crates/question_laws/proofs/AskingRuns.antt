@@ -48,6 +48,7 @@ module _ (w : Around) (en : NoLocals w) (k : Invariant w) where
     ask_later = λ s qs h. k.asks s qs h;
     ask_near = x.ask_near;
     ask_means = x.ask_means;
+    ask_meant = x.ask_meant;
     counts = x.counts;
     spend_back = x.spend_back;
     spend_later = λ s n h. k.still s ((asking w).spend n s) refl refl refl h;
