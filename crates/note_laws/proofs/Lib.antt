@@ -1,0 +1,14 @@
+pub mod ToldNotes
+pub mod MeansHere
+pub mod GoodMoments
+pub mod NotedOutcomes
+pub mod NotedAsked
+pub mod NotedDefined
+pub mod NotedSides
+pub mod NoteLaws
+pub mod NotesStay
+pub mod BareNotes
+pub mod NoteRows
+pub mod OfForms
+pub mod SearchedTurns
+pub mod SearchedLaws
