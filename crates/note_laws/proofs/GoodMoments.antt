@@ -1,6 +1,5 @@
 -- What a form makes and finds goes on to be its own: at each next moment its locals are of the form and counted, and its uses are new.
-use Rattle.std.proofs.Common.{◌≡◌, ℕ, suc, ◌+◌, ◌≤◌, ◌<◌, List, [], ◌∷◌, ◌++◌, map, Bool, true, false, cond, eqb, ltb, Option, Some, None, refl, sym, ap, ◌∙◌, subst, arith}
-use Rattle.std.specs.Prelude.{◌==◌}
+use Rattle.std.proofs.Common.{◌≡◌, ℕ, suc, ◌≤◌, ◌<◌, List, [], ◌∷◌, ◌++◌, map, Bool, true, false, cond, eqb, ltb, Option, Some, None, refl, sym, ap, ◌∙◌, subst, arith}
 use Rattle.std.proofs.lemmas.Bool.{false_from_ne_true, eqb-true, lt-ltb}
 use Rattle.scheme_model.specs.Identifiers.{Number, same_number}
 use Rattle.scheme_model.specs.Ident.{Ident}
@@ -8,14 +7,12 @@ use Rattle.scheme_model.specs.ExpansionFaults.{Named}
 use Rattle.scheme_model.specs.Meaning.{Meaning, Local, Global, Standard, Free, same_meaning}
 use Rattle.scheme_model.specs.RulesShape.{Rules}
 use Rattle.scheme_model.specs.Order.{Transformer}
-use Rattle.scheme_model.specs.Substitution.{Clock, at_form}
-use Rattle.scheme_model.specs.FrameImages.{is_before}
 use Rattle.scheme_model.specs.ScopedExpansion.{Bind, Enter, Frames, BodyDefinition, UsePlace, ScopedMacro, ScopedState, around, macro_at, macro_added}
 use Rattle.scheme_model.specs.OwnAnswers.{own_macro}
 use Rattle.scheme_model.specs.Questions.{Moment, Around, at_moment, own_at, number_in, found}
-use Rattle.scheme_model.specs.FormsAlike.{bare_place, bare_kept, Leaves}
+use Rattle.scheme_model.specs.FormsAlike.{bare_kept, Leaves}
 use Rattle.model_laws.proofs.FrameEras.{Era, Before, unit_worked}
-use Rattle.model_laws.proofs.FrameAsks.{AllOf, all_of_more, BindersCounted, DefinitionsCounted}
+use Rattle.model_laws.proofs.FrameAsks.{AllOf, all_of_more, BindersCounted}
 use Rattle.model_laws.proofs.FrameHeads.{IfMacro}
 use Rattle.model_laws.proofs.EntryLaws.{NoLocal, GivenSo}
 use Rattle.form_laws.specs.Begins.{Each, MacroStands, Begins, IsEntry}

@@ -1,5 +1,5 @@
 -- What an expansion notes of a form's first part, and of its second, is what is to be noted of the form's questions.
-use Rattle.std.proofs.Common.{◌≡◌, ℕ, List, [], ◌∷◌, ◌++◌, map, length, Bool, true, false, Option, Some, None, Ok, refl, sym, ap, ◌∙◌, subst, arith}
+use Rattle.std.proofs.Common.{◌≡◌, ℕ, List, [], ◌∷◌, ◌++◌, map, length, true, false, Option, Some, None, Ok, refl, sym, ap, ◌∙◌, subst, arith}
 use Rattle.scheme_model.specs.Identifiers.{Number}
 use Rattle.scheme_model.specs.Ident.{Ident}
 use Rattle.scheme_model.specs.Trees.{Tree}
@@ -9,26 +9,26 @@ use Rattle.scheme_model.specs.RulesShape.{Rules}
 use Rattle.scheme_model.specs.Order.{Left, Note, LookedUp, Compared, Transformer, is_some, run}
 use Rattle.scheme_model.specs.Expression.{meaning_of, expand}
 use Rattle.scheme_model.specs.UnitExpansion.{max_depth, one_form}
-use Rattle.scheme_model.specs.ScopedExpansion.{Enter, Frames, FramedIdent, macro_at, body_around}
+use Rattle.scheme_model.specs.ScopedExpansion.{Frames, FramedIdent, macro_at, body_around}
 use Rattle.scheme_model.specs.OwnAnswers.{own_macro}
-use Rattle.scheme_model.specs.Questions.{Moment, Around, at_moment, own_at, found, Question, Asking, asking}
-use Rattle.scheme_model.specs.FormsAlike.{start, finish_by, no_questions, set_aside_asking, finish_asking, questions_of_pass, questions_of_left}
+use Rattle.scheme_model.specs.Questions.{Moment, Around, at_moment, own_at, found, asking}
+use Rattle.scheme_model.specs.FormsAlike.{start, finish_by, no_questions, questions_of_pass, questions_of_left}
 use Rattle.model_laws.proofs.FrameAsks.{AllOf}
 use Rattle.model_laws.proofs.FrameHeld.{NoteAll}
 use Rattle.model_laws.proofs.EntryLaws.{NoLocal}
-use Rattle.form_laws.specs.Begins.{Each, Begins, FormBegins, NoteStands}
-use Rattle.form_laws.proofs.Sides.{Both, ItemLike}
+use Rattle.form_laws.specs.Begins.{Each, Begins, NoteStands}
+use Rattle.form_laws.proofs.Sides.{ItemLike}
 use Rattle.form_laws.proofs.SideRuns.{both_itself, item_itself, run_runs}
 use Rattle.form_laws.proofs.SideExpressions.{expand_goes, left_parts}
 use Rattle.form_laws.proofs.Leaving.{leaves_start}
 use Rattle.form_laws.proofs.FormLaws.{no_locals}
-use Rattle.form_notes.specs.Noted.{Noted, is_own}
+use Rattle.form_notes.specs.Noted.{is_own}
 use Rattle.question_laws.specs.Noted.{is_defined_in, all_noted, IsClosed}
-use Rattle.question_laws.proofs.OwnRuns.{AllMade, pass_known, left_known}
+use Rattle.question_laws.proofs.OwnRuns.{pass_known, left_known}
 use Rattle.forgotten_locals.specs.Outside.{IsOutside}
-use Rattle.noted_steps.specs.Noting.{Noting, noting, begun}
+use Rattle.noted_steps.specs.Noting.{noting, begun}
 use Rattle.note_laws.specs.Told.{bare_noted, told, since_of, ImportsOthers}
-use Rattle.note_laws.proofs.ToldNotes.{since_at, all_told, IsRuled, all_noted_told}
+use Rattle.note_laws.proofs.ToldNotes.{since_at, all_noted_told}
 use Rattle.note_laws.proofs.MeansHere.{Here, Good}
 use Rattle.note_laws.proofs.NotedAsked.{Part, Near}
 use Rattle.note_laws.proofs.NotedDefined.{Same}
@@ -112,7 +112,7 @@ module _ (w : Around) (e0 : ℕ → Option (Transformer Frames Ident)) where
     pass_noted turns t ns =
         let k = sides w e0 out begins others first in
         let law = run_runs (asking w) (noting w.known) (fits w e0 out begins others first) k [] [] tt turns (one_form t []) (one_form t w.notes) (no_questions w) (refl, ((starts, tt), tt))
-            (record { todo = refl; aside = tt; uses = refl; notes = (refl, notes_here w.notes ns) }) in
+        (record { todo = refl; aside = tt; uses = refl; notes = (refl, notes_here w.notes ns) }) in
         let x = (law.same (begun (length w.notes) (since_of w e0) w.state) (begin_near first tt (length w.notes) (λ u. refl)) tt).1 in
         let made = pass_known w (no_locals w begins) turns t in
         x.noted ∙ all_noted_told w e0 begins (no_locals w begins) closed (questions_of_pass w turns t) (questions_of_pass w turns t) made.1 x.ruled
@@ -123,8 +123,8 @@ module _ (w : Around) (e0 : ℕ → Option (Transformer Frames Ident)) where
     left_noted turns before l =
         let k = sides w e0 out begins others second in
         let law = left_parts (asking w) (noting w.known) (fits w e0 out begins others second) k (λ s m. tt) (expand (asking w) turns) (expand (noting w.known) turns)
-            (expand_goes (asking w) (noting w.known) (fits w e0 out begins others second) k (λ s m. tt) turns) (Same w e0 out begins others second) (λ x y d i. ap (λ b. meaning_of b i) d) max_depth [] [] l l
-            (refl, both_itself (ItemLike (Same w e0 out begins others second)) (item_itself (Same w e0 out begins others second) (λ b. refl)) l.items) (no_questions w) (refl, ((starts, refl), tt)) in
+        (expand_goes (asking w) (noting w.known) (fits w e0 out begins others second) k (λ s m. tt) turns) (Same w e0 out begins others second) (λ x y d i. ap (λ b. meaning_of b i) d) max_depth [] [] l l
+        (refl, both_itself (ItemLike (Same w e0 out begins others second)) (item_itself (Same w e0 out begins others second) (λ b. refl)) l.items) (no_questions w) (refl, ((starts, refl), tt)) in
         let x = (law.same (begun before (since_of w e0) w.state) (begin_near second refl before (λ u. absurd u)) tt).1 in
         let made = left_known w (no_locals w begins) turns l in
         x.noted ∙ all_noted_told w e0 begins (no_locals w begins) closed (questions_of_left w turns (Ok l)) (questions_of_left w turns (Ok l)) made.1 x.ruled

@@ -1,5 +1,5 @@
 -- What small forms note, computed: latest first, by the words of what is asked.
-use Rattle.std.proofs.Common.{◌≡◌, ℕ, List, [], ◌∷◌, ◌++◌, map, true, false, None, refl}
+use Rattle.std.proofs.Common.{◌≡◌, ℕ, List, [], ◌∷◌, ◌++◌, map, false, None, refl}
 use Rattle.std.specs.Prelude.{codes}
 use Rattle.scheme_model.specs.Ident.{Ident, symbol_of}
 use Rattle.scheme_model.specs.Trees.{Tree}

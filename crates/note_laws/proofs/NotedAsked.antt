@@ -1,18 +1,18 @@
 -- Where an expansion that notes goes with one that asks, what it notes when it is asked is told by the questions that are left.
-use Rattle.std.proofs.Common.{◌≡◌, ℕ, ◌+◌, ◌-◌, List, [], ◌∷◌, ◌++◌, map, Bool, true, false, cond, Option, Some, None, refl, sym, ap, ◌∙◌, subst, length, arith, zero, suc}
-use Rattle.std.specs.Prelude.{◌||◌, take}
+use Rattle.std.proofs.Common.{◌≡◌, ℕ, List, [], ◌∷◌, ◌++◌, map, Bool, true, false, cond, Option, Some, None, refl, sym, ap, ◌∙◌, subst, length}
+use Rattle.std.specs.Prelude.{◌||◌}
 use Rattle.scheme_model.specs.Identifiers.{Number}
 use Rattle.scheme_model.specs.Ident.{Ident}
 use Rattle.scheme_model.specs.ExpansionFaults.{Named}
 use Rattle.scheme_model.specs.Meaning.{Meaning, Local, Global, Standard, Free, same_meaning, head_as}
 use Rattle.scheme_model.specs.RulesShape.{Rules, option_map}
-use Rattle.scheme_model.specs.Order.{Transformer, Asked, Meant, Headed, RulesOf, Alike, Assigns, Library, Ops, is_some}
+use Rattle.scheme_model.specs.Order.{Transformer, Asked, Meant, Headed, RulesOf, Alike, Assigns, Library, is_some}
 use Rattle.scheme_model.specs.Scopes.{local_or}
 use Rattle.scheme_model.specs.ScopedExpansion.{Enter, Frames, FramedIdent, ScopedMacro, ScopedState, macro_at, body_around}
 use Rattle.scheme_model.specs.ScopedExpansion as scoped
 use Rattle.scheme_model.specs.OwnAnswers.{own_local, root_means, own_macro, own_means}
-use Rattle.scheme_model.specs.Questions.{Moment, Around, at_moment, own_at, found, Question, LooksUp, UsesRules, Compares, IsAssigned, Requires, Answer as ModelAnswer, Means, Expands, Says, bare_macro, answer, unless_own, unless_local, in_unit as ask_in, left_to_ask, dated, all_left, Asking, asking}
-use Rattle.scheme_model.specs.FormsAlike.{bare_note, Leaves}
+use Rattle.scheme_model.specs.Questions.{Moment, Around, at_moment, own_at, found, Question, LooksUp, UsesRules, Compares, IsAssigned, Answer as ModelAnswer, Means, Expands, Says, bare_macro, unless_own, unless_local, in_unit as ask_in, left_to_ask, dated, all_left, Asking, asking}
+use Rattle.scheme_model.specs.FormsAlike.{Leaves}
 use Rattle.scheme_model.proofs.RenamingLaws.{append_map}
 use Rattle.model_laws.proofs.FrameAsks.{AllOf}
 use Rattle.model_laws.proofs.FrameHeads.{IfMacro}
@@ -23,12 +23,12 @@ use Rattle.form_laws.proofs.AskingSides.{nothing_behind, head_same}
 use Rattle.form_laws.proofs.Bare.{SameFrames, body_same, some_mapped, like_of}
 use Rattle.form_laws.proofs.Leaving.{assigned_is, outside_macro}
 use Rattle.form_laws.proofs.FormLaws.{no_locals}
-use Rattle.form_notes.specs.Noted.{Noted, Since, began, is_local, at_start, noted_as, looked_up, compared, is_own, rules_used, assigned_as, required}
+use Rattle.form_notes.specs.Noted.{Noted, Since, began, is_local, at_start, noted_as, looked_up, compared, is_own, rules_used, assigned_as}
 use Rattle.question_laws.specs.Noted.{is_defined_in, before_uses, answers_alone, compares_alone, defines_within}
-use Rattle.forgotten_locals.specs.Outside.{macros_outside, IsOutside}
+use Rattle.forgotten_locals.specs.Outside.{IsOutside}
 use Rattle.forgotten_locals.proofs.Outsides.{no_local_macro}
 use Rattle.noted_steps.specs.Noting.{Noting, state_of, means_here, look_up, in_unit as note_in, note_of, noted_with, noting}
-use Rattle.note_laws.specs.Told.{bare_question, bare_noted, since_of, ImportsOthers}
+use Rattle.note_laws.specs.Told.{bare_question, bare_noted}
 use Rattle.note_laws.proofs.ToldNotes.{since_at, told_at, all_told, IsRuled}
 use Rattle.note_laws.proofs.MeansHere.{Here, Good, means_told, root_free}
 use Rattle.note_laws.proofs.GoodMoments.{macro_here}

@@ -1,6 +1,6 @@
 -- Where an expansion that notes goes with one that asks, both define alike, and the definition is noted.
 use Rattle.std.proofs.Common.{◌≡◌, ℕ, zero, suc, ◌+◌, ◌-◌, ◌≤◌, List, [], ◌∷◌, ◌++◌, map, Option, Some, None, Result, Ok, Err, refl, sym, ap, ◌∙◌, subst, length, arith}
-use Rattle.std.specs.Prelude.{take, ◌&&◌}
+use Rattle.std.specs.Prelude.{take}
 use Rattle.scheme_model.specs.Identifiers.{Number}
 use Rattle.scheme_model.specs.Ident.{Ident}
 use Rattle.scheme_model.specs.ExpansionFaults.{Named, Fault, KeywordRedefined, Duplicate}
@@ -8,9 +8,9 @@ use Rattle.scheme_model.specs.RulesShape.{Rules}
 use Rattle.scheme_model.specs.Cores.{Bound}
 use Rattle.scheme_model.specs.Order.{Note, Pending, Renamed, Transformer, is_some}
 use Rattle.scheme_model.specs.Substitution.{unchanged}
-use Rattle.scheme_model.specs.ScopedExpansion.{Frames, FramedIdent, ScopedState, body_around, definition_added}
-use Rattle.scheme_model.specs.Questions.{Moment, Around, Outcome, Stands, Redefines, StoodBefore, found, unit_outcome, outcome, Question, Defines, Ends, bare, in_unit, dated, Asking, ended, beside, asking}
-use Rattle.scheme_model.specs.FormsAlike.{bare_note, Leaves}
+use Rattle.scheme_model.specs.ScopedExpansion.{Frames, FramedIdent, body_around}
+use Rattle.scheme_model.specs.Questions.{Moment, Around, Outcome, Stands, Redefines, StoodBefore, found, unit_outcome, outcome, Question, Defines, Ends, in_unit, dated, Asking, ended, beside}
+use Rattle.scheme_model.specs.FormsAlike.{bare_note}
 use Rattle.model_laws.proofs.FrameAsks.{AllOf}
 use Rattle.model_laws.proofs.FrameHeld.{NoteAll, notes_more}
 use Rattle.form_laws.specs.Begins.{Begins}
@@ -23,11 +23,11 @@ use Rattle.noted_steps.specs.Noting.{Noting, state_of, with_state, own_notes, de
 use Rattle.noted_steps.specs.Noting as notes
 use Rattle.forgotten_locals.specs.Outside.{IsOutside}
 use Rattle.note_laws.specs.Told.{bare_noted, ImportsOthers}
-use Rattle.note_laws.proofs.ToldNotes.{since_at, all_told}
+use Rattle.note_laws.proofs.ToldNotes.{all_told}
 use Rattle.note_laws.proofs.MeansHere.{Here, Good, here_more}
 use Rattle.note_laws.proofs.GoodMoments.{found_good}
 use Rattle.note_laws.proofs.NotedOutcomes.{outcome_is}
-use Rattle.note_laws.proofs.NotedAsked.{Part, Fit, Near}
+use Rattle.note_laws.proofs.NotedAsked.{Part, Near}
 
 -- ---- the form's own notes are those in front
 

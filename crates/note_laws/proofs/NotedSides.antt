@@ -1,20 +1,19 @@
 -- An expansion with its questions, and one that notes what it asks, as two sides.
-use Rattle.std.proofs.Common.{◌≡◌, ℕ, suc, ◌≤◌, List, [], ◌∷◌, ◌++◌, map, Option, Some, None, Result, refl, sym, ap, ◌∙◌, subst, arith}
+use Rattle.std.proofs.Common.{◌≡◌, ℕ, suc, ◌≤◌, List, ◌∷◌, Option, Some, None, refl, sym, ap, ◌∙◌, subst, arith}
 use Rattle.scheme_model.specs.Identifiers.{Number}
 use Rattle.scheme_model.specs.Ident.{Ident}
-use Rattle.scheme_model.specs.Cores.{Bound, LocalNumber}
+use Rattle.scheme_model.specs.Cores.{LocalNumber}
 use Rattle.scheme_model.specs.Meaning.{Local}
 use Rattle.scheme_model.specs.Order.{Note, LookedUp, Compared, Transformer, Ops}
 use Rattle.scheme_model.specs.Expression.{meaning_of}
 use Rattle.scheme_model.specs.ScopedExpansion.{Bind, Enter, Frames, FramedIdent, ScopedState, body_around, bound_next}
-use Rattle.scheme_model.specs.Questions.{Moment, Around, at_moment, own_at, number_in, outcome, bare, Asking, bound_at, asking}
-use Rattle.scheme_model.specs.FormsAlike.{bare_ident, bare_note, Leaves}
-use Rattle.model_laws.proofs.FrameAsks.{AllOf}
+use Rattle.scheme_model.specs.Questions.{Moment, Around, number_in, outcome, Asking, bound_at, asking}
+use Rattle.scheme_model.specs.FormsAlike.{bare_ident, Leaves}
 use Rattle.model_laws.proofs.FrameHeads.{IfMacro}
 use Rattle.model_laws.proofs.FrameHeld.{NoteAll}
 use Rattle.form_laws.specs.Begins.{Begins}
 use Rattle.form_laws.proofs.Sides.{NoteLike, Sides}
-use Rattle.form_laws.proofs.Bare.{SameFrames, body_same, note_bare}
+use Rattle.form_laws.proofs.Bare.{body_same, note_bare}
 use Rattle.form_laws.proofs.Leaving.{spent, met_keyword, met_use, taken, entered, next_locals, next_uses, next_bodies, begun, kept, counts_are}
 use Rattle.noted_steps.specs.Noting.{Noting, state_of, noting}
 use Rattle.forgotten_locals.specs.Outside.{IsOutside}

@@ -1,5 +1,5 @@
 -- Notes that have their answers in other surroundings of the form are what is to be noted there.
-use Rattle.std.proofs.Common.{◌≡◌, ◌↔◌, ℕ, List, [], ◌∷◌, ◌++◌, map, length, Bool, cond, Ok, refl, sym, ap, ◌∙◌, subst}
+use Rattle.std.proofs.Common.{◌≡◌, ℕ, List, [], ◌∷◌, ◌++◌, map, length, cond, Ok, refl, ap, ◌∙◌}
 use Rattle.std.specs.Prelude.{◌&&◌, ◌||◌, not}
 use Rattle.scheme_model.specs.Ident.{Ident, Written, Inserted}
 use Rattle.scheme_model.specs.Trees.{Tree}
@@ -7,11 +7,11 @@ use Rattle.scheme_model.specs.Order.{Left, is_some}
 use Rattle.scheme_model.specs.Substitution.{Table}
 use Rattle.scheme_model.specs.ScopedExpansion.{macro_at}
 use Rattle.scheme_model.specs.Questions.{Moment, Around, Question, LooksUp, UsesRules, Compares, IsAssigned, Requires, Defines, SameAnswer, Asking}
-use Rattle.scheme_model.specs.FormsAlike.{bound_moved, left_with, start, questions_of_pass, questions_of_left}
+use Rattle.scheme_model.specs.FormsAlike.{bound_moved, left_with, questions_of_pass, questions_of_left}
 use Rattle.form_laws.specs.Begins.{Each, Begins, SameForm}
 use Rattle.form_laws.proofs.FormLaws.{no_locals}
 use Rattle.form_laws.proofs.AskingAlike.{pass_alike, left_alike}
-use Rattle.question_laws.specs.Noted.{is_to_come, before_uses, is_defined_in, defines_within, answers_alone, noted_as, noted, all_noted, IsClosed, SameUnit}
+use Rattle.question_laws.specs.Noted.{before_uses, is_defined_in, defines_within, answers_alone, noted, all_noted, IsClosed, SameUnit}
 use Rattle.question_laws.proofs.Roots.{to_come_same}
 use Rattle.question_laws.proofs.OwnRuns.{pass_known, left_known}
 use Rattle.question_laws.proofs.NotedAnswers.{noted_suffice}

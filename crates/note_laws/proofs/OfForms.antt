@@ -9,7 +9,7 @@ use Rattle.scheme_model.specs.Meaning.{Meaning, Local, Global, Standard, Free, s
 use Rattle.scheme_model.specs.Requirements.{Known}
 use Rattle.scheme_model.specs.RulesShape.{Rules}
 use Rattle.scheme_model.specs.Order.{Note, LookedUp, Compared, Pending, Renamed, Transformer, is_some}
-use Rattle.scheme_model.specs.Substitution.{Table, Entries, Defined, at_form, any, differ, defined_in, unchanged}
+use Rattle.scheme_model.specs.Substitution.{Defined, at_form, any, differ, defined_in, unchanged}
 use Rattle.scheme_model.specs.Scopes.{own_of, imported_as, defined_or, given_or}
 use Rattle.scheme_model.specs.ScopedExpansion.{Bind, Enter, Frames, BodyDefinition, BodyDefinitions, UsePlace, FramedIdent, ScopedMacro, ScopedState, around, find, defined_as, means_inside, means_outside, means_at, next_number, macro_at, macro_added, body_around, definition_added, meaning_next, is_defined, refused_now}
 use Rattle.scheme_model.specs.CountedExpansion.{means_here, refused_here, counted}

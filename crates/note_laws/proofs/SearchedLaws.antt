@@ -1,16 +1,14 @@
 -- Each unit of a program may forget what is local while its definitions go through the notes that speak of their identifiers alone.
-use Rattle.std.proofs.Common.{◌≡◌, ℕ, List, [], ◌∷◌, map, true, eqb, Option, Some, None, refl, sym, ap, ◌∙◌, subst}
+use Rattle.std.proofs.Common.{◌≡◌, ℕ, List, [], ◌∷◌, map, true, eqb, Option, Some, None, refl, sym, ap, subst}
 use Rattle.std.proofs.lemmas.Bool.{both_ways, eq-eqb}
 use Rattle.scheme_model.specs.Ident.{Ident, Written}
 use Rattle.scheme_model.specs.Trees.{Tree}
 use Rattle.scheme_model.specs.Meaning.{Global}
 use Rattle.scheme_model.specs.Requirements.{Known}
 use Rattle.scheme_model.specs.UnitExpansion.{Formed}
-use Rattle.scheme_model.specs.Entries.{Entry}
 use Rattle.scheme_model.specs.ScopedExpansion.{ScopedState}
-use Rattle.scheme_model.specs.Substitution.{Entries}
 use Rattle.scheme_model.specs.IncludedUnits.{Placed}
-use Rattle.scheme_model.specs.Program.{Prepared, UnitResult, is_ready, unit_entries, with_entries, enough_turns, forms_at_work}
+use Rattle.scheme_model.specs.Program.{Prepared, is_ready, unit_entries, with_entries, enough_turns, forms_at_work}
 use Rattle.scheme_model.specs.ScopedProgram.{ScopedProgress, forms_over, scoped_unit_over, scoped_start_after, scoped_work, scoped_before}
 use Rattle.model_laws.proofs.EntryLaws.{GivenSo}
 use Rattle.form_laws.specs.Begins.{Each}
@@ -19,7 +17,7 @@ use Rattle.kept_forms.proofs.Programs.{between_at, placed_at, new_unit}
 use Rattle.expansion_laws.proofs.BoundedNotes.{Foreign}
 use Rattle.expansion_laws.proofs.SearchedPrograms.{bounded}
 use Rattle.forgotten_locals.specs.Outside.{ForgetsLocals}
-use Rattle.forgotten_locals.specs.Ways.{forgetting, unit_by}
+use Rattle.forgotten_locals.specs.Ways.{unit_by}
 use Rattle.forgotten_locals.specs.Programs.{IsProgressOutside}
 use Rattle.forgotten_locals.proofs.Units.{forgetting_begins, forgetting_same}
 use Rattle.forgotten_locals.proofs.StaysOutside.{start_is_outside, turns_outside}

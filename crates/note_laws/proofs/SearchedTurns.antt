@@ -1,7 +1,6 @@
 -- A unit that forgets what is local comes to the same where its definitions go through the notes that speak of their identifiers alone.
-use Rattle.std.proofs.Common.{◌≡◌, ℕ, suc, List, [], ◌∷◌, map, Bool, true, false, cond, Option, Some, None, Result, Ok, Err, refl, sym, ap, ◌∙◌, subst}
+use Rattle.std.proofs.Common.{◌≡◌, ℕ, List, [], ◌∷◌, Bool, true, false, cond, Option, Some, None, Result, Ok, Err, refl, sym, ap, ◌∙◌, subst}
 use Rattle.std.specs.Prelude.{nat_lt}
-use Rattle.scheme_model.specs.Identifiers.{Number}
 use Rattle.scheme_model.specs.Ident.{Ident}
 use Rattle.scheme_model.specs.Trees.{Tree}
 use Rattle.scheme_model.specs.Meaning.{Meaning, Local, Global, Standard, Free}
@@ -10,7 +9,7 @@ use Rattle.scheme_model.specs.Cores.{Parts}
 use Rattle.scheme_model.specs.Steps.{Broken}
 use Rattle.scheme_model.specs.Order.{Note, LookedUp, Compared, Left, Pass, run}
 use Rattle.scheme_model.specs.Expression.{expand}
-use Rattle.scheme_model.specs.UnitExpansion.{Formed, Work, ◌then◌, going, max_total, nodes_in, unless_over, one_form, form_parts}
+use Rattle.scheme_model.specs.UnitExpansion.{Formed, ◌then◌, going, max_total, nodes_in, unless_over, one_form, form_parts}
 use Rattle.scheme_model.specs.ScopedExpansion.{Frames, BodyDefinition, BodyDefinitions, UsePlace, FramedIdent, ScopedMacro, ScopedState, around}
 use Rattle.scheme_model.specs.CountedExpansion.{counted}
 use Rattle.scheme_model.specs.Questions.{Around}
@@ -25,7 +24,7 @@ use Rattle.kept_forms.specs.KeptForms.{FormOrKept, LeftOrKept, around_form, goes
 use Rattle.kept_forms.specs.Carried.{PassKept, RestKept, FormFits, Onwards}
 use Rattle.expansion_laws.proofs.AlikeSides.{run_alike}
 use Rattle.expansion_laws.proofs.AlikeUnits.{form_work}
-use Rattle.expansion_laws.proofs.BoundedNotes.{Foreign, Bounded}
+use Rattle.expansion_laws.proofs.BoundedNotes.{Foreign}
 use Rattle.forgotten_locals.specs.Outside.{is_outside, macros_outside, outside, IsOutside, forgotten}
 use Rattle.forgotten_locals.specs.Ways.{Way, forgetting, left_of, firsts_by, seconds_by, unit_by, AtFirsts, AtSeconds, AtTurns, IsKept, IsRestKept, AllKept, CanBegin, RestCanBegin, AllBegin}
 use Rattle.note_laws.specs.Searching.{searching}

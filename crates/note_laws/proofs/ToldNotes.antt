@@ -1,9 +1,8 @@
 -- What is noted of a question where it is asked is the note of what is to be noted of it: the question itself where the form's definitions
 -- have a part in the answer, else as it is asked when the form begins.
-use Rattle.std.proofs.Common.{◌≡◌, ℕ, List, [], ◌∷◌, ◌++◌, map, Bool, true, false, cond, Option, Some, None, refl, sym, ap, ◌∙◌, length}
+use Rattle.std.proofs.Common.{◌≡◌, ℕ, List, [], ◌∷◌, ◌++◌, map, Bool, true, false, cond, Option, None, refl, sym, ap, ◌∙◌, length}
 use Rattle.std.specs.Prelude.{◌&&◌, ◌||◌, not}
 use Rattle.std.proofs.lemmas.Bool.{false_from_ne_true, both_ways}
-use Rattle.scheme_model.specs.Identifiers.{Number}
 use Rattle.scheme_model.specs.Ident.{Ident, Written, Inserted}
 use Rattle.scheme_model.specs.Meaning.{Meaning, Local, Global, Standard, Free, same_meaning}
 use Rattle.scheme_model.specs.RulesShape.{option_map}
@@ -11,7 +10,7 @@ use Rattle.scheme_model.specs.Order.{Transformer, is_some}
 use Rattle.scheme_model.specs.Substitution.{Table, is_variable}
 use Rattle.scheme_model.specs.ScopedExpansion.{Frames, macro_at, assigned}
 use Rattle.scheme_model.specs.OwnAnswers.{root_means}
-use Rattle.scheme_model.specs.Questions.{Moment, Around, at_moment, Question, LooksUp, UsesRules, Compares, IsAssigned, Requires, Defines, Answer, Means, Expands, Says, bare, bare_macro, answer}
+use Rattle.scheme_model.specs.Questions.{Moment, Around, at_moment, Question, LooksUp, UsesRules, Compares, IsAssigned, Requires, Defines, Means, Expands, Says, bare, bare_macro, answer}
 use Rattle.scheme_model.specs.FormsAlike.{start, bare_note}
 use Rattle.scheme_model.proofs.RenamingLaws.{append_map}
 use Rattle.model_laws.proofs.EntryLaws.{NoLocal}
