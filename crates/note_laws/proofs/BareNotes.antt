@@ -1,5 +1,5 @@
 -- Notes of the code don't tell the times at which bodies were entered: they stand for notes exactly where they stand for these without times.
-use Rattle.std.proofs.Common.{◌≡◌, ◌↔◌, zero, suc, ◌<◌, List, [], ◌∷◌, map, length, Bool, true, false, refl, sym, ap, ◌∙◌, subst, arith, Contains}
+use Rattle.std.proofs.Common.{◌≡◌, ◌↔◌, zero, suc, ◌<◌, List, [], ◌∷◌, map, length, true, false, refl, sym, ap, ◌∙◌, subst, arith, Contains}
 use Rattle.scheme_model.specs.Ident.{Ident}
 use Rattle.scheme_model.specs.Questions.{Question, LooksUp, UsesRules, Compares, IsAssigned, Requires, Defines, Answer, bare}
 use Rattle.scheme_model.specs.FormsAlike.{bare_note}
@@ -11,6 +11,7 @@ use Rattle.form_notes.specs.declared.notes.Note as code_note
 use Rattle.form_notes.specs.declared.notes.Question as code_question
 use Rattle.form_notes.specs.declared.notes.Question.TheVariants as code
 use Rattle.note_laws.specs.Told.{bare_question, bare_noted}
+use Rattle.note_laws.specs.Tested.{is_definition}
 
 -- ---- lists
 
@@ -34,14 +35,6 @@ from_map f (y ∷ ys) z (suc k, l, e) =
 
 -- ---- one note
 
-is_definition : Question → Bool
-is_definition (LooksUp i) = false
-is_definition (UsesRules m) = false
-is_definition (Compares l i) = false
-is_definition (IsAssigned i) = false
-is_definition (Requires l) = false
-is_definition (Defines fs x r ns) = true
-
 name_or : Ident → Question → Ident
 name_or d (LooksUp i) = d
 name_or d (UsesRules m) = d
@@ -52,7 +45,6 @@ name_or d (Defines fs x r ns) = x.name
 
 -- what is no definition has no times
 timeless : (q r : Question) → is_definition r ≡ false → bare_question q ≡ r → q ≡ r
-unfolding is_definition
 timeless (LooksUp i) r d e = e
 timeless (UsesRules m) r d e = e
 timeless (Compares l i) r d e = e
@@ -71,7 +63,7 @@ module _ (names : Names) (r : Since) where
 
   -- a definition of the same identifier
   defined_with : (c : code_question.Question) (q : Question) (a : Answer) → IsQuestion names r c (bare_question q) a → IsQuestion names r c q a
-  unfolding is_definition name_or
+  unfolding name_or
   defined_with (code.Lookup ident meaning keyword) q a h = (h.0, h.1, timeless q (LooksUp h.0) refl h.2, h.3, h.4, h.5)
   defined_with (code.Literal literal ident holds) q a h = (h.0, h.1, timeless q (Compares h.0 h.1) refl h.2, h.3, h.4, h.5)
   defined_with (code.Rules meaning edition) q a h = (h.0, timeless q (UsesRules h.0) refl h.1, h.2, h.3)

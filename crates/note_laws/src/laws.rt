@@ -1,5 +1,6 @@
 //! Laws of the definitions. Each is the contract of a function that does nothing.
 ghost use Rattle.std.specs.Prelude.{◌≡◌, ◌↔◌, ℕ, true, List, [], map, length, Option, Ok};
+ghost use Rattle.std.specs.List.{Contains};
 ghost use Rattle.scheme_model.specs.Ident.{Ident as Identifier};
 ghost use Rattle.scheme_model.specs.Trees.{Tree};
 ghost use Rattle.scheme_model.specs.Order.{Left, Transformer, run};
@@ -7,7 +8,7 @@ ghost use Rattle.scheme_model.specs.UnitExpansion.{one_form};
 ghost use Rattle.scheme_model.specs.ScopedExpansion.{Frames};
 ghost use Rattle.scheme_model.specs.Questions.{Around, SameAnswer};
 ghost use Rattle.scheme_model.specs.FormsAlike.{bound_moved, left_with, finish_by, questions_of_pass, questions_of_left};
-ghost use Rattle.form_laws.specs.Begins.{Each, Begins, FormBegins};
+ghost use Rattle.form_laws.specs.Begins.{Each, Begins, FormBegins, SameForm};
 ghost use Rattle.question_laws.specs.Noted.{all_noted, IsClosed, SameUnit};
 ghost use Rattle.scheme_model.specs.Requirements.{Known};
 ghost use Rattle.scheme_model.specs.IncludedUnits.{Placed};
@@ -22,6 +23,7 @@ ghost use Rattle.form_notes.specs.Standing.{HaveNotes};
 ghost use Rattle.form_notes.specs.declared.notes.Note.{Note as AnyNote};
 ghost use Rattle.noted_steps.specs.Noting.{noting, begun};
 ghost use Rattle.note_laws.specs.Told.{bare_noted, told, since_of, ImportsOthers};
+ghost use Rattle.note_laws.specs.Tested.{IsOfStart, HasAnswer, SameAtStart};
 ghost use Rattle.note_laws.specs.Searching.{searching, forms_anew};
 
 /// What an expansion notes is what is to be noted of the form's questions, each with its answer, latest first (R7RS 4.3, 5.3): so of its first
@@ -58,4 +60,13 @@ pub fn notes_stay()
         map (told v) (all_noted v (questions_of_pass v turns t)) ≡ map (told w) (all_noted w (questions_of_pass w turns t)) }
     ensures left { (w v : Around) (turns from to : ℕ) (l : Left Identifier) → SameUnit w v → Begins w.state → Begins v.state → IsClosed w.state → IsClosed v.state → Each (SameAnswer w v) (all_noted w (questions_of_left w turns (Ok l))) →
         map (told v) (all_noted v (questions_of_left v turns (Ok (left_with (bound_moved from to) l)))) ≡ map (told w) (all_noted w (questions_of_left w turns (Ok l))) }
+{}
+
+/// Where the notes of a form's start have their answers in other surroundings of the form, its questions of the start have the answers that they had, and the
+/// other way round (R7RS 4.3, 5.3): so a form is tested by its notes alone. All notes of its second part are of the start.
+pub fn notes_are_tested()
+    ensures pass { (w v : Around) (turns : ℕ) (t : Tree Identifier) (ms : List Noted) → SameForm w v → map bare_noted ms ≡ map (told w) (all_noted w (questions_of_pass w turns t)) →
+        ((m : Noted) → Contains ms m → IsOfStart m → HasAnswer v m) ↔ Each (SameAtStart w v) (all_noted w (questions_of_pass w turns t)) }
+    ensures left { (w v : Around) (turns : ℕ) (l : Left Identifier) (ms : List Noted) → SameForm w v → Begins w.state → map bare_noted ms ≡ map (told w) (all_noted w (questions_of_left w turns (Ok l))) →
+        ((m : Noted) → Contains ms m → HasAnswer v m) ↔ Each (SameAnswer w v) (all_noted w (questions_of_left w turns (Ok l))) }
 {}
