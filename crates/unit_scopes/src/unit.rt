@@ -19,6 +19,7 @@ use crate::prelude::PRELUDE;
 use crate::scope::{Budget, FormAtWork, Imported, UnitScope};
 use core_tree::traces::Trace;
 use feature_requirements::known::Libraries;
+use form_notes::Noting;
 use ls_base::{Items, Mem};
 use scope_env::{Env, ScopeNo};
 use std::alloc::Global;
@@ -185,6 +186,7 @@ fn no_form(alloc: Global) -> FormAtWork {
             definitions: Items::new(alloc),
             keywords: Items::new(alloc),
             uses: Items::new(alloc),
+            notes: Noting::new(alloc),
         },
     }
 }
