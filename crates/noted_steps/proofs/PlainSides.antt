@@ -140,6 +140,8 @@ module _ (known : Known) where
     like = λ s l k. k ≡ l;
     bounds = λ fs. Same;
     notes = λ s fs. SameNotes;
+    ruled = λ s m. Unit {0};
+    ruled_there = λ s m a. tt;
     itself = λ s. (refl, refl);
     then_ = λ s t u a b. (b.0 ∙ a.0, b.1 ∙ a.1);
     fits_later = λ s t a e f d. d;
@@ -151,6 +153,7 @@ module _ (known : Known) where
     ask_later = λ s qs. (refl, refl);
     ask_near = λ s t h qs rs a. h;
     ask_means = λ s qs e i. refl;
+    ask_macro = λ s qs m. refl;
     ask_meant = λ t rs f i. refl;
     counts = λ s t h. ap (λ z. there.counted z) h;
     spend_back = λ s n a. tt;
@@ -226,7 +229,7 @@ module _ (known : Known) (turns : ℕ) where
       let g = expand (searched known) turns in
       let q = item_part f (noting known) max_depth [] i s in
       let y = item_part g (searched known) max_depth [] i (state_of s) in
-      let law = item_goes (noting known) (searched known) Fits (sides known) f g (expand_goes (noting known) (searched known) Fits (sides known) turns) Same (λ x y e k. ap (λ z. meaning_of z k) e) max_depth [] [] i i (item_itself Same (λ x. refl) i) s refl in
+      let law = item_goes (noting known) (searched known) Fits (sides known) (λ s m. tt) f g (expand_goes (noting known) (searched known) Fits (sides known) (λ s m. tt) turns) Same (λ x y e k. ap (λ z. meaning_of z k) e) max_depth [] [] i i (item_itself Same (λ x. refl) i) s refl in
       let x = law.same (state_of s) refl tt in
       let a = result_same (PartLike Same) (part_equal Same (λ x y e. e)) q.0 y.0 x.0 in
       let c = x.1 in
@@ -246,7 +249,7 @@ module _ (known : Known) (turns : ℕ) where
 
   pub item_kept : (i : Item Ident) (s : Noting) → Kept s (item_part (expand (noting known) turns) (noting known) max_depth [] i s).1
   item_kept i s =
-      let law = item_goes (noting known) (searched known) Fits (sides known) (expand (noting known) turns) (expand (searched known) turns) (expand_goes (noting known) (searched known) Fits (sides known) turns) Same (λ x y e k. ap (λ z. meaning_of z k) e) max_depth [] [] i i (item_itself Same (λ x. refl) i) s refl in
+      let law = item_goes (noting known) (searched known) Fits (sides known) (λ s m. tt) (expand (noting known) turns) (expand (searched known) turns) (expand_goes (noting known) (searched known) Fits (sides known) (λ s m. tt) turns) Same (λ x y e k. ap (λ z. meaning_of z k) e) max_depth [] [] i i (item_itself Same (λ x. refl) i) s refl in
       law.after
 
   pub item_exact : (i : Item Ident) (s : Noting) → (item_part (expand (noting known) turns) (noting known) max_depth [] i s).1.exact ≡ s.exact
