@@ -14,7 +14,7 @@ use Rattle.scheme_model.specs.Cores.{Core, LetSyntax}
 use Rattle.scheme_model.specs.Steps.{Broken, Step, ◌>>=◌, done, fails}
 use Rattle.scheme_model.specs.Order.{Here, RulesParts, rules_parts, rules_parts_of, head_of, is_rules}
 use Rattle.scheme_model.specs.Expression.{body, expand, node, heads, keep_all, local_defs, local_macros, numbers}
-use Rattle.scheme_model.specs.ScopedExpansion.{Frames, ScopedState, next_number}
+use Rattle.scheme_model.specs.ScopedExpansion.{Frames}
 use Rattle.syntax_tree.specs.Names.{AreToldApart}
 use Rattle.syntax_tree.specs.declared.trees.Work.{Work}
 use Rattle.syntax_tree.specs.declared.trees.table.Region.{Region}
@@ -33,12 +33,11 @@ use Rattle.unit_scopes.specs.Binds.{Binds, local_binders}
 use Rattle.expander.specs.Bodies.{AreLocalMacros, CanKeep, HaveHeads, HaveNumbers}
 use Rattle.expander.specs.Expanded.{MacrosAtWork, macros_step}
 use Rattle.feature_requirements.specs.Judged.{Knows}
-use Rattle.unit_scopes.specs.Outcomes.{At, CanLook, SameForm, Stays, Moves, Ends, EndsHere, Runs}
+use Rattle.unit_scopes.specs.Outcomes.{At, CanLook, SameForm}
 use Rattle.expander.specs.Ready.{BeginsBelow}
 use Rattle.unit_scopes.specs.RulesTold.{Tests}
-use Rattle.unit_scopes.specs.Searched.{searched}
-use Rattle.unit_scopes.specs.State.{Stands, most_locals}
-use Rattle.unit_scopes.specs.Stepped.{spent, taken, after, bound_frames, bound_binders}
+use Rattle.unit_scopes.specs.State.{most_locals}
+use Rattle.unit_scopes.specs.Stepped.{after, bound_frames, bound_binders}
 use Rattle.expander.specs.declared.expressions.At as code_at
 use Rattle.feature_requirements.specs.declared.fault.ExpandFault.{ExpandFault}
 use Rattle.feature_requirements.specs.declared.fault.ExpandFault.TheVariants as fault
@@ -49,19 +48,24 @@ use Rattle.unit_scopes.proofs.BindersStand.{BindersStand, numbers_are}
 use Rattle.expander.proofs.BodyRuns.{binds_stand, binds_inner, names_count}
 use Rattle.expander.proofs.CoreLaws.{binds_moves, macros_are}
 use Rattle.unit_scopes.proofs.CoreStandLaws.{every_on, macro_def_on}
-use Rattle.unit_scopes.proofs.CountingStands.{nodes_stand}
 use Rattle.expander.proofs.KeepLaws.{heads_tell}
 use Rattle.expander.proofs.LoopLaws.{knows_on}
-use Rattle.unit_scopes.proofs.NodeLaws.{here_then}
-use Rattle.unit_scopes.proofs.OutcomeLaws.{stays_itself, moves_here, here_ends, ends_after, ends_fails, leaves_itself}
+use Rattle.unit_scopes.proofs.OutcomeLaws.{leaves_itself}
 use Rattle.expander.proofs.RowLaws.{ends_mapped}
 use Rattle.expander.proofs.ShapeParts.{macros_named, names_of_macros}
+use Rattle.noted_steps.specs.Noting.{Noting, next_number, noting}
+use Rattle.noted_steps.specs.Outcomes.{Stays, Moves, Ends, EndsHere, Runs}
+use Rattle.noted_steps.specs.Standing.{Stands}
+use Rattle.noted_steps.specs.Stepped.{spent, taken}
+use Rattle.noted_steps.proofs.CountingStands.{nodes_stand}
+use Rattle.noted_steps.proofs.NodeLaws.{here_then}
+use Rattle.noted_steps.proofs.OutcomeLaws.{stays_itself, moves_here, here_ends, ends_after, ends_fails}
 
 -- ---- the heads of rules are the same when nodes were counted
 
-module _ (known : Known) (here : Here) (fs : Frames) (s : ScopedState) (n : ℕ) where
+module _ (known : Known) (here : Here) (fs : Frames) (s : Noting) (n : ℕ) where
   abbrev Heads : Type 0
-  Heads = Result (List (RulesParts Identifier)) Broken × ScopedState
+  Heads = Result (List (RulesParts Identifier)) Broken × Noting
 
   abbrev with_head : RulesParts Identifier → Heads → Heads
   with_head r q = q >>= λ rs. done (r ∷ rs)
@@ -70,36 +74,36 @@ module _ (known : Known) (here : Here) (fs : Frames) (s : ScopedState) (n : ℕ)
   put_head r (Ok rs, t) = refl
   put_head r (Err e, t) = refl
 
-  abbrev tested : Bool → RulesParts Identifier → Trees Identifier → ScopedState → Heads
-  tested b r ts t = (if b then done r t else fails here BadForm t) >>= λ q t1. heads (searched known) here fs ts t1 >>= λ rs. done (q ∷ rs)
+  abbrev tested : Bool → RulesParts Identifier → Trees Identifier → Noting → Heads
+  tested b r ts t = (if b then done r t else fails here BadForm t) >>= λ q t1. heads (noting known) here fs ts t1 >>= λ rs. done (q ∷ rs)
 
-  by_test : (b : Bool) (r : RulesParts Identifier) (ts : Trees Identifier) → heads (searched known) here fs ts (spent n s) ≡ ((heads (searched known) here fs ts s).0, spent n s) → tested b r ts (spent n s) ≡ ((tested b r ts s).0, spent n s)
-  by_test true r ts later = ap (with_head r) later ∙ put_head r (heads (searched known) here fs ts s)
+  by_test : (b : Bool) (r : RulesParts Identifier) (ts : Trees Identifier) → heads (noting known) here fs ts (spent n s) ≡ ((heads (noting known) here fs ts s).0, spent n s) → tested b r ts (spent n s) ≡ ((tested b r ts s).0, spent n s)
+  by_test true r ts later = ap (with_head r) later ∙ put_head r (heads (noting known) here fs ts s)
   by_test false r ts later = refl
 
-  abbrev parted : Option (RulesParts Identifier) → Trees Identifier → ScopedState → Heads
-  parted o ts t = rules_parts (searched known) here fs o t >>= λ q t1. heads (searched known) here fs ts t1 >>= λ rs. done (q ∷ rs)
+  abbrev parted : Option (RulesParts Identifier) → Trees Identifier → Noting → Heads
+  parted o ts t = rules_parts (noting known) here fs o t >>= λ q t1. heads (noting known) here fs ts t1 >>= λ rs. done (q ∷ rs)
 
-  by_parts : (o : Option (RulesParts Identifier)) (ts : Trees Identifier) → heads (searched known) here fs ts (spent n s) ≡ ((heads (searched known) here fs ts s).0, spent n s) → parted o ts (spent n s) ≡ ((parted o ts s).0, spent n s)
+  by_parts : (o : Option (RulesParts Identifier)) (ts : Trees Identifier) → heads (noting known) here fs ts (spent n s) ≡ ((heads (noting known) here fs ts s).0, spent n s) → parted o ts (spent n s) ≡ ((parted o ts s).0, spent n s)
   by_parts None ts later = refl
-  by_parts (Some r) ts later = by_test (is_rules (head_of (searched known) fs s r.head)) r ts later
+  by_parts (Some r) ts later = by_test (is_rules (head_of (noting known) fs s r.head)) r ts later
 
-  pub heads_spent : (ts : Trees Identifier) → heads (searched known) here fs ts (spent n s) ≡ ((heads (searched known) here fs ts s).0, spent n s)
+  pub heads_spent : (ts : Trees Identifier) → heads (noting known) here fs ts (spent n s) ≡ ((heads (noting known) here fs ts s).0, spent n s)
   heads_spent no_trees = refl
   heads_spent (tree t ts) = by_parts (rules_parts_of t) ts (heads_spent ts)
 
-  pub heads_later : (ts : Trees Identifier) (rs : List (RulesParts Identifier)) → heads (searched known) here fs ts s ≡ done rs s → heads (searched known) here fs ts (spent n s) ≡ done rs (spent n s)
+  pub heads_later : (ts : Trees Identifier) (rs : List (RulesParts Identifier)) → heads (noting known) here fs ts s ≡ done rs s → heads (noting known) here fs ts (spent n s) ≡ done rs (spent n s)
   heads_later ts rs h = heads_spent ts ∙ (λ j. ((h j).0, spent n s))
 
 -- ---- numbers and names of the binders
 
-numbers_match : (t : ScopedState) (bs : List code_binder.Binder) (vs : List Number) → AllMatch (λ (b : code_binder.Binder) (v : Number). v ≡ record { unit = t.unit; form = t.form; count = b.number }) bs vs → HaveNumbers t bs vs
+numbers_match : (t : Noting) (bs : List code_binder.Binder) (vs : List Number) → AllMatch (λ (b : code_binder.Binder) (v : Number). v ≡ record { unit = t.unit; form = t.form; count = b.number }) bs vs → HaveNumbers t bs vs
 numbers_match t [] [] h = tt
 numbers_match t [] (v ∷ vs) h = absurd h
 numbers_match t (b ∷ bs) [] h = absurd h
 numbers_match t (b ∷ bs) (v ∷ vs) h = (h.0, numbers_match t bs vs h.1)
 
-pub have_numbers : (t : ScopedState) (n : ℕ) (xs : List NamePart) (ns : List (Named Identifier)) (bs : List code_binder.Binder) (v : Number) → length xs ≡ length ns → bs ≡ local_binders n xs → v ≡ record { unit = t.unit; form = t.form; count = n } → HaveNumbers t bs (numbers v ns)
+pub have_numbers : (t : Noting) (n : ℕ) (xs : List NamePart) (ns : List (Named Identifier)) (bs : List code_binder.Binder) (v : Number) → length xs ≡ length ns → bs ≡ local_binders n xs → v ≡ record { unit = t.unit; form = t.form; count = n } → HaveNumbers t bs (numbers v ns)
 have_numbers t n xs ns bs v count is number =
     subst (λ (ys : List code_binder.Binder). HaveNumbers t ys (numbers v ns)) (sym is)
     (subst (λ (w : Number). HaveNumbers t (local_binders n xs) (numbers w ns)) (sym number)
@@ -108,7 +112,7 @@ have_numbers t n xs ns bs v count is number =
 next_is : (v : Number) → after v ≡ record { unit = v.unit; form = v.form; count = suc v.count }
 next_is v = let e : v.count + 1 ≡ suc v.count = omega arith in λ j. record { unit = v.unit; form = v.form; count = e j }
 
-pub local_binders_are : (work : Work) (t : ScopedState) (bs : List code_binder.Binder) (v : Number) (ns : List (Named Identifier)) → AllMatch (IsBinder work.symbols t.unit t.form) bs (bound_binders v ns) → AreLocalMacros work t bs (numbers v ns) ns
+pub local_binders_are : (work : Work) (t : Noting) (bs : List code_binder.Binder) (v : Number) (ns : List (Named Identifier)) → AllMatch (IsBinder work.symbols t.unit t.form) bs (bound_binders v ns) → AreLocalMacros work t bs (numbers v ns) ns
 local_binders_are work t [] v [] h = tt
 local_binders_are work t [] v (n ∷ ns) h = absurd h
 local_binders_are work t (b ∷ bs) v [] h = absurd h
@@ -116,7 +120,7 @@ local_binders_are work t (b ∷ bs) v (n ∷ ns) h =
     (h.0, local_binders_are work t bs (record { unit = v.unit; form = v.form; count = suc v.count }) ns (subst (λ (w : Number). AllMatch (IsBinder work.symbols t.unit t.form) bs (bound_binders w ns)) (next_is v) h.1))
 
 -- a node that has begun
-spends_stand : (work : Work) (region : Region) (u w : UnitScope) (ls : List Frames) (s : ScopedState) (at below : code_at.At) (n : ℕ) → Stands work u ls s → BeginsBelow u w at n (Ok below) → Stands work w ls (spent n s)
+spends_stand : (work : Work) (region : Region) (u w : UnitScope) (ls : List Frames) (s : Noting) (at below : code_at.At) (n : ℕ) → Stands work u ls s → BeginsBelow u w at n (Ok below) → Stands work w ls (spent n s)
 spends_stand work region u w ls s at below n e h = subst (λ (x : UnitScope). Stands work x ls (spent n s)) (sym h.2.2) (nodes_stand work u ls s n h.2.1 e)
 
 -- ---- local macros
@@ -134,7 +138,7 @@ rules_frames false gs fs = fs
 module _ (work : Work) (region : Region) (u w1 : UnitScope) (at : code_at.At) (again : Bool) (m : LocalMacros Identifier) (macros : List LocalMacro) (xs : List NamePart) (inner rules_at : ℕ) (bs : List code_binder.Binder)
     (apart : AreToldApart work.symbols.idents) (sound : IsSound u.env) (names : AllParts (IsName work) xs m.names) (room : u.form.budget.locals + length xs ≤ most_locals u.form.budget.nodes) (h : Binds u w1 at.scope xs inner bs)
     (place : RulesAt again rules_at inner at.scope) (are : AreMacros work macros m.names m.rules) where
-  module _ (ls : List Frames) (s : ScopedState) (fs : Frames) (e : Stands work u ls s) (there : At ls at.scope fs) where
+  module _ (ls : List Frames) (s : Noting) (fs : Frames) (e : Stands work u ls s) (there : At ls at.scope fs) where
     abbrev first : Number
     first = next_number s s.locals
 
@@ -144,7 +148,7 @@ module _ (work : Work) (region : Region) (u w1 : UnitScope) (at : code_at.At) (a
     abbrev pub bound_layout : List Frames
     bound_layout = ls ++ inner_frames ∷ []
 
-    abbrev pub bound_state : ScopedState
+    abbrev pub bound_state : Noting
     bound_state = taken (length m.names) s
 
     abbrev pub frames_of_rules : Frames
@@ -166,11 +170,11 @@ module _ (work : Work) (region : Region) (u w1 : UnitScope) (at : code_at.At) (a
     abbrev pub macro_numbers : List Number
     macro_numbers = numbers first m.names
 
-    abbrev pub known_step : Known → ℕ → Result Core Broken × ScopedState
-    known_step known turns = macros_step again (expand (searched known) turns) (searched known) at.depth at.here fs m s
+    abbrev pub known_step : Known → ℕ → Result Core Broken × Noting
+    known_step known turns = macros_step again (expand (noting known) turns) (noting known) at.depth at.here fs m s
 
-    abbrev pub bound_step : Known → ℕ → Result Core Broken × ScopedState
-    bound_step known turns = local_macros (expand (searched known) turns) (searched known) at.depth at.here macro_numbers m.names frames_of_rules m.rules inner_frames m.body bound_state
+    abbrev pub bound_step : Known → ℕ → Result Core Broken × Noting
+    bound_step known turns = local_macros (expand (noting known) turns) (noting known) at.depth at.here macro_numbers m.names frames_of_rules m.rules inner_frames m.body bound_state
 
     unfoldable bound_moves : Moves work work region u w1 ls bound_state
     bound_moves = binds_moves work region u w1 ls s at.scope fs xs m.names inner bs stand h
@@ -179,52 +183,52 @@ module _ (work : Work) (region : Region) (u w1 : UnitScope) (at : code_at.At) (a
     pub from_bound : {V : Type 0} (Q : List Frames → V → Core → Type 0) (known : Known) (turns : ℕ) (new : Work) (v : UnitScope) (result : Result V ExpandFault) → Ends Q work new region w1 v bound_layout result (bound_step known turns) → Ends Q work new region u v ls result (known_step known turns)
     unfolding bound_moves binds_moves
     from_bound Q known turns new v result ends =
-        subst (λ (p : Result Core Broken × ScopedState). Ends Q work new region u v ls result p) (sym (macros_are again known (expand (searched known) turns) at.depth at.here fs m s frames_of_rules (λ is. ap (λ (b : Bool). rules_frames b inner_frames fs) is) (λ is. ap (λ (b : Bool). rules_frames b inner_frames fs) is)))
+        subst (λ (p : Result Core Broken × Noting). Ends Q work new region u v ls result p) (sym (macros_are again known (expand (noting known) turns) at.depth at.here fs m s frames_of_rules (λ is. ap (λ (b : Bool). rules_frames b inner_frames fs) is) (λ is. ap (λ (b : Bool). rules_frames b inner_frames fs) is)))
         (ends_after Q work work new region u w1 v ls bound_state result (bound_step known turns) bound_moves ends)
 
     -- ---- the heads are tested
 
     abbrev TestsHeads : Known → Result (Unit {0}) ExpandFault → Type 0
-    TestsHeads known result = Tests work bound_state result (heads (searched known) at.here frames_of_rules m.rules bound_state)
+    TestsHeads known result = Tests work bound_state result (heads (noting known) at.here frames_of_rules m.rules bound_state)
 
-    abbrev node_step : Known → ℕ → List (RulesParts Identifier) → ScopedState → Result Core Broken × ScopedState
+    abbrev node_step : Known → ℕ → List (RulesParts Identifier) → Noting → Result Core Broken × Noting
     node_step known turns rs t =
-        node (searched known) at.here 1 at.depth (λ below t1. keep_all (searched known) at.here frames_of_rules macro_numbers m.rules rs t1 >>= λ kept t2.
-        expand (searched known) turns below at.here inner_frames (body m.body) t2 >>= λ c. done (LetSyntax (local_defs (searched known) t2 macro_numbers m.names) c)) t
+        node (noting known) at.here 1 at.depth (λ below t1. keep_all (noting known) at.here frames_of_rules macro_numbers m.rules rs t1 >>= λ kept t2.
+        expand (noting known) turns below at.here inner_frames (body m.body) t2 >>= λ c. done (LetSyntax (local_defs (noting known) t2 macro_numbers m.names) c)) t
 
     pub tests_goes : (known : Known) (turns : ℕ) (passed : Unit {0}) (q : TestsHeads known (Ok passed)) → bound_step known turns ≡ node_step known turns q.0 bound_state
-    tests_goes known turns passed q = ap (λ (x : Result (List (RulesParts Identifier)) Broken × ScopedState). x >>= node_step known turns) q.1
+    tests_goes known turns passed q = ap (λ (x : Result (List (RulesParts Identifier)) Broken × Noting). x >>= node_step known turns) q.1
 
     pub tests_fail : {V : Type 0} (Q : List Frames → V → Core → Type 0) (known : Known) (turns : ℕ) (x : ExpandFault) → TestsHeads known (Err x) → Ends Q work work region w1 w1 bound_layout (Err x) (bound_step known turns)
     unfolding moves_here
     tests_fail Q known turns (fault.At e) q =
-        let same : bound_step known turns ≡ (Err q.0, bound_state) = ap (λ (x : Result (List (RulesParts Identifier)) Broken × ScopedState). x >>= node_step known turns) q.1 in
-        subst (λ (p : Result Core Broken × ScopedState). Ends Q work work region w1 w1 bound_layout (Err (fault.At e)) p) (sym same)
+        let same : bound_step known turns ≡ (Err q.0, bound_state) = ap (λ (x : Result (List (RulesParts Identifier)) Broken × Noting). x >>= node_step known turns) q.1 in
+        subst (λ (p : Result Core Broken × Noting). Ends Q work work region w1 w1 bound_layout (Err (fault.At e)) p) (sym same)
         (moves_here work work region w1 w1 bound_layout bound_state (stays_itself work region w1 bound_layout bound_state bound_stands), (q.0, refl, q.2))
     tests_fail Q known turns fault.Full q = absurd q
     tests_fail Q known turns fault.Memory q = leaves_itself work region w1 bound_stands.form.few_nodes
 
     -- ---- the node begins, the macros are kept, and the body is expanded
 
-    module _ (known : Known) (turns : ℕ) (knows : Knows u.libraries known) (rs : List (RulesParts Identifier)) (read : heads (searched known) at.here frames_of_rules m.rules bound_state ≡ done rs bound_state) (w2 : UnitScope) where
+    module _ (known : Known) (turns : ℕ) (knows : Knows u.libraries known) (rs : List (RulesParts Identifier)) (read : heads (noting known) at.here frames_of_rules m.rules bound_state ≡ done rs bound_state) (w2 : UnitScope) where
       pub unbegun : {V : Type 0} (Q : List Frames → V → Core → Type 0) (x : ExpandFault) → BeginsBelow w1 w2 at 1 (Err x) → Ends Q work work region w1 w2 bound_layout (Err x) (node_step known turns rs bound_state)
       unbegun Q x b =
           node_unbegun Q known work region w1 w2 bound_layout bound_state at 1 x
-          (λ below t1. keep_all (searched known) at.here frames_of_rules macro_numbers m.rules rs t1 >>= λ kept t2.
-          expand (searched known) turns below at.here inner_frames (body m.body) t2 >>= λ c. done (LetSyntax (local_defs (searched known) t2 macro_numbers m.names) c)) bound_stands b
+          (λ below t1. keep_all (noting known) at.here frames_of_rules macro_numbers m.rules rs t1 >>= λ kept t2.
+          expand (noting known) turns below at.here inner_frames (body m.body) t2 >>= λ c. done (LetSyntax (local_defs (noting known) t2 macro_numbers m.names) c)) bound_stands b
 
       module _ (below : code_at.At) (b : BeginsBelow w1 w2 at 1 (Ok below)) where
-        abbrev begun : ScopedState
+        abbrev begun : Noting
         begun = spent 1 bound_state
 
-        abbrev keeps : Result (Unit {0}) Broken × ScopedState
-        keeps = keep_all (searched known) at.here frames_of_rules macro_numbers m.rules rs begun
+        abbrev keeps : Result (Unit {0}) Broken × Noting
+        keeps = keep_all (noting known) at.here frames_of_rules macro_numbers m.rules rs begun
 
-        abbrev kept_state : ScopedState
+        abbrev kept_state : Noting
         kept_state = keeps.1
 
-        abbrev then_body : Unit {0} → Step ScopedState Core
-        then_body kept t2 = expand (searched known) turns below.depth below.here inner_frames (body m.body) t2 >>= λ c. done (LetSyntax (local_defs (searched known) t2 macro_numbers m.names) c)
+        abbrev then_body : Unit {0} → Step Noting Core
+        then_body kept t2 = expand (noting known) turns below.depth below.here inner_frames (body m.body) t2 >>= λ c. done (LetSyntax (local_defs (noting known) t2 macro_numbers m.names) c)
 
         abbrev Kept : UnitScope → Result (Unit {0}) ExpandFault → Type 0
         Kept w3 result = EndsHere (λ (kept : Unit {0}) (also : Unit {0}). Unit {0}) work work region w2 w3 bound_layout result keeps
@@ -233,12 +237,12 @@ module _ (work : Work) (region : Region) (u w1 : UnitScope) (at : code_at.At) (a
             Ends Q work new region w1 v bound_layout result (node_step known turns rs bound_state)
         from_begun Q new v result next =
             node_below known work new region w1 w2 v bound_layout bound_state at below 1 bound_stands b Q
-            (λ d o t1. keep_all (searched known) at.here frames_of_rules macro_numbers m.rules rs t1 >>= λ kept t2. expand (searched known) turns d o inner_frames (body m.body) t2 >>= λ c. done (LetSyntax (local_defs (searched known) t2 macro_numbers m.names) c)) result next
+            (λ d o t1. keep_all (noting known) at.here frames_of_rules macro_numbers m.rules rs t1 >>= λ kept t2. expand (noting known) turns d o inner_frames (body m.body) t2 >>= λ c. done (LetSyntax (local_defs (noting known) t2 macro_numbers m.names) c)) result next
 
         pub kept_numbers : HaveNumbers begun bs macro_numbers
         kept_numbers = have_numbers begun u.form.budget.locals xs m.names bs first (names_count (IsName work) xs m.names names) h.bound (λ j. record { unit = s.unit; form = s.form; count = sym e.form.locals j })
 
-        pub kept_heads : heads (searched known) at.here frames_of_rules m.rules begun ≡ done rs begun
+        pub kept_heads : heads (noting known) at.here frames_of_rules m.rules begun ≡ done rs begun
         kept_heads = heads_later known at.here frames_of_rules bound_state 1 m.rules rs read
 
         pub kept_fails : {V : Type 0} (Q : List Frames → V → Core → Type 0) (w3 : UnitScope) (x : ExpandFault) → Kept w3 (Err x) → Ends Q work work region w2 w3 bound_layout (Err x) (keeps >>= then_body)
@@ -282,43 +286,43 @@ module _ (work : Work) (region : Region) (u w1 : UnitScope) (at : code_at.At) (a
 
           module _ (new : Work) (v : UnitScope) where
             abbrev BodyRuns : Result code_core.Core ExpandFault → Type 0
-            BodyRuns result = Runs (λ (layout : List Frames). CoreStands new v.unit v.form.number) work new region w3 v inner result (λ known fs. expand (searched known) turns below.depth below.here fs (body m.body))
+            BodyRuns result = Runs (λ (layout : List Frames). CoreStands new v.unit v.form.number) work new region w3 v inner result (λ known fs. expand (noting known) turns below.depth below.here fs (body m.body))
 
-            body_ends : (result : Result code_core.Core ExpandFault) → BodyRuns result → Ends (λ (layout : List Frames). CoreStands new v.unit v.form.number) work new region w3 v bound_layout result (expand (searched known) turns below.depth below.here inner_frames (body m.body) kept_state)
+            body_ends : (result : Result code_core.Core ExpandFault) → BodyRuns result → Ends (λ (layout : List Frames). CoreStands new v.unit v.form.number) work new region w3 v bound_layout result (expand (noting known) turns below.depth below.here inner_frames (body m.body) kept_state)
             body_ends result runs = runs known bound_layout kept_state inner_frames kept_knows kept.1.stands kept_inner
 
             pub body_fails : {V : Type 0} (Q : List Frames → V → Core → Type 0) (x : ExpandFault) → BodyRuns (Err x) → Ends Q work new region w3 v bound_layout (Err x) (then_body tt kept_state)
             body_fails Q x runs =
-                ends_fails (λ (layout : List Frames). CoreStands new v.unit v.form.number) Q work new region w3 v bound_layout x (expand (searched known) turns below.depth below.here inner_frames (body m.body) kept_state)
-                (λ c. done (LetSyntax (local_defs (searched known) kept_state macro_numbers m.names) c)) (body_ends (Err x) runs)
+                ends_fails (λ (layout : List Frames). CoreStands new v.unit v.form.number) Q work new region w3 v bound_layout x (expand (noting known) turns below.depth below.here inner_frames (body m.body) kept_state)
+                (λ c. done (LetSyntax (local_defs (noting known) kept_state macro_numbers m.names) c)) (body_ends (Err x) runs)
 
-            pub body_goes : (defs : Vec code_macro.MacroDef Global) (y : Box code_core.Core) → AllMatch (IsMacroDef work kept_state.unit kept_state.form) defs.items (local_defs (searched known) kept_state macro_numbers m.names) → BodyRuns (Ok y.value) →
+            pub body_goes : (defs : Vec code_macro.MacroDef Global) (y : Box code_core.Core) → AllMatch (IsMacroDef work kept_state.unit kept_state.form) defs.items (local_defs (noting known) kept_state macro_numbers m.names) → BodyRuns (Ok y.value) →
                 Ends (λ (layout : List Frames). CoreStands new v.unit v.form.number) work new region w3 v bound_layout (Ok (cores.LetSyntax defs y)) (then_body tt kept_state)
             body_goes defs y told runs =
                 let ends = body_ends (Ok y.value) runs in
                 let grows = ends.1.stays.work in
                 let unit : v.unit ≡ kept_state.unit = ends.1.stays.same.unit ∙ kept.1.stands.unit in
                 let form : v.form.number ≡ kept_state.form = ends.1.stays.same.number ∙ kept.1.stands.form.number in
-                let ds = local_defs (searched known) kept_state macro_numbers m.names in
+                let ds = local_defs (noting known) kept_state macro_numbers m.names in
                 let on = every_on (IsMacroDef work kept_state.unit kept_state.form) (IsMacroDef new kept_state.unit kept_state.form) (macro_def_on work new grows.trees grows.names kept_state.unit kept_state.form) defs.items ds told in
                 let now = subst (λ (n : ℕ). AllMatch (IsMacroDef new n v.form.number) defs.items ds) (sym unit) (subst (λ (n : ℕ). AllMatch (IsMacroDef new kept_state.unit n) defs.items ds) (sym form) on) in
                 ends_mapped (λ (layout : List Frames). CoreStands new v.unit v.form.number) (λ (layout : List Frames). CoreStands new v.unit v.form.number) work new region w3 v bound_layout y.value (cores.LetSyntax defs y)
-                (expand (searched known) turns below.depth below.here inner_frames (body m.body) kept_state) (λ c. LetSyntax ds c) (λ layout c held. (defs, y, refl, now, held)) ends
+                (expand (noting known) turns below.depth below.here inner_frames (body m.body) kept_state) (λ c. LetSyntax ds c) (λ layout c held. (defs, y, refl, now, held)) ends
 
   -- ---- the calls, from whatever state the scopes of the code stand for
 
   abbrev pub TestsRun : Result (Unit {0}) ExpandFault → Type 0
-  TestsRun result = (known : Known) (ls : List Frames) (s : ScopedState) (fs : Frames) (ns : List (Named Identifier)) (ts : Trees Identifier) → Stands work w1 ls s → At ls rules_at fs → AreMacros work macros ns ts → Tests work s result (heads (searched known) at.here fs ts s)
+  TestsRun result = (known : Known) (ls : List Frames) (s : Noting) (fs : Frames) (ns : List (Named Identifier)) (ts : Trees Identifier) → Stands work w1 ls s → At ls rules_at fs → AreMacros work macros ns ts → Tests work s result (heads (noting known) at.here fs ts s)
 
   abbrev pub KeepsRun : UnitScope → UnitScope → Result (Unit {0}) ExpandFault → Type 0
-  KeepsRun w2 w3 result = (known : Known) (region : Region) (ls : List Frames) (s : ScopedState) (fs : Frames) (ns : List (Named Identifier)) (ts : Trees Identifier) (vs : List Number) (rs : List (RulesParts Identifier)) → Stands work w2 ls s → At ls rules_at fs →
-      AreMacros work macros ns ts → HaveNumbers s bs vs → heads (searched known) at.here fs ts s ≡ done rs s → EndsHere (λ (kept : Unit {0}) (also : Unit {0}). Unit {0}) work work region w2 w3 ls result (keep_all (searched known) at.here fs vs ts rs s)
+  KeepsRun w2 w3 result = (known : Known) (region : Region) (ls : List Frames) (s : Noting) (fs : Frames) (ns : List (Named Identifier)) (ts : Trees Identifier) (vs : List Number) (rs : List (RulesParts Identifier)) → Stands work w2 ls s → At ls rules_at fs →
+      AreMacros work macros ns ts → HaveNumbers s bs vs → heads (noting known) at.here fs ts s ≡ done rs s → EndsHere (λ (kept : Unit {0}) (also : Unit {0}). Unit {0}) work work region w2 w3 ls result (keep_all (noting known) at.here fs vs ts rs s)
 
   abbrev pub DefsRun : UnitScope → Vec code_macro.MacroDef Global → Type 0
-  DefsRun w3 defs = (known : Known) (ls : List Frames) (s : ScopedState) (vs : List Number) (ns : List (Named Identifier)) → Stands work w3 ls s → AreLocalMacros work s bs vs ns → AllMatch (IsMacroDef work s.unit s.form) defs.items (local_defs (searched known) s vs ns)
+  DefsRun w3 defs = (known : Known) (ls : List Frames) (s : Noting) (vs : List Number) (ns : List (Named Identifier)) → Stands work w3 ls s → AreLocalMacros work s bs vs ns → AllMatch (IsMacroDef work s.unit s.form) defs.items (local_defs (noting known) s vs ns)
 
-  abbrev local_step_of : ℕ → Known → Frames → Step ScopedState Core
-  local_step_of turns known fs = macros_step again (expand (searched known) turns) (searched known) at.depth at.here fs m
+  abbrev local_step_of : ℕ → Known → Frames → Step Noting Core
+  local_step_of turns known fs = macros_step again (expand (noting known) turns) (noting known) at.depth at.here fs m
 
   pub rules_look : CanLook work u at.scope → CanLook work w1 rules_at
   rules_look l = record {
@@ -335,14 +339,14 @@ module _ (work : Work) (region : Region) (u w1 : UnitScope) (at : code_at.At) (a
       (tests_fail ls s fs e there Q known turns x (tests known (bound_layout ls s fs e there) (bound_state ls s fs e there) (frames_of_rules ls s fs e there) m.names m.rules (bound_stands ls s fs e there) (rules_there ls s fs e there) are))
 
   module _ (passed : Unit {0}) (tests : TestsRun (Ok passed)) (w2 : UnitScope) where
-    tested_at : (known : Known) (ls : List Frames) (s : ScopedState) (fs : Frames) (e : Stands work u ls s) (there : At ls at.scope fs) → TestsHeads ls s fs e there known (Ok passed)
+    tested_at : (known : Known) (ls : List Frames) (s : Noting) (fs : Frames) (e : Stands work u ls s) (there : At ls at.scope fs) → TestsHeads ls s fs e there known (Ok passed)
     tested_at known ls s fs e there = tests known (bound_layout ls s fs e there) (bound_state ls s fs e there) (frames_of_rules ls s fs e there) m.names m.rules (bound_stands ls s fs e there) (rules_there ls s fs e there) are
 
-    from_tested : {V : Type 0} (Q : List Frames → V → Core → Type 0) (known : Known) (turns : ℕ) (new : Work) (v : UnitScope) (result : Result V ExpandFault) (ls : List Frames) (s : ScopedState) (fs : Frames) (e : Stands work u ls s) (there : At ls at.scope fs) →
+    from_tested : {V : Type 0} (Q : List Frames → V → Core → Type 0) (known : Known) (turns : ℕ) (new : Work) (v : UnitScope) (result : Result V ExpandFault) (ls : List Frames) (s : Noting) (fs : Frames) (e : Stands work u ls s) (there : At ls at.scope fs) →
         Ends Q work new region w1 v (bound_layout ls s fs e there) result (node_step ls s fs e there known turns (tested_at known ls s fs e there).0 (bound_state ls s fs e there)) → Ends Q work new region u v ls result (local_step_of turns known fs s)
     from_tested Q known turns new v result ls s fs e there ends =
         from_bound ls s fs e there Q known turns new v result
-        (subst (λ (p : Result Core Broken × ScopedState). Ends Q work new region w1 v (bound_layout ls s fs e there) result p) (sym (tests_goes ls s fs e there known turns passed (tested_at known ls s fs e there))) ends)
+        (subst (λ (p : Result Core Broken × Noting). Ends Q work new region w1 v (bound_layout ls s fs e there) result p) (sym (tests_goes ls s fs e there known turns passed (tested_at known ls s fs e there))) ends)
 
     pub local_unbegun : {V : Type 0} (Q : List Frames → V → Core → Type 0) (turns : ℕ) (x : ExpandFault) → BeginsBelow w1 w2 at 1 (Err x) → Runs Q work work region u w2 at.scope (Err x) (local_step_of turns)
     local_unbegun Q turns x b = λ known ls s fs knows e there.
@@ -359,7 +363,7 @@ module _ (work : Work) (region : Region) (u w1 : UnitScope) (at : code_at.At) (a
       pub begun_rules_look : CanLook work u at.scope → CanLook work w2 rules_at
       begun_rules_look l = begins_look work w1 w2 rules_at at.here 1 at.depth below.depth (rules_look l) b.2
 
-      keeps_at : (w3 : UnitScope) (result : Result (Unit {0}) ExpandFault) → KeepsRun w2 w3 result → (known : Known) (turns : ℕ) (knows : Knows u.libraries known) (ls : List Frames) (s : ScopedState) (fs : Frames) (e : Stands work u ls s) (there : At ls at.scope fs) →
+      keeps_at : (w3 : UnitScope) (result : Result (Unit {0}) ExpandFault) → KeepsRun w2 w3 result → (known : Known) (turns : ℕ) (knows : Knows u.libraries known) (ls : List Frames) (s : Noting) (fs : Frames) (e : Stands work u ls s) (there : At ls at.scope fs) →
           Stands work w2 (bound_layout ls s fs e there) (begun ls s fs e there known turns knows (tested_at known ls s fs e there).0 (tested_at known ls s fs e there).1 w2 below b) →
           Kept ls s fs e there known turns knows (tested_at known ls s fs e there).0 (tested_at known ls s fs e there).1 w2 below b w3 result
       keeps_at w3 result keeps known turns knows ls s fs e there now =
@@ -395,7 +399,7 @@ module _ (work : Work) (region : Region) (u w1 : UnitScope) (at : code_at.At) (a
 
         module _ (new : Work) (v : UnitScope) (turns : ℕ) where
           abbrev pub LocalBody : Result code_core.Core ExpandFault → Type 0
-          LocalBody result = Runs (λ (layout : List Frames). CoreStands new v.unit v.form.number) work new region w3 v inner result (λ known fs. expand (searched known) turns below.depth below.here fs (body m.body))
+          LocalBody result = Runs (λ (layout : List Frames). CoreStands new v.unit v.form.number) work new region w3 v inner result (λ known fs. expand (noting known) turns below.depth below.here fs (body m.body))
 
           pub local_body_fails : {V : Type 0} (Q : List Frames → V → Core → Type 0) (x : ExpandFault) → LocalBody (Err x) → Runs Q work new region u v at.scope (Err x) (local_step_of turns)
           local_body_fails Q x runs = λ known ls s fs knows e there.

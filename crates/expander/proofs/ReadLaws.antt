@@ -11,8 +11,7 @@ use Rattle.scheme_model.specs.Cores.{Target}
 use Rattle.scheme_model.specs.Steps.{Broken, Step, fails}
 use Rattle.scheme_model.specs.Order.{Here, Transformer, is_some, head_of}
 use Rattle.scheme_model.specs.Expression.{unless_keyword}
-use Rattle.scheme_model.specs.ScopedExpansion.{Frames, ScopedState, macro_at}
-use Rattle.scheme_model.specs.CountedExpansion.{means_here}
+use Rattle.scheme_model.specs.ScopedExpansion.{Frames, macro_at}
 use Rattle.syntax_tree.specs.Names.{Names}
 use Rattle.syntax_tree.specs.declared.trees.Work.{Work}
 use Rattle.core_forms.specs.Parts.{IsName, IsNameIfAny}
@@ -24,15 +23,15 @@ use Rattle.form_parts.specs.Heads.{IsHead}
 use Rattle.form_parts.specs.declared.heads.Head as code_head
 use Rattle.form_parts.specs.declared.heads.Head.TheVariants as heads
 use Rattle.expander.specs.Ready.{not_macro, IsSettled, TestsVariable}
-use Rattle.unit_scopes.specs.Outcomes.{EndsHere}
 use Rattle.feature_requirements.specs.declared.fault.ExpandFault.{ExpandFault}
 use Rattle.feature_requirements.specs.declared.fault.ExpandFault.TheVariants as fault
 use Rattle.syntax_tree.specs.declared.trees.table.Region.{Region}
-use Rattle.unit_scopes.proofs.OutcomeLaws.{stays_itself}
-use Rattle.unit_scopes.specs.Searched.{searched}
 use Rattle.form_parts.specs.FormsSeen.{name_in, head_name_of}
-use Rattle.unit_scopes.specs.State.{Stands}
 use Rattle.unit_scopes.specs.declared.scope.UnitScope.{UnitScope}
+use Rattle.noted_steps.specs.Noting.{Noting, means_here, noting}
+use Rattle.noted_steps.specs.Outcomes.{EndsHere}
+use Rattle.noted_steps.proofs.OutcomeLaws.{stays_itself}
+use Rattle.noted_steps.specs.Standing.{Stands}
 
 -- ---- keywords that stand for values
 
@@ -40,30 +39,30 @@ pub keyword_fault : (work : Work) (here : Option Occ) (x : NamePart) (n : Named 
     IsFault work.symbols (record { code = 43; name = Some x.ident; occ = x.occ; here = here; text = None }) (record { fault = KeywordAsValue n; here = here })
 keyword_fault work here x n h = record { code = refl; name = h.0; place = h.1; here = refl; text = refl }
 
-module _ (known : Known) {B : Type 0} (here : Here) (n : Named Identifier) (go : Step ScopedState B) (s : ScopedState) where
-  pub unless_goes : (h : Head) → is_keyword h ≡ false → unless_keyword (searched known) here h n go s ≡ go s
+module _ (known : Known) {B : Type 0} (here : Here) (n : Named Identifier) (go : Step Noting B) (s : Noting) where
+  pub unless_goes : (h : Head) → is_keyword h ≡ false → unless_keyword (noting known) here h n go s ≡ go s
   unless_goes (IsCore k) is = absurd cc
   unless_goes (IsAuxiliary a) is = absurd cc
   unless_goes (IsMacro m) is = absurd cc
   unless_goes IsNone is = refl
 
-  pub unless_fails : (h : Head) → is_keyword h ≡ true → unless_keyword (searched known) here h n go s ≡ fails here (KeywordAsValue n) s
+  pub unless_fails : (h : Head) → is_keyword h ≡ true → unless_keyword (noting known) here h n go s ≡ fails here (KeywordAsValue n) s
   unless_fails (IsCore k) is = refl
   unless_fails (IsAuxiliary a) is = refl
   unless_fails (IsMacro m) is = refl
   unless_fails IsNone is = absurd cc
 
 -- the test failed, and so does what was to follow
-pub tested_fails : {B X : Type 0} (known : Known) (work : Work) (region : Region) (u : UnitScope) (ls : List Frames) (s : ScopedState) (here : Here) (n : Named Identifier) (go : Step ScopedState B) (h : Head) (P : X → B → Type 0) (e : ExpandFault) → Stands work u ls s →
-    TestsVariable work s here n h (Err e) → EndsHere P work work region u u ls (Err e) (unless_keyword (searched known) here h n go s)
+pub tested_fails : {B X : Type 0} (known : Known) (work : Work) (region : Region) (u : UnitScope) (ls : List Frames) (s : Noting) (here : Here) (n : Named Identifier) (go : Step Noting B) (h : Head) (P : X → B → Type 0) (e : ExpandFault) → Stands work u ls s →
+    TestsVariable work s here n h (Err e) → EndsHere P work work region u u ls (Err e) (unless_keyword (noting known) here h n go s)
 tested_fails {B} known work region u ls s here n go h P (fault.At e) stands tests =
-    subst (λ (p : Result B Broken × ScopedState). EndsHere P work work region u u ls (Err (fault.At e)) p) (sym (unless_fails known here n go s h tests.0))
+    subst (λ (p : Result B Broken × Noting). EndsHere P work work region u u ls (Err (fault.At e)) p) (sym (unless_fails known here n go s h tests.0))
     (stays_itself work region u ls s stands, (record { fault = KeywordAsValue n; here = here }, refl, tests.1))
 tested_fails known work region u ls s here n go h P fault.Full stands tests = absurd tests
 tested_fails known work region u ls s here n go h P fault.Memory stands tests = absurd tests
 
 -- a fault that is handed on
-pub tests_handed : (work : Work) (s : ScopedState) (here : Here) (n : Named Identifier) (h : Head) (r : Result (Unit {0}) ExpandFault) (e : ExpandFault) → IsErrAnd r (λ f. f ≡ e) → TestsVariable work s here n h (Err e) → TestsVariable work s here n h r
+pub tests_handed : (work : Work) (s : Noting) (here : Here) (n : Named Identifier) (h : Head) (r : Result (Unit {0}) ExpandFault) (e : ExpandFault) → IsErrAnd r (λ f. f ≡ e) → TestsVariable work s here n h (Err e) → TestsVariable work s here n h r
 tests_handed work s here n h (Ok u) e err tests = absurd err
 tests_handed work s here n h (Err f) e err tests = subst (λ (g : ExpandFault). TestsVariable work s here n h (Err g)) (sym err) tests
 
@@ -97,8 +96,8 @@ there None h = absurd cc
 there (Some m) h = (m, refl)
 
 -- a macro's head is that of a macro that there is
-pub head_is_macro : (known : Known) (s : ScopedState) (fs : Frames) (i : Identifier) → IsHead heads.Macro (head_as (λ x. is_some (macro_at s.macros x)) (means_here s fs i)) →
-    (m : Transformer Frames Identifier) × (head_of (searched known) fs s i ≡ IsMacro (means_here s fs i)) × (macro_at s.macros (means_here s fs i) ≡ Some m)
+pub head_is_macro : (known : Known) (s : Noting) (fs : Frames) (i : Identifier) → IsHead heads.Macro (head_as (λ x. is_some (macro_at s.macros x)) (means_here s fs i)) →
+    (m : Transformer Frames Identifier) × (head_of (noting known) fs s i ≡ IsMacro (means_here s fs i)) × (macro_at s.macros (means_here s fs i) ≡ Some m)
 head_is_macro known s fs i h =
     let both = macro_head (λ x. is_some (macro_at s.macros x)) (means_here s fs i) h in
     let m = there (macro_at s.macros (means_here s fs i)) both.1 in
@@ -126,7 +125,7 @@ head_no_macro heads.Other (IsMacro m) plain h = h
 head_no_macro heads.Other IsNone plain h = tt
 
 -- no name is at the head
-pub nameless_settled : (known : Known) (work : Work) (s : ScopedState) (fs : Frames) (t : Tree Identifier) → IsNameIfAny work None (head_name_of t) → IsSettled known s fs t
+pub nameless_settled : (known : Known) (work : Work) (s : Noting) (fs : Frames) (t : Tree Identifier) → IsNameIfAny work None (head_name_of t) → IsSettled known s fs t
 nameless_settled known work s fs (name i o) h = tt
 nameless_settled known work s fs (atom a o) h = tt
 nameless_settled known work s fs (vector ts o) h = tt
@@ -157,7 +156,7 @@ head_named work (list (tree (list us end p) ts) tail o) x h = absurd h
 head_named work (list (tree (vector us p) ts) tail o) x h = absurd h
 
 -- its head is no macro's
-pub named_settled : (known : Known) (work : Work) (s : ScopedState) (fs : Frames) (t : Tree Identifier) (x : NamePart) (h : HeadNamed work t x) → not_macro (head_of (searched known) fs s h.ident) → IsSettled known s fs t
+pub named_settled : (known : Known) (work : Work) (s : Noting) (fs : Frames) (t : Tree Identifier) (x : NamePart) (h : HeadNamed work t x) → not_macro (head_of (noting known) fs s h.ident) → IsSettled known s fs t
 named_settled known work s fs t x h plain = subst (λ (u : Tree Identifier). IsSettled known s fs u) (sym h.is) plain
 
 -- ---- whole trees

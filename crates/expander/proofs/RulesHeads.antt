@@ -9,15 +9,15 @@ use Rattle.scheme_model.specs.Requirements.{Known}
 use Rattle.scheme_model.specs.Steps.{Broken, ◌>>=◌, done}
 use Rattle.scheme_model.specs.Order.{Here, RulesParts, rules_parts, rules_parts_of}
 use Rattle.scheme_model.specs.Expression.{heads}
-use Rattle.scheme_model.specs.ScopedExpansion.{Frames, ScopedState}
+use Rattle.scheme_model.specs.ScopedExpansion.{Frames}
 use Rattle.syntax_tree.specs.Works.{StandsFor}
 use Rattle.syntax_tree.specs.declared.trees.Work.{Work}
 use Rattle.core_forms.specs.Parts.{AreMacros}
 use Rattle.core_forms.specs.declared.shape.LocalMacro.{LocalMacro}
 use Rattle.unit_scopes.specs.RulesTold.{Tests}
-use Rattle.unit_scopes.specs.Searched.{searched}
 use Rattle.feature_requirements.specs.declared.fault.ExpandFault.{ExpandFault}
 use Rattle.feature_requirements.specs.declared.fault.ExpandFault.TheVariants as fault
+use Rattle.noted_steps.specs.Noting.{Noting, noting}
 
 -- ---- local macros by their places
 
@@ -48,17 +48,17 @@ macros_past work (m ∷ ms) (n ∷ ns) (tree t ts) (suc k) h l = macros_past wor
 
 -- ---- one test more
 
-module _ (known : Known) (here : Here) (fs : Frames) (s : ScopedState) (work : Work) where
-  abbrev all_heads : Trees Identifier → Result (List (RulesParts Identifier)) Broken × ScopedState
-  all_heads ts = heads (searched known) here fs ts s
+module _ (known : Known) (here : Here) (fs : Frames) (s : Noting) (work : Work) where
+  abbrev all_heads : Trees Identifier → Result (List (RulesParts Identifier)) Broken × Noting
+  all_heads ts = heads (noting known) here fs ts s
 
-  abbrev one_head : Tree Identifier → Result (RulesParts Identifier) Broken × ScopedState
-  one_head t = rules_parts (searched known) here fs (rules_parts_of t) s
+  abbrev one_head : Tree Identifier → Result (RulesParts Identifier) Broken × Noting
+  one_head t = rules_parts (noting known) here fs (rules_parts_of t) s
 
-  abbrev and_then : Trees Identifier → Result (RulesParts Identifier) Broken × ScopedState → Result (List (RulesParts Identifier)) Broken × ScopedState
-  and_then ts x = x >>= λ r t1. heads (searched known) here fs ts t1 >>= λ rs. done (r ∷ rs)
+  abbrev and_then : Trees Identifier → Result (RulesParts Identifier) Broken × Noting → Result (List (RulesParts Identifier)) Broken × Noting
+  and_then ts x = x >>= λ r t1. heads (noting known) here fs ts t1 >>= λ rs. done (r ∷ rs)
 
-  abbrev in_front : RulesParts Identifier → Result (List (RulesParts Identifier)) Broken × ScopedState → Result (List (RulesParts Identifier)) Broken × ScopedState
+  abbrev in_front : RulesParts Identifier → Result (List (RulesParts Identifier)) Broken × Noting → Result (List (RulesParts Identifier)) Broken × Noting
   in_front r x = x >>= λ rs. done (r ∷ rs)
 
   pub one_tested : (t : Tree Identifier) (ts : Trees Identifier) (y : RulesParts Identifier) → one_head t ≡ (Ok y, s) → (r : Result (Unit {0}) ExpandFault) → Tests work s r (all_heads ts) → Tests work s r (all_heads (tree t ts))
@@ -73,6 +73,6 @@ module _ (known : Known) (here : Here) (fs : Frames) (s : ScopedState) (work : W
   head_fails t ts fault.Memory h = h
 
 -- a fault that is handed on
-pub tests_err : {Y : Type 0} (work : Work) (s : ScopedState) (r : Result (Unit {0}) ExpandFault) (e : ExpandFault) (p : Result Y Broken × ScopedState) → IsErrAnd r (λ x. x ≡ e) → Tests work s (Err e) p → Tests work s r p
+pub tests_err : {Y : Type 0} (work : Work) (s : Noting) (r : Result (Unit {0}) ExpandFault) (e : ExpandFault) (p : Result Y Broken × Noting) → IsErrAnd r (λ x. x ≡ e) → Tests work s (Err e) p → Tests work s r p
 tests_err work s (Ok passed) e p is h = absurd is
 tests_err work s (Err x) e p is h = subst (λ (y : ExpandFault). Tests work s (Err y) p) (sym is) h

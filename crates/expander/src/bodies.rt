@@ -9,16 +9,14 @@ ghost use Rattle.scheme_model.specs.Trees.{Trees};
 ghost use Rattle.scheme_model.specs.Steps.{done};
 ghost use Rattle.scheme_model.specs.Order.{RulesParts};
 ghost use Rattle.scheme_model.specs.Expression.{heads, keep_all, local_defs};
-ghost use Rattle.scheme_model.specs.ScopedExpansion.{Frames, ScopedState};
+ghost use Rattle.scheme_model.specs.ScopedExpansion.{Frames};
 ghost use Rattle.syntax_tree.specs.Looks.{PartsStand};
 ghost use Rattle.syntax_tree.specs.Works.{IsOpened};
 ghost use Rattle.syntax_tree.specs.declared.trees.table.Region.{Region as AnyRegion};
 ghost use Rattle.core_forms.specs.Parts.{AreMacros};
 ghost use Rattle.core_tree.specs.Names.{AllMatch, IsMacro as IsMacroDef};
 ghost use Rattle.expander.specs.Bodies.{AreLocalMacros, BodyFor, CanEnter, CanKeep, HaveHeads, HaveNumbers, HaveRules, body_pass};
-ghost use Rattle.unit_scopes.specs.Searched.{searched};
-ghost use Rattle.unit_scopes.specs.State.{Stands};
-ghost use Rattle.unit_scopes.specs.Outcomes.{At as Stand, CanLook, EndsHere, Runs};
+ghost use Rattle.unit_scopes.specs.Outcomes.{At as Stand, CanLook};
 ghost use Rattle.unit_scopes.specs.RulesTold.{Tests};
 
 use crate::expressions::At;
@@ -35,6 +33,9 @@ use syntax_tree::meaning::Meaning;
 use syntax_tree::trees::{Region, Tree, Work};
 use unit_scopes::asked::Asked;
 use unit_scopes::scope::UnitScope;
+ghost use Rattle.noted_steps.specs.Noting.{Noting, noting};
+ghost use Rattle.noted_steps.specs.Standing.{Stands};
+ghost use Rattle.noted_steps.specs.Outcomes.{EndsHere, Runs};
 
 /// Where a form stands that was set aside: the scope of its body, and the place that it keeps.
 pub fn in_place(at: At, here: Option<Occ>) -> At
@@ -94,8 +95,8 @@ pub(crate) fn test_all_rules(
 ) -> Result<(), ExpandFault>
     requires look { CanLook work.now units.now scope }
     requires rules { HaveRules work.now macros.now }
-    ensures { (known : Known) (ls : List Frames) (s : ScopedState) (fs : Frames) (ns : List (Named Identifier)) (ts : Trees Identifier) → Stands work.now units.now ls s →
-        Stand ls scope fs → AreMacros work.now macros.now ns ts → Tests work.now s result (heads (searched known) here fs ts s) }
+    ensures { (known : Known) (ls : List Frames) (s : Noting) (fs : Frames) (ns : List (Named Identifier)) (ts : Trees Identifier) → Stands work.now units.now ls s →
+        Stand ls scope fs → AreMacros work.now macros.now ns ts → Tests work.now s result (heads (noting known) here fs ts s) }
 {
     for local in macros {
         units.test_rules(work, scope, here, local.rules)?;
@@ -117,9 +118,9 @@ pub(crate) fn keep_all(
     requires opened { (region : AnyRegion) × IsOpened work.now region }
     requires rules { HaveHeads work.now macros.now }
     requires binders { length binders.now ≡ length macros.now }
-    ensures kept { (known : Known) (region : AnyRegion) (ls : List Frames) (s : ScopedState) (fs : Frames) (ns : List (Named Identifier)) (ts : Trees Identifier) (vs : List Number) (rs : List (RulesParts Identifier)) →
-        Stands work.now units.old ls s → Stand ls scope fs → AreMacros work.now macros.now ns ts → HaveNumbers s binders.now vs → heads (searched known) here fs ts s ≡ done rs s →
-        EndsHere (λ (kept : Unit {0}) (also : Unit {0}). Unit {0}) work.now work.now region units.old units.new ls result (keep_all (searched known) here fs vs ts rs s) }
+    ensures kept { (known : Known) (region : AnyRegion) (ls : List Frames) (s : Noting) (fs : Frames) (ns : List (Named Identifier)) (ts : Trees Identifier) (vs : List Number) (rs : List (RulesParts Identifier)) →
+        Stands work.now units.old ls s → Stand ls scope fs → AreMacros work.now macros.now ns ts → HaveNumbers s binders.now vs → heads (noting known) here fs ts s ≡ done rs s →
+        EndsHere (λ (kept : Unit {0}) (also : Unit {0}). Unit {0}) work.now work.now region units.old units.new ls result (keep_all (noting known) here fs vs ts rs s) }
     ensures counts { OnOk result ((units.new.form.budget.locals ≡ units.old.form.budget.locals) × (units.new.form.budget.uses ≡ units.old.form.budget.uses)) }
 {
     work.symbols.told_apart();
@@ -140,9 +141,9 @@ pub(crate) fn local_defs(
     binders: &[Binder],
 ) -> Mem<Vec<MacroDef>>
     requires { CanKeep work.now units.now binders.now }
-    ensures { (known : Known) (ls : List Frames) (s : ScopedState) (vs : List Number) (ns : List (Named Identifier)) → Stands work.now units.now ls s →
+    ensures { (known : Known) (ls : List Frames) (s : Noting) (vs : List Number) (ns : List (Named Identifier)) → Stands work.now units.now ls s →
         AreLocalMacros work.now s binders.now vs ns →
-        IfOk result (λ defs. AllMatch (IsMacroDef work.now s.unit s.form) defs.items (local_defs (searched known) s vs ns)) }
+        IfOk result (λ defs. AllMatch (IsMacroDef work.now s.unit s.form) defs.items (local_defs (noting known) s vs ns)) }
 {
     let mut defs = Vec::new(alloc);
     for binder in binders {

@@ -15,11 +15,10 @@ ghost use Rattle.core_forms.specs.Parts.{AreMacros, IsName};
 ghost use Rattle.core_tree.specs.Cores.{CoreStands, CoresStand, ClausesStand, PartStands, PartsStand as PartsOfCores};
 ghost use Rattle.core_tree.specs.Names.{AllMatch};
 ghost use Rattle.expander.specs.CoreSteps.{case_lambda, conditional, core_step, IsLeft};
-ghost use Rattle.unit_scopes.specs.Searched.{searched};
 ghost use Rattle.unit_scopes.specs.Defining.{HasNumber};
 ghost use Rattle.unit_scopes.specs.Kept.{ClauseFor, KeptFor};
 ghost use Rattle.expander.specs.Passed.{ShapeFits};
-ghost use Rattle.unit_scopes.specs.Outcomes.{CanLook, IsAtWork, IsEnough, IsEnoughBelow, HasRoom, Runs, Spends};
+ghost use Rattle.unit_scopes.specs.Outcomes.{CanLook, IsAtWork, IsEnough, IsEnoughBelow, HasRoom, Spends};
 ghost use Rattle.expander.specs.Expanded.{AreAtWork, BodyAtWork, ClauseStands, macros_step, ShapeAtWork, ClauseAtWork, ClausesAtWork, KeptAtWork, AreKeptAtWork, MacrosAtWork};
 
 use crate::bodies::{in_place, keep_all, local_defs, pass_body, test_all_rules};
@@ -34,6 +33,8 @@ use form_parts::quasi::outside;
 use std::alloc::Global;
 use syntax_tree::trees::{Region, Tree, Work};
 use unit_scopes::scope::UnitScope;
+ghost use Rattle.noted_steps.specs.Noting.{noting};
+ghost use Rattle.noted_steps.specs.Outcomes.{Runs};
 
 /// The core of an expression.
 #[cycle(core)]
@@ -50,7 +51,7 @@ fn expand(
     requires form { IsAtWork work.old region.now form }
     requires room { HasRoom (2 ^ 43) units.old }
     ensures runs { (t : ModelTree Identifier) (turns : ℕ) → StandsFor work.old form t → IsEnough at.depth units.old.form.budget.uses turns →
-        Runs (λ ls. CoreStands work.new units.new.unit units.new.form.number) work.old work.new region.now units.old units.new at.scope result (λ known fs. expand (searched known) turns at.depth at.here fs (whole t)) }
+        Runs (λ ls. CoreStands work.new units.new.unit units.new.form.number) work.old work.new region.now units.old units.new at.scope result (λ known fs. expand (noting known) turns at.depth at.here fs (whole t)) }
     ensures locals { OnOk result (Spends 0 units.old units.new) }
 {
     let (here, ready) = prepare(units, alloc, work, region, at, form)?;
@@ -80,7 +81,7 @@ fn expand_all(
     requires parts { AreAtWork work.old region.now parts.now }
     requires room { HasRoom (2 ^ 43) units.old }
     ensures runs { (ts : List (ModelTree Identifier)) (turns : ℕ) → AllMatch (StandsFor work.old) parts.now ts → IsEnough at.depth units.old.form.budget.uses turns →
-        Runs (λ ls cs ms. CoresStand work.new units.new.unit units.new.form.number cs.items ms) work.old work.new region.now units.old units.new at.scope result (λ known fs. each_of (λ t. expand (searched known) turns at.depth at.here fs (whole t)) ts) }
+        Runs (λ ls cs ms. CoresStand work.new units.new.unit units.new.form.number cs.items ms) work.old work.new region.now units.old units.new at.scope result (λ known fs. each_of (λ t. expand (noting known) turns at.depth at.here fs (whole t)) ts) }
     ensures locals { OnOk result (Spends 0 units.old units.new) }
 {
     let mut cores = Vec::with_capacity(alloc, parts.len())?;
@@ -108,7 +109,7 @@ fn expand_shape(
     requires shape { ShapeAtWork work.old region.now shape }
     requires room { HasRoom (2 ^ 43) units.old }
     ensures runs { (c : ModelKeyword) (m : Shape) (turns : ℕ) → keyword_as core ≡ Some c → ShapeFor work.old shape m → ShapeFits m → IsLeft m → IsEnoughBelow at.depth units.old.form.budget.uses turns →
-        Runs (λ ls. CoreStands work.new units.new.unit units.new.form.number) work.old work.new region.now units.old units.new at.scope result (λ known fs. core_step (expand (searched known) turns) (searched known) at.depth at.here fs c m) }
+        Runs (λ ls. CoreStands work.new units.new.unit units.new.form.number) work.old work.new region.now units.old units.new at.scope result (λ known fs. core_step (expand (noting known) turns) (noting known) at.depth at.here fs c m) }
     ensures locals { OnOk result (Spends 0 units.old units.new) }
 {
     match shape {
@@ -161,7 +162,7 @@ fn procedure(
     requires clause { ClauseAtWork work.old region.now clause.now }
     requires room { HasRoom (2 ^ 43) units.old }
     ensures runs { (c : ModelClause Identifier) (turns : ℕ) → ClauseFor work.old region.now clause.now c → IsEnough at.depth units.old.form.budget.uses turns →
-        Runs (λ ls. ClauseStands work.new units.new.unit units.new.form.number) work.old work.new region.now units.old units.new at.scope result (λ known fs. procedure (expand (searched known) turns) (searched known) at.depth at.here fs c) }
+        Runs (λ ls. ClauseStands work.new units.new.unit units.new.form.number) work.old work.new region.now units.old units.new at.scope result (λ known fs. procedure (expand (noting known) turns) (noting known) at.depth at.here fs c) }
     ensures locals { OnOk result (Spends 0 units.old units.new) }
 {
     work.symbols.told_apart();
@@ -195,7 +196,7 @@ fn procedures(
     requires clauses { ClausesAtWork work.old region.now shapes.now }
     requires room { HasRoom (2 ^ 43) units.old }
     ensures runs { (cs : List (ModelClause Identifier)) (turns : ℕ) → AllMatch (ClauseFor work.old region.now) shapes.now cs → IsEnough at.depth units.old.form.budget.uses turns →
-        Runs (λ ls xs ms. ClausesStand work.new units.new.unit units.new.form.number xs.items ms) work.old work.new region.now units.old units.new at.scope result (λ known fs. clauses (expand (searched known) turns) (searched known) at.depth at.here fs cs) }
+        Runs (λ ls xs ms. ClausesStand work.new units.new.unit units.new.form.number xs.items ms) work.old work.new region.now units.old units.new at.scope result (λ known fs. clauses (expand (noting known) turns) (noting known) at.depth at.here fs cs) }
     ensures locals { OnOk result (Spends 0 units.old units.new) }
 {
     let mut all = Vec::with_capacity(alloc, shapes.len())?;
@@ -221,7 +222,7 @@ fn body(
     requires forms { BodyAtWork work.old region.now forms.now }
     requires room { HasRoom (2 ^ 42) units.old }
     ensures runs { (ts : Trees Identifier) (turns : ℕ) → PartsStand work.old forms.now ts → IsEnough at.depth units.old.form.budget.uses turns →
-        Runs (λ ls. CoreStands work.new units.new.unit units.new.form.number) work.old work.new region.now units.old units.new at.scope result (λ known fs. expand (searched known) turns at.depth at.here fs (body ts)) }
+        Runs (λ ls. CoreStands work.new units.new.unit units.new.form.number) work.old work.new region.now units.old units.new at.scope result (λ known fs. expand (noting known) turns at.depth at.here fs (body ts)) }
     ensures locals { OnOk result (Spends (2 ^ 43) units.old units.new) }
 {
     let below = below(units, at, 1)?;
@@ -249,7 +250,7 @@ fn expand_kept(
     requires aside { AreKeptAtWork work.old region.now units.old aside.now }
     requires room { HasRoom (2 ^ 43) units.old }
     ensures runs { (is : List (Item Identifier)) (turns : ℕ) → AllMatch (KeptFor work.old region.now units.old.unit units.old.form.number) aside.now is → IsEnough at.depth units.old.form.budget.uses turns →
-        Runs (λ ls ps ms. PartsOfCores work.new units.new.unit units.new.form.number ps.items ms) work.old work.new region.now units.old units.new at.scope result (λ known fs. parts (item_part (expand (searched known) turns) (searched known) at.depth fs) is) }
+        Runs (λ ls ps ms. PartsOfCores work.new units.new.unit units.new.form.number ps.items ms) work.old work.new region.now units.old units.new at.scope result (λ known fs. parts (item_part (expand (noting known) turns) (noting known) at.depth fs) is) }
     ensures locals { OnOk result (Spends 0 units.old units.new) }
 {
     let mut parts = Vec::with_capacity(alloc, aside.len())?;
@@ -275,7 +276,7 @@ pub(crate) fn expand_kept_item(
     requires kept { KeptAtWork work.old region.now units.old kept.now }
     requires room { HasRoom (2 ^ 43) units.old }
     ensures runs { (i : Item Identifier) (turns : ℕ) → KeptFor work.old region.now units.old.unit units.old.form.number kept.now i → IsEnough at.depth units.old.form.budget.uses turns →
-        Runs (λ ls. PartStands work.new units.new.unit units.new.form.number) work.old work.new region.now units.old units.new at.scope result (λ known fs. item_part (expand (searched known) turns) (searched known) at.depth fs i) }
+        Runs (λ ls. PartStands work.new units.new.unit units.new.form.number) work.old work.new region.now units.old units.new at.scope result (λ known fs. item_part (expand (noting known) turns) (noting known) at.depth fs i) }
     ensures locals { OnOk result (Spends 0 units.old units.new) }
 {
     match kept {
@@ -383,7 +384,7 @@ fn lambda(
     requires clause { ClauseAtWork work.old region.now clause.now }
     requires room { HasRoom (2 ^ 43) units.old }
     ensures runs { (c : ModelClause Identifier) (turns : ℕ) → ClauseFor work.old region.now clause.now c → IsEnoughBelow at.depth units.old.form.budget.uses turns →
-        Runs (λ ls. CoreStands work.new units.new.unit units.new.form.number) work.old work.new region.now units.old units.new at.scope result (λ known fs. lambda (expand (searched known) turns) (searched known) at.depth at.here fs c) }
+        Runs (λ ls. CoreStands work.new units.new.unit units.new.form.number) work.old work.new region.now units.old units.new at.scope result (λ known fs. lambda (expand (noting known) turns) (noting known) at.depth at.here fs c) }
     ensures locals { OnOk result (Spends 0 units.old units.new) }
 {
     let below = below(units, at, 1)?;
@@ -405,7 +406,7 @@ fn case_lambda(
     requires clauses { ClausesAtWork work.old region.now shapes.now }
     requires room { HasRoom (2 ^ 43) units.old }
     ensures runs { (cs : List (ModelClause Identifier)) (turns : ℕ) → AllMatch (ClauseFor work.old region.now) shapes.now cs → IsEnoughBelow at.depth units.old.form.budget.uses turns →
-        Runs (λ ls. CoreStands work.new units.new.unit units.new.form.number) work.old work.new region.now units.old units.new at.scope result (λ known fs. case_lambda (expand (searched known) turns) (searched known) at.depth at.here fs cs) }
+        Runs (λ ls. CoreStands work.new units.new.unit units.new.form.number) work.old work.new region.now units.old units.new at.scope result (λ known fs. case_lambda (expand (noting known) turns) (noting known) at.depth at.here fs cs) }
     ensures locals { OnOk result (Spends 0 units.old units.new) }
 {
     let below = below(units, at, 1)?;
@@ -427,7 +428,7 @@ fn conditional(
     requires parts { AreAtWork work.old region.now parts.now }
     requires room { HasRoom (2 ^ 43) units.old }
     ensures runs { (ts : Trees Identifier) (turns : ℕ) → PartsStand work.old parts.now ts → IsEnoughBelow at.depth units.old.form.budget.uses turns →
-        Runs (λ ls. CoreStands work.new units.new.unit units.new.form.number) work.old work.new region.now units.old units.new at.scope result (λ known fs. conditional (expand (searched known) turns) (searched known) at.depth at.here fs ts) }
+        Runs (λ ls. CoreStands work.new units.new.unit units.new.form.number) work.old work.new region.now units.old units.new at.scope result (λ known fs. conditional (expand (noting known) turns) (noting known) at.depth at.here fs ts) }
     ensures locals { OnOk result (Spends 0 units.old units.new) }
 {
     let below = below(units, at, 1)?;
@@ -451,7 +452,7 @@ fn assign(
     requires value { IsAtWork work.old region.now value }
     requires room { HasRoom (2 ^ 43) units.old }
     ensures runs { (n : Named Identifier) (t : ModelTree Identifier) (turns : ℕ) → IsName work.old name n → StandsFor work.old value t → IsEnoughBelow at.depth units.old.form.budget.uses turns →
-        Runs (λ ls. CoreStands work.new units.new.unit units.new.form.number) work.old work.new region.now units.old units.new at.scope result (λ known fs. assignment (searched known) at.depth at.here fs n (λ below. expand (searched known) turns below at.here fs (whole t))) }
+        Runs (λ ls. CoreStands work.new units.new.unit units.new.form.number) work.old work.new region.now units.old units.new at.scope result (λ known fs. assignment (noting known) at.depth at.here fs n (λ below. expand (noting known) turns below at.here fs (whole t))) }
     ensures locals { OnOk result (Spends 0 units.old units.new) }
 {
     let below = below(units, at, 1)?;
@@ -480,7 +481,7 @@ fn assign_procedure(
     requires clause { ClauseAtWork work.old region.now clause.now }
     requires room { HasRoom (2 ^ 43) units.old }
     ensures runs { (n : Named Identifier) (c : ModelClause Identifier) (turns : ℕ) → IsName work.old name n → ClauseFor work.old region.now clause.now c → IsEnoughBelow at.depth units.old.form.budget.uses turns →
-        Runs (λ ls. CoreStands work.new units.new.unit units.new.form.number) work.old work.new region.now units.old units.new at.scope result (λ known fs. assignment (searched known) at.depth at.here fs n (λ below. lambda (expand (searched known) turns) (searched known) below at.here fs c)) }
+        Runs (λ ls. CoreStands work.new units.new.unit units.new.form.number) work.old work.new region.now units.old units.new at.scope result (λ known fs. assignment (noting known) at.depth at.here fs n (λ below. lambda (expand (noting known) turns) (noting known) below at.here fs c)) }
     ensures locals { OnOk result (Spends 0 units.old units.new) }
 {
     let below = below(units, at, 1)?;
@@ -507,7 +508,7 @@ fn sequence(
     requires forms { AreAtWork work.old region.now forms.now }
     requires room { HasRoom (2 ^ 43) units.old }
     ensures runs { (ts : Trees Identifier) (turns : ℕ) → PartsStand work.old forms.now ts → IsEnoughBelow at.depth units.old.form.budget.uses turns →
-        Runs (λ ls. CoreStands work.new units.new.unit units.new.form.number) work.old work.new region.now units.old units.new at.scope result (λ known fs. sequence (expand (searched known) turns) (searched known) at.depth at.here fs ts) }
+        Runs (λ ls. CoreStands work.new units.new.unit units.new.form.number) work.old work.new region.now units.old units.new at.scope result (λ known fs. sequence (expand (noting known) turns) (noting known) at.depth at.here fs ts) }
     ensures locals { OnOk result (Spends 0 units.old units.new) }
 {
     let below = below(units, at, 1)?;
@@ -537,7 +538,7 @@ fn local_macros(
     requires forms { BodyAtWork work.old region.now forms.now }
     requires room { HasRoom (2 ^ 43) units.old }
     ensures runs { (m : LocalMacros Identifier) (turns : ℕ) → AreMacros work.old macros.now m.names m.rules → PartsStand work.old forms.now m.body → IsEnoughBelow at.depth units.old.form.budget.uses turns →
-        Runs (λ ls. CoreStands work.new units.new.unit units.new.form.number) work.old work.new region.now units.old units.new at.scope result (λ known fs. macros_step recursive (expand (searched known) turns) (searched known) at.depth at.here fs m) }
+        Runs (λ ls. CoreStands work.new units.new.unit units.new.form.number) work.old work.new region.now units.old units.new at.scope result (λ known fs. macros_step recursive (expand (noting known) turns) (noting known) at.depth at.here fs m) }
     ensures locals { OnOk result (Spends 0 units.old units.new) }
 {
     work.symbols.told_apart();

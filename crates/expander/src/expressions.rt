@@ -1,16 +1,16 @@
 //! The core of an expression (R7RS 4.1, 4.2).
-ghost use Rattle.std.specs.Prelude.{◌≡◌, ℕ, ◌+◌, ◌≤◌, List, Some, Option, IfOk, OnOk};
+ghost use Rattle.std.specs.Prelude.{◌≡◌, ℕ, ◌+◌, ◌≤◌, List, [], ◌∷◌, Some, Option, IfOk, OnOk};
 ghost use Rattle.scheme_model.specs.ExpansionFaults.{Named};
 ghost use Rattle.scheme_model.specs.Ident.{Ident as Identifier};
 ghost use Rattle.scheme_model.specs.Keywords.{CoreKeyword as ModelKeyword};
 ghost use Rattle.scheme_model.specs.Requirements.{Known};
-ghost use Rattle.scheme_model.specs.Order.{Transformer, head_of};
+ghost use Rattle.scheme_model.specs.Order.{Transformer, Headed as AskedHead, head_of};
 ghost use Rattle.scheme_model.specs.Cores.{Target as ModelTarget, Const};
 ghost use Rattle.scheme_model.specs.Steps.{done};
-ghost use Rattle.unit_scopes.specs.Used.{CanUse, UseFor};
+ghost use Rattle.unit_scopes.specs.Used.{CanUse};
 ghost use Rattle.scheme_model.specs.Trees.{Atom, Tree as ModelTree, atom, list, Trees, tree, Tail};
 ghost use Rattle.scheme_model.specs.Expression.{whole, expand, expression, core_form, node, quote, reference};
-ghost use Rattle.scheme_model.specs.ScopedExpansion.{Frames, ScopedState};
+ghost use Rattle.scheme_model.specs.ScopedExpansion.{Frames};
 ghost use Rattle.syntax_tree.specs.Works.{IsOpened, IsStanding, StandsFor, CanName};
 ghost use Rattle.syntax_tree.specs.Looks.{PartsStand, EndStands, AllNamed};
 ghost use Rattle.syntax_tree.specs.declared.trees.table.Region.{Region as AnyRegion};
@@ -18,11 +18,8 @@ ghost use Rattle.core_forms.specs.Ends.{keyword_as};
 ghost use Rattle.core_forms.specs.Parts.{IsName};
 ghost use Rattle.core_tree.specs.Cores.{CoreStands};
 ghost use Rattle.core_tree.specs.Names.{IsTarget};
-ghost use Rattle.scheme_model.specs.CountedExpansion.{means_here};
 ghost use Rattle.feature_requirements.specs.Judged.{Knows};
-ghost use Rattle.unit_scopes.specs.Searched.{searched};
-ghost use Rattle.unit_scopes.specs.State.{Stands};
-ghost use Rattle.unit_scopes.specs.Outcomes.{At as Stand, CanLook, EndsHere, IsAtWork, WorksOn, IsEnough};
+ghost use Rattle.unit_scopes.specs.Outcomes.{At as Stand, CanLook, IsAtWork, WorksOn, IsEnough};
 ghost use Rattle.unit_scopes.specs.Defining.{HasNumber};
 ghost use Rattle.unit_scopes.specs.Stepped.{with_keyword};
 ghost use Rattle.expander.specs.Ready.{use_met, IsSettled, IsHeaded, HasCore, IsCall, Prepares, Settles, come_to, Reads, TestsVariable, passed, BeginsBelow};
@@ -41,7 +38,12 @@ use syntax_tree::look::{Look, look_at};
 use syntax_tree::trees::{Region, Tree, Work};
 use unit_scopes::counting::{fails_at, misread};
 use unit_scopes::scope::UnitScope;
+use noted_steps::noted::note;
 use unit_scopes::uses::{Instance, Use, held};
+ghost use Rattle.noted_steps.specs.Noting.{Noting, means_here, noting};
+ghost use Rattle.noted_steps.specs.Standing.{Stands, with_notes};
+ghost use Rattle.noted_steps.specs.Outcomes.{EndsHere};
+ghost use Rattle.noted_steps.specs.Kept.{UseFor};
 
 /// Where an expression stands: its scope, the innermost form read from a text around it, and how much depth is left.
 #[derive(Clone, Copy)]
@@ -101,9 +103,9 @@ pub(crate) fn prepare(
     requires opened { IsOpened work.old region.now }
     requires look { CanLook work.old units.old at.scope }
     requires form { IsAtWork work.old region.now form }
-    ensures ready { (known : Known) (turns : ℕ) (ls : List Frames) (s : ScopedState) (fs : Frames) (t : ModelTree Identifier) → Knows units.old.libraries known → Stands work.old units.old ls s → Stand ls at.scope fs →
+    ensures ready { (known : Known) (turns : ℕ) (ls : List Frames) (s : Noting) (fs : Frames) (t : ModelTree Identifier) → Knows units.old.libraries known → Stands work.old units.old ls s → Stand ls at.scope fs →
         WorksOn work.old region.now form t → IsEnough at.depth units.old.form.budget.uses turns →
-        Prepares known at.depth work.old work.new region.now units.old units.new ls fs result (expand (searched known) turns at.depth at.here fs (whole t) s) }
+        Prepares known at.depth work.old work.new region.now units.old units.new ls fs result (expand (noting known) turns at.depth at.here fs (whole t) s) }
     ensures locals { OnOk result (units.new.form.budget.locals ≡ units.old.form.budget.locals) }
 {
     let (form, here, core) = settle(units, alloc, work, region, at, form)?;
@@ -129,9 +131,9 @@ fn settle(
     requires opened { IsOpened work.old region.now }
     requires look { CanLook work.old units.old at.scope }
     requires form { IsAtWork work.old region.now form }
-    ensures settled { (known : Known) (turns : ℕ) (ls : List Frames) (s : ScopedState) (fs : Frames) (t : ModelTree Identifier) → Knows units.old.libraries known → Stands work.old units.old ls s → Stand ls at.scope fs →
+    ensures settled { (known : Known) (turns : ℕ) (ls : List Frames) (s : Noting) (fs : Frames) (t : ModelTree Identifier) → Knows units.old.libraries known → Stands work.old units.old ls s → Stand ls at.scope fs →
         WorksOn work.old region.now form t → IsEnough at.depth units.old.form.budget.uses turns →
-        Settles known at.depth turns work.old work.new region.now units.old units.new ls fs (come_to result) (expand (searched known) turns at.depth at.here fs (whole t) s) }
+        Settles known at.depth turns work.old work.new region.now units.old units.new ls fs (come_to result) (expand (noting known) turns at.depth at.here fs (whole t) s) }
     ensures head { IfOk result (λ x. HasCore work.new units.new at.scope x.0 x.2) }
     ensures locals { OnOk result (units.new.form.budget.locals ≡ units.old.form.budget.locals) }
 {
@@ -166,7 +168,7 @@ fn make_use(
     requires opened { IsOpened work.old region.now }
     requires usable { CanUse work.old units.old at }
     requires named { CanName work.old region.now at.form }
-    ensures used { (known : Known) (ls : List Frames) (s : ScopedState) (fs : Frames) (keyword : ModelTarget) (m : Transformer Frames Identifier) (ts : Trees Identifier) (tail : Tail Identifier) →
+    ensures used { (known : Known) (ls : List Frames) (s : Noting) (fs : Frames) (keyword : ModelTarget) (m : Transformer Frames Identifier) (ts : Trees Identifier) (tail : Tail Identifier) →
         Stands work.old units.old ls s → Stand ls at.scope fs → UseFor work.old s at keyword m ts tail →
         EndsHere (WorksOn work.new region.now) work.old work.new region.now units.old units.new ls result (use_met known at.here fs keyword m ts tail s) }
     ensures counted { OnOk result (units.new.form.budget.uses ≡ units.old.form.budget.uses + 1) }
@@ -185,7 +187,7 @@ fn make_use(
 fn look_at_head(units: &UnitScope, work: &Work, scope: ScopeNo, form: Tree) -> Headed
     requires look { CanLook work.now units.now scope }
     requires form { IsStanding work.now form }
-    ensures { (known : Known) (ls : List Frames) (s : ScopedState) (fs : Frames) (t : ModelTree Identifier) → Stands work.now units.now ls s → Stand ls scope fs → StandsFor work.now form t →
+    ensures { (known : Known) (ls : List Frames) (s : Noting) (fs : Frames) (t : ModelTree Identifier) → Stands work.now units.now ls s → Stand ls scope fs → StandsFor work.now form t →
         IsHeaded work.now known s fs t result }
 {
     let Some(name) = head_name(work, form) else {
@@ -212,9 +214,9 @@ fn read(
     requires look { CanLook work.now units.old at.scope }
     requires form { IsStanding work.now form }
     requires head { HasCore work.now units.old at.scope form core }
-    ensures read { (known : Known) (region : AnyRegion) (ls : List Frames) (s : ScopedState) (fs : Frames) (t : ModelTree Identifier) → Knows units.old.libraries known → Stands work.now units.old ls s →
+    ensures read { (known : Known) (region : AnyRegion) (ls : List Frames) (s : Noting) (fs : Frames) (t : ModelTree Identifier) → Knows units.old.libraries known → Stands work.now units.old ls s →
         Stand ls at.scope fs → WorksOn work.now region form t → IsSettled known s fs t →
-        Reads known at.depth at.here work.now region units.old units.new ls fs result (λ f. expression f (searched known) at.depth at.here fs t s) }
+        Reads known at.depth at.here work.now region units.old units.new ls fs result (λ f. expression f (noting known) at.depth at.here fs t s) }
     ensures locals { OnOk result (units.new.form.budget.locals ≡ units.old.form.budget.locals) }
 {
     if let Some(name) = name_at(work, form) {
@@ -242,10 +244,10 @@ fn read_list(
     requires look { CanLook work.now units.old at.scope }
     requires form { (ts : Trees Identifier) × (end : Tail Identifier) × (o : Option Occ) × StandsFor work.now form (list ts end o) × PartsStand work.now items.now ts × EndStands work.now tail end }
     requires head { HasCore work.now units.old at.scope form core }
-    ensures read { (known : Known) (region : AnyRegion) (ls : List Frames) (s : ScopedState) (fs : Frames) (ts : Trees Identifier) (end : Tail Identifier) (o : Option Occ) →
+    ensures read { (known : Known) (region : AnyRegion) (ls : List Frames) (s : Noting) (fs : Frames) (ts : Trees Identifier) (end : Tail Identifier) (o : Option Occ) →
         Knows units.old.libraries known → Stands work.now units.old ls s → Stand ls at.scope fs → WorksOn work.now region form (list ts end o) → PartsStand work.now items.now ts →
         EndStands work.now tail end → AllNamed work.now region items.now → IsSettled known s fs (list ts end o) →
-        Reads known at.depth at.here work.now region units.old units.new ls fs result (λ f. expression f (searched known) at.depth at.here fs (list ts end o) s) }
+        Reads known at.depth at.here work.now region units.old units.new ls fs result (λ f. expression f (noting known) at.depth at.here fs (list ts end o) s) }
     ensures locals { OnOk result (units.new.form.budget.locals ≡ units.old.form.budget.locals) }
 {
     match core {
@@ -278,9 +280,9 @@ fn read_form(
     requires look { CanLook work.now units.old at.scope }
     requires core { (c : ModelKeyword) × (keyword_as core ≡ Some c) }
     requires form { IsStanding work.now form }
-    ensures read { (known : Known) (region : AnyRegion) (ls : List Frames) (s : ScopedState) (fs : Frames) (c : ModelKeyword) (head : ModelTree Identifier) (ts : Trees Identifier) (end : Tail Identifier) (o : Option Occ) →
+    ensures read { (known : Known) (region : AnyRegion) (ls : List Frames) (s : Noting) (fs : Frames) (c : ModelKeyword) (head : ModelTree Identifier) (ts : Trees Identifier) (end : Tail Identifier) (o : Option Occ) →
         Knows units.old.libraries known → Stands work.now units.old ls s → Stand ls at.scope fs → keyword_as core ≡ Some c → WorksOn work.now region form (list (tree head ts) end o) →
-        Reads known at.depth at.here work.now region units.old units.new ls fs result (λ f. core_form f (searched known) at.depth at.here fs c ts end s) }
+        Reads known at.depth at.here work.now region units.old units.new ls fs result (λ f. core_form f (noting known) at.depth at.here fs c ts end s) }
     ensures locals { OnOk result (units.new.form.budget.locals ≡ units.old.form.budget.locals) }
 {
     work.trees_fit();
@@ -304,8 +306,8 @@ fn read_form(
 #[inline(always)]
 fn constant(units: &mut UnitScope, work: &Work, at: At, form: Tree) -> Result<Core, ExpandFault>
     requires look { CanLook work.now units.old at.scope }
-    ensures constant { (known : Known) (region : AnyRegion) (ls : List Frames) (s : ScopedState) (a : Atom) (o : Option Occ) → Stands work.now units.old ls s → StandsFor work.now form (atom a o) →
-        EndsHere (CoreStands work.now units.old.unit units.old.form.number) work.now work.now region units.old units.new ls result (node (searched known) at.here 2 at.depth (λ below. done (Const a)) s) }
+    ensures constant { (known : Known) (region : AnyRegion) (ls : List Frames) (s : Noting) (a : Atom) (o : Option Occ) → Stands work.now units.old ls s → StandsFor work.now form (atom a o) →
+        EndsHere (CoreStands work.now units.old.unit units.old.form.number) work.now work.now region units.old units.new ls result (node (noting known) at.here 2 at.depth (λ below. done (Const a)) s) }
     ensures locals { OnOk result (units.new.form.budget.locals ≡ units.old.form.budget.locals) }
 {
     units.begin_node(at.here, 2, at.depth)?;
@@ -316,8 +318,8 @@ fn constant(units: &mut UnitScope, work: &Work, at: At, form: Tree) -> Result<Co
 fn quote(units: &mut UnitScope, work: &Work, at: At, datum: Tree) -> Result<Core, ExpandFault>
     requires look { CanLook work.now units.old at.scope }
     requires datum { IsStanding work.now datum }
-    ensures quoted { (known : Known) (region : AnyRegion) (ls : List Frames) (s : ScopedState) (t : ModelTree Identifier) → Stands work.now units.old ls s → StandsFor work.now datum t →
-        EndsHere (CoreStands work.now units.old.unit units.old.form.number) work.now work.now region units.old units.new ls result (quote (searched known) at.depth at.here t s) }
+    ensures quoted { (known : Known) (region : AnyRegion) (ls : List Frames) (s : Noting) (t : ModelTree Identifier) → Stands work.now units.old ls s → StandsFor work.now datum t →
+        EndsHere (CoreStands work.now units.old.unit units.old.form.number) work.now work.now region units.old units.new ls result (quote (noting known) at.depth at.here t s) }
     ensures locals { OnOk result (units.new.form.budget.locals ≡ units.old.form.budget.locals) }
 {
     work.trees_fit();
@@ -335,8 +337,8 @@ fn reference(
 ) -> Result<Core, ExpandFault>
     requires look { CanLook work.now units.old at.scope }
     requires name { HasNumber work.now name }
-    ensures referred { (known : Known) (region : AnyRegion) (ls : List Frames) (s : ScopedState) (fs : Frames) (n : Named Identifier) → Stands work.now units.old ls s → Stand ls at.scope fs → IsName work.now name n →
-        EndsHere (CoreStands work.now units.old.unit units.old.form.number) work.now work.now region units.old units.new ls result (reference (searched known) at.depth at.here fs n s) }
+    ensures referred { (known : Known) (region : AnyRegion) (ls : List Frames) (s : Noting) (fs : Frames) (n : Named Identifier) → Stands work.now units.old ls s → Stand ls at.scope fs → IsName work.now name n →
+        EndsHere (CoreStands work.now units.old.unit units.old.form.number) work.now work.now region units.old units.new ls result (reference (noting known) at.depth at.here fs n s) }
     ensures locals { OnOk result (units.new.form.budget.locals ≡ units.old.form.budget.locals) }
 {
     let target = variable(units, work, at, name)?;
@@ -344,17 +346,26 @@ fn reference(
     Ok(Core::Ref(target))
 }
 
-/// An identifier where it is used, which is no keyword.
+/// An identifier where it is used, which is no keyword. What it means is noted.
 #[inline(always)]
-fn variable(units: &UnitScope, work: &Work, at: At, name: NamePart) -> Result<Target, ExpandFault>
-    requires look { CanLook work.now units.now at.scope }
+fn variable(
+    units: &mut UnitScope,
+    work: &Work,
+    at: At,
+    name: NamePart,
+) -> Result<Target, ExpandFault>
+    requires look { CanLook work.now units.old at.scope }
     requires name { HasNumber work.now name }
-    ensures tested { (known : Known) (ls : List Frames) (s : ScopedState) (fs : Frames) (n : Named Identifier) → Stands work.now units.now ls s → Stand ls at.scope fs → IsName work.now name n →
-        TestsVariable work.now s at.here n (head_of (searched known) fs s n.name) (passed result) }
-    ensures target { (ls : List Frames) (s : ScopedState) (fs : Frames) (n : Named Identifier) → Stands work.now units.now ls s → Stand ls at.scope fs → IsName work.now name n →
+    ensures tested { (known : Known) (ls : List Frames) (s : Noting) (fs : Frames) (n : Named Identifier) → Stands work.now units.old ls s → Stand ls at.scope fs → IsName work.now name n →
+        TestsVariable work.now s at.here n (head_of (noting known) fs s n.name) (passed result) }
+    ensures target { (ls : List Frames) (s : Noting) (fs : Frames) (n : Named Identifier) → Stands work.now units.old ls s → Stand ls at.scope fs → IsName work.now name n →
         IfOk result (λ target. IsTarget work.now.symbols s.unit s.form target (record { meaning = means_here s fs n.name; ident = n.name; occ = n.occ })) }
+    ensures noted { (known : Known) (ls : List Frames) (s : Noting) (fs : Frames) (n : Named Identifier) → Stands work.now units.old ls s → Stand ls at.scope fs → IsName work.now name n →
+        Stands work.now units.new ls ((noting known).ask (AskedHead fs n.name ∷ []) s) }
+    ensures rest { units.new ≡ with_notes units.old units.new.form.trace.notes }
 {
     let target = units.target(work, at.scope, name);
+    note(units, work, target);
     if units.head_by(work, target.meaning).is_keyword() {
         return Err(fails_at(at.here, code::KEYWORD_AS_VALUE, name));
     }
@@ -363,15 +374,18 @@ fn variable(units: &UnitScope, work: &Work, at: At, name: NamePart) -> Result<Ta
 
 /// Tests that an identifier is no keyword.
 pub(crate) fn test_variable(
-    units: &UnitScope,
+    units: &mut UnitScope,
     work: &Work,
     at: At,
     name: NamePart,
 ) -> Result<(), ExpandFault>
-    requires look { CanLook work.now units.now at.scope }
+    requires look { CanLook work.now units.old at.scope }
     requires name { HasNumber work.now name }
-    ensures { (known : Known) (ls : List Frames) (s : ScopedState) (fs : Frames) (n : Named Identifier) → Stands work.now units.now ls s → Stand ls at.scope fs → IsName work.now name n →
-        TestsVariable work.now s at.here n (head_of (searched known) fs s n.name) result }
+    ensures tested { (known : Known) (ls : List Frames) (s : Noting) (fs : Frames) (n : Named Identifier) → Stands work.now units.old ls s → Stand ls at.scope fs → IsName work.now name n →
+        TestsVariable work.now s at.here n (head_of (noting known) fs s n.name) result }
+    ensures noted { (known : Known) (ls : List Frames) (s : Noting) (fs : Frames) (n : Named Identifier) → Stands work.now units.old ls s → Stand ls at.scope fs → IsName work.now name n →
+        Stands work.now units.new ls ((noting known).ask (AskedHead fs n.name ∷ []) s) }
+    ensures rest { units.new ≡ with_notes units.old units.new.form.trace.notes }
 {
     variable(units, work, at, name)?;
     Ok(())

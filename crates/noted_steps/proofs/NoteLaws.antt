@@ -98,6 +98,9 @@ plain_notes work u ls s x e =
       count = e.count;
     }
 
+pub plain_noted : (work : Work) (u v : UnitScope) (ls : List Frames) (s : ScopedState) → v ≡ with_notes u v.form.trace.notes → plain.Stands work u ls s → plain.Stands work v ls s
+plain_noted work u v ls s same e = subst (λ (x : UnitScope). plain.Stands work x ls s) (sym same) (plain_notes work u ls s v.form.trace.notes e)
+
 pub looks_on : (work : Work) (u v : UnitScope) (scope : ℕ) → v ≡ with_notes u v.form.trace.notes → CanLook work u scope → CanLook work v scope
 looks_on work u v scope same h =
     subst (λ (x : UnitScope). CanLook work x scope) (sym same)

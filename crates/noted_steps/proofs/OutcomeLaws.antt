@@ -10,11 +10,21 @@ use Rattle.unit_scopes.specs.Outcomes.{Leaves, MayFill}
 use Rattle.unit_scopes.specs.declared.scope.UnitScope.{UnitScope}
 use Rattle.unit_scopes.proofs.OutcomeLaws.{grows_itself, grows_on, same_itself, same_on}
 use Rattle.noted_steps.specs.Noting.{Noting}
-use Rattle.noted_steps.specs.Standing.{Stands}
+use Rattle.noted_steps.specs.Standing.{Stands, with_notes}
 use Rattle.noted_steps.specs.Outcomes.{Stays, Moves, Ends, EndsHere}
 
 pub stays_itself : (a : Work) (region : Region) (u : UnitScope) (ls : List Frames) (s : Noting) → Stands a u ls s → Stays a a region u u ls s
 stays_itself a region u ls s e = record { stands = e; work = grows_itself a region; counted = omega arith; same = same_itself u }
+
+-- notes alone were added
+pub noted_stays : (a : Work) (region : Region) (u v : UnitScope) (ls : List Frames) (s t : Noting) → Stands a u ls s → v ≡ with_notes u v.form.trace.notes → Stands a v ls t → Stays a a region u v ls t
+noted_stays a region u v ls s t e same h =
+    subst (λ (x : UnitScope). Stays a a region u x ls t) (sym same) (record {
+      stands = subst (λ (x : UnitScope). Stands a x ls t) same h;
+      work = grows_itself a region;
+      counted = omega arith;
+      same = record { unit = refl; number = refl; root = refl; libraries = refl; roots = refl; uses = omega arith; nodes = omega arith };
+    })
 
 pub stays_on : (a b c : Work) (region : Region) (u w v : UnitScope) (ls : List Frames) (s t : Noting) → Stays a b region u w ls s → Stays b c region w v ls t → Stays a c region u v ls t
 stays_on a b c region u w v ls s t p q = record { stands = q.stands; work = grows_on a b c region p.work q.work; counted = omega (arith, p.counted, q.counted); same = same_on u w v p.same q.same }

@@ -1,17 +1,18 @@
 -- A macro use of which the comparisons were asked before.
-use Rattle.std.proofs.Common.{◌≡◌, ℕ, ◌-◌, List, Bool, true, false, cond, Option, Some, None, Result, Ok, Err, refl, sym, ap, ◌∙◌}
+use Rattle.std.proofs.Common.{◌≡◌, ℕ, ◌-◌, List, [], map, Bool, true, false, cond, Option, Some, None, Result, Ok, Err, refl, sym, ap, ◌∙◌}
 use Rattle.std.specs.Prelude.{nat_lt}
 use Rattle.scheme_model.specs.Ident.{Ident, Inserted}
 use Rattle.scheme_model.specs.Identifiers.{Number}
 use Rattle.scheme_model.specs.Trees.{Tree, Trees, Tail}
 use Rattle.scheme_model.specs.ExpansionFaults.{Fault, UseBudget}
 use Rattle.scheme_model.specs.Meaning.{same_meaning}
-use Rattle.scheme_model.specs.Matching.{Chosen, matcher, first_match}
+use Rattle.scheme_model.specs.RulesShape.{role_of, dots_of}
+use Rattle.scheme_model.specs.Matching.{Chosen, matcher, first_match, compared}
 use Rattle.scheme_model.specs.Building.{Built, build}
 use Rattle.scheme_model.specs.Requirements.{Known}
 use Rattle.scheme_model.specs.Cores.{Target}
 use Rattle.scheme_model.specs.Steps.{Broken, ◌>>=◌, done, fails}
-use Rattle.scheme_model.specs.Order.{Here, WaitingUse, Instance, Transformer, given, has_use, compared_asked, used, use_of, max_uses, max_nodes}
+use Rattle.scheme_model.specs.Order.{Here, WaitingUse, Instance, Transformer, Alike, given, used, use_of, max_uses, max_nodes}
 use Rattle.scheme_model.specs.ScopedExpansion.{Frames, ScopedState}
 use Rattle.unit_scopes.specs.Searched.{searched}
 use Rattle.noted_steps.specs.Noting.{Noting, state_of, with_state, noting}
@@ -29,19 +30,21 @@ module _ (known : Known) (here : Here) (fs : Frames) (keyword : Target) (m : Tra
 
   -- asked first, and then used
   pub use_is : use_of (noting known) here fs keyword m ts tail s ≡ use_asked (noting known) here fs keyword m ts tail (compared_first (noting known) fs m ts tail s)
-  use_is = go (nat_lt (s.uses s.form) max_uses) refl
+  use_is = go (nat_lt (s.uses s.form) max_uses)
     where
-      asked : Noting
-      asked = (noting known).ask (compared_asked (noting known) fs m ts tail) s
+      pairs : List (Ident × Ident)
+      pairs = compared (role_of (noting known).names m.rules) (dots_of (noting known).names m.rules) m.rules.rules ts tail
 
-      go : (b : Bool) → nat_lt (s.uses s.form) max_uses ≡ b → use_of (noting known) here fs keyword m ts tail s ≡ use_asked (noting known) here fs keyword m ts tail (cond b asked s)
-      go true e = refl
-      go false e =
-          let over : Gives = fails here UseBudget s in
-          let o = first_match (matcher (noting known).names m.rules (λ l j. same_meaning ((noting known).means m.env s l) ((noting known).means fs s j))) m.rules.rules ts tail in
-          let a = used (noting known) here keyword m ((noting known).next_use s) o ((noting known).begin_use m.env asked) in
-          let b = used (noting known) here keyword m ((noting known).next_use s) o ((noting known).begin_use m.env s) in
-          ap (λ c. cond c a over) e ∙ sym (ap (λ c. cond c b over) e)
+      asked : Bool → Noting
+      asked b = (noting known).ask (map (λ q. Alike m.env q.0 fs q.1) (cond b pairs [])) s
+
+      rule : Option (Chosen Ident Ident)
+      rule = first_match (matcher (noting known).names m.rules (λ l j. same_meaning ((noting known).means m.env s l) ((noting known).means fs s j))) m.rules.rules ts tail
+
+      go : (b : Bool) → cond b (used (noting known) here keyword m ((noting known).next_use s) rule ((noting known).begin_use m.env (asked true))) (fails here UseBudget s)
+          ≡ cond b (used (noting known) here keyword m ((noting known).next_use s) rule ((noting known).begin_use m.env (asked b))) (fails here UseBudget (asked b))
+      go true = refl
+      go false = refl
 
   abbrev begun : Noting
   begun = (noting known).begin_use m.env s

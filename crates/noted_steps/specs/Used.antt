@@ -1,16 +1,21 @@
 -- A macro use of which the comparisons are asked first (R7RS 4.3.2).
-use Rattle.std.specs.Prelude.{if◌then◌else◌}
+use Rattle.std.specs.Prelude.{List, [], map, if◌then◌else◌}
 use Rattle.scheme_model.specs.ExpansionFaults.{UseBudget}
 use Rattle.scheme_model.specs.Meaning.{same_meaning}
-use Rattle.scheme_model.specs.Matching.{matcher, first_match}
+use Rattle.scheme_model.specs.RulesShape.{role_of, dots_of}
+use Rattle.scheme_model.specs.Matching.{matcher, first_match, compared}
 use Rattle.scheme_model.specs.Trees.{Trees, Tail}
 use Rattle.scheme_model.specs.Cores.{Target}
 use Rattle.scheme_model.specs.Steps.{Step, fails}
-use Rattle.scheme_model.specs.Order.{Here, Instance, Transformer, Ops, has_use, compared_asked, used}
+use Rattle.scheme_model.specs.Order.{Here, Instance, Transformer, Alike, Ops, has_use, used}
 
--- they are asked, where the budget has a use left
+-- those of a use that the budget leaves
+abbrev pub pairs_of : {E A L S : Type 0} → Ops E A L S → Transformer E A → Trees A → Tail A → S → List (A × A)
+pairs_of ops m ts tail s = if has_use ops s then compared (role_of ops.names m.rules) (dots_of ops.names m.rules) m.rules.rules ts tail else []
+
+-- they are asked
 abbrev pub compared_first : {E A L S : Type 0} → Ops E A L S → E → Transformer E A → Trees A → Tail A → S → S
-compared_first ops e m ts tail s = if has_use ops s then ops.ask (compared_asked ops e m ts tail) s else s
+compared_first ops e m ts tail s = ops.ask (map (λ q. Alike m.env q.0 e q.1) (pairs_of ops m ts tail s)) s
 
 -- and then it is made
 abbrev pub use_asked : {E A L S : Type 0} → Ops E A L S → Here → E → Target → Transformer E A → Trees A → Tail A → Step S (Instance A)

@@ -4,9 +4,9 @@ use Rattle.core_tree.specs.declared.cores.Binder as code_binder
 use Rattle.expander.proofs.KeepLaws.{heads_tell, next_macro, rules_there, looks_on, none_kept, one_kept, rules_fail, all_kept}
 use Rattle.scheme_model.specs.Expression.{keep_all}
 use Rattle.scheme_model.specs.Order.{rules_at}
-use Rattle.unit_scopes.specs.Searched.{searched}
-use Rattle.unit_scopes.proofs.NodeLaws.{here_err}
 use Rattle.expander.proofs.bodies.keep_all.Goals as goal
+use Rattle.noted_steps.specs.Noting.{noting}
+use Rattle.noted_steps.proofs.NodeLaws.{here_err}
 
 abbrev no_macro : LocalMacro
 no_macro = record { name = record { ident = 0; occ = None }; rules = record { number = 0 } }
@@ -40,7 +40,7 @@ returns-in_err-kept-clause-kept c = λ known region ls s fs ns ts vs rs stands a
     let n = next_macro work s c.args.macros.now ns ts c.args.binders.now vs rs k no_macro no_binder are numbers (heads_tell known here fs s ts rs heads) lt (omega (arith, lt, same)) in
     let e = c.in_err-kept.field-0.0 in
     let ends = c.in_err-kept.ensures.read known region ls h.state fs n.rules n.parts h.stays.stands at n.stands n.read in
-    here_err (λ (done : Unit {0}) (also : Unit {0}). Unit {0}) work work region u c.read_macro.new.self ls c.from_residual.result e (keep_all (searched known) here fs vs ts rs s) c.from_residual.ensures.1
+    here_err (λ (done : Unit {0}) (also : Unit {0}). Unit {0}) work work region u c.read_macro.new.self ls c.from_residual.result e (keep_all (noting known) here fs vs ts rs s) c.from_residual.ensures.1
     (rules_fail known here fs work region u ls s vs ts rs stands c.loop-k.units c.read_macro.new.self k h c.args.binders.now _ _ n (λ (done : Unit {0}) (also : Unit {0}). Unit {0}) e ends)
 
 pub loop-k-preserved : goal.loop-k-preserved
@@ -62,7 +62,7 @@ loop-k-preserved c = record {
       let l = c.loop-k.invariant.look in
       let q = rules_there work c.args.macros.now r.0 r.1 r.2 k no_macro r.3 r.4 c.loop-k-test.true in
       let ends = c.in_ok-kept.ensures.read (λ n. true) region l.layout l.state l.frames q.0 q.1 l.stands l.at q.2 q.3 in
-      looks_on work region c.loop-k.units c.read_macro.new.self c.args.scope (get_or c.args.binders.now k no_binder).number l c.in_ok-kept.kept c.keep.new.self (rules_at (searched (λ n. true)) c.args.here q.0 q.1 l.state) c.told_apart.ensures.idents c.told_apart.ensures.symbols ends c.in_ok-keep.ensures.kept;
+      looks_on work region c.loop-k.units c.read_macro.new.self c.args.scope (get_or c.args.binders.now k no_binder).number l c.in_ok-kept.kept c.keep.new.self (rules_at (noting (λ n. true)) c.args.here q.0 q.1 l.state) c.told_apart.ensures.idents c.told_apart.ensures.symbols ends c.in_ok-keep.ensures.kept;
   locals = c.in_ok-kept.ensures.counts.0 ∙ c.loop-k.invariant.locals;
   uses = c.in_ok-kept.ensures.counts.1 ∙ c.loop-k.invariant.uses;
 }

@@ -10,9 +10,9 @@ use Rattle.form_parts.specs.declared.items.WaitingUse as code_waiting
 use Rattle.unit_scopes.specs.declared.scope.UnitScope.{UnitScope}
 use Rattle.expander.proofs.AfterLaws.{all_known}
 use Rattle.expander.proofs.BodyPass.{can_pass_inside, pass_inside, can_meet, body_ends, body_lost, body_fails, body_locals}
-use Rattle.unit_scopes.proofs.NodeLaws.{ends_err}
 use Rattle.unit_scopes.proofs.OutcomeLaws.{leaves_itself}
 use Rattle.expander.proofs.bodies.pass_body.Goals as goal
+use Rattle.noted_steps.proofs.NodeLaws.{ends_err}
 
 abbrev in_env : UnitScope → Environment → UnitScope
 in_env u e = record u { env = e }

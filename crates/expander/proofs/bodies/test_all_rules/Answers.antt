@@ -4,9 +4,9 @@ use Rattle.scheme_model.specs.Matching.{behind}
 use Rattle.scheme_model.specs.Expression.{heads}
 use Rattle.core_forms.specs.declared.shape.LocalMacro.{LocalMacro}
 use Rattle.unit_scopes.specs.RulesTold.{Tests}
-use Rattle.unit_scopes.specs.Searched.{searched}
 use Rattle.expander.proofs.RulesHeads.{macro_there, macros_past, one_tested, head_fails, tests_err}
 use Rattle.expander.proofs.bodies.test_all_rules.Goals as goal
+use Rattle.noted_steps.specs.Noting.{noting}
 
 abbrev no_macro : LocalMacro
 no_macro = record { name = record { ident = 0; occ = None }; rules = record { number = 0 } }
@@ -28,7 +28,7 @@ loop-local-preserved c = λ known ls s fs ns ts stands at are r h.
     let q = macro_there work c.args.macros.now ns ts k no_macro are c.loop-local-test.true in
     let t = c.in_ok-test_rules.ensures known ls s fs q.rules stands at q.stands in
     c.loop-local.invariant known ls s fs ns ts stands at are r
-    (subst (λ (us : Trees _). Tests work s r (heads (searched known) here fs us s)) (sym q.split) (one_tested known here fs s work q.rules (behind (k + 1) ts) t.0 t.1 r h))
+    (subst (λ (us : Trees _). Tests work s r (heads (noting known) here fs us s)) (sym q.split) (one_tested known here fs s work q.rules (behind (k + 1) ts) t.0 t.1 r h))
 
 pub returns-in_err-test_rules : goal.returns-in_err-test_rules
 returns-in_err-test_rules c = λ known ls s fs ns ts stands at are.
@@ -38,9 +38,9 @@ returns-in_err-test_rules c = λ known ls s fs ns ts stands at are.
     let e = c.in_err-test_rules.field-0.0 in
     let q = macro_there work c.args.macros.now ns ts k no_macro are c.loop-local-test.true in
     let t = c.in_err-test_rules.ensures known ls s fs q.rules stands at q.stands in
-    tests_err work s c.from_residual.result e (heads (searched known) here fs ts s) c.from_residual.ensures.1
+    tests_err work s c.from_residual.result e (heads (noting known) here fs ts s) c.from_residual.ensures.1
     (c.loop-local.invariant known ls s fs ns ts stands at are (Err e)
-    (subst (λ (us : Trees _). Tests work s (Err e) (heads (searched known) here fs us s)) (sym q.split) (head_fails known here fs s work q.rules (behind (k + 1) ts) e t)))
+    (subst (λ (us : Trees _). Tests work s (Err e) (heads (noting known) here fs us s)) (sym q.split) (head_fails known here fs s work q.rules (behind (k + 1) ts) e t)))
 
 pub returns : goal.returns
 returns c = λ known ls s fs ns ts stands at are.
@@ -48,4 +48,4 @@ returns c = λ known ls s fs ns ts stands at are.
     let here = c.args.here in
     let past = macros_past work c.args.macros.now ns ts c.loop-local.local-index are c.loop-local-test.false in
     c.loop-local.invariant known ls s fs ns ts stands at are (Ok tt)
-    (subst (λ (us : Trees _). Tests work s (Ok tt) (heads (searched known) here fs us s)) (sym past) ([], refl))
+    (subst (λ (us : Trees _). Tests work s (Ok tt) (heads (noting known) here fs us s)) (sym past) ([], refl))

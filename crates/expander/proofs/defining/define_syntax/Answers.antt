@@ -2,13 +2,13 @@ use Rattle.std.proofs.Common.{◌≡◌, ◌+◌, ◌++◌, false, Some, refl, a
 use Rattle.scheme_model.specs.Ident.{Ident as Identifier}
 use Rattle.scheme_model.specs.Requirements.{Known}
 use Rattle.scheme_model.specs.Order.{Going, Pass, rules_parts_of, rules_note, run_syntax}
-use Rattle.scheme_model.specs.ScopedExpansion.{FramedIdent, ScopedState}
-use Rattle.unit_scopes.specs.Searched.{searched}
+use Rattle.scheme_model.specs.ScopedExpansion.{FramedIdent}
 use Rattle.form_parts.specs.declared.items.Pending as code_pending
-use Rattle.unit_scopes.specs.Stepped.{spent}
 use Rattle.expander.proofs.DefinitionSteps.{goes_handed, goes_without}
 use Rattle.expander.proofs.MacroSteps.{with_note, counted_place, counted_stands, test_fails, rules_are, placed_after, read_fails, define_fails, macro_goes}
 use Rattle.expander.proofs.defining.define_syntax.Goals as goal
+use Rattle.noted_steps.specs.Noting.{Noting, noting}
+use Rattle.noted_steps.specs.Stepped.{spent}
 
 nothing_known : Known
 nothing_known = λ l. false
@@ -44,7 +44,7 @@ define-requires c =
         layout = can.layout;
         state = spent counts.0 can.state;
         frames = can.frames;
-        found = rules_note (searched nothing_known) can.frames can.state (rules_parts_of t) ++ can.found;
+        found = rules_note (noting nothing_known) can.frames can.state (rules_parts_of t) ++ can.found;
         stands = counted_stands work u w can.layout can.state counts can.stands;
         placed = counted_place work u w can.layout c.args.spot can.frames can.state (spent counts.0 can.state) counts refl can.placed;
         notes = c.in_ok-note_rules.ensures.notes nothing_known can.layout can.state can.frames t can.found can.stands can.placed.at c.requires.rules.1 can.notes;
@@ -54,12 +54,12 @@ define-requires c =
     }
 
 abbrev Step : Type 0
-Step = Going Identifier FramedIdent ScopedState → Pass Identifier FramedIdent × ScopedState
+Step = Going Identifier FramedIdent Noting → Pass Identifier FramedIdent × Noting
 
 pub returns-in_err-note_rules : goal.returns-in_err-note_rules
 returns-in_err-note_rules c = λ known region ls s fs n t p given knows stands placed is st pending notes one.
     let u = c.args.units.now in
-    let step : Step = λ go. run_syntax (searched known) go c.args.here fs p (n, t) s in
+    let step : Step = λ go. run_syntax (noting known) go c.args.here fs p (n, t) s in
     goes_without c.args.work.now region u u ls c.args.spot fs p.todo given c.args.pending.now c.note_rules.new.asked c.from_residual.result step c.from_residual.ensures.1 stands.form.few_nodes
 
 pub returns-in_err-test_rules : goal.returns-in_err-test_rules
@@ -67,7 +67,7 @@ returns-in_err-test_rules c = λ known region ls s fs n t p given knows stands p
     let work = c.args.work.now in
     let u = c.args.units.now in
     let a = c.note_rules.new.asked in
-    let step : Step = λ go. run_syntax (searched known) go c.args.here fs p (n, t) s in
+    let step : Step = λ go. run_syntax (noting known) go c.args.here fs p (n, t) s in
     let seen = c.in_ok-note_rules.ensures.notes known ls s fs t p.notes stands placed.at st notes in
     let e = c.in_err-test_rules.field-0.0 in
     let tests = c.in_err-test_rules.ensures known ls s fs t stands placed.at st in
@@ -81,7 +81,7 @@ returns-in_err-defined c = λ known region ls s fs n t p given knows stands plac
     let w = c.read_macro.new.self in
     let a = c.note_rules.new.asked in
     let old = c.args.pending.now in
-    let step : Step = λ go. run_syntax (searched known) go c.args.here fs p (n, t) s in
+    let step : Step = λ go. run_syntax (noting known) go c.args.here fs p (n, t) s in
     let seen = c.in_ok-note_rules.ensures.notes known ls s fs t p.notes stands placed.at st notes in
     let y = c.in_ok-test_rules.ensures known ls s fs t stands placed.at st in
     let e = c.in_err-defined.field-0.0 in
@@ -99,7 +99,7 @@ returns-in_err-define c = λ known region ls s fs n t p given knows stands place
     let v = c.define.new.self in
     let a = c.note_rules.new.asked in
     let old = c.args.pending.now in
-    let step : Step = λ go. run_syntax (searched known) go c.args.here fs p (n, t) s in
+    let step : Step = λ go. run_syntax (noting known) go c.args.here fs p (n, t) s in
     let seen = c.in_ok-note_rules.ensures.notes known ls s fs t p.notes stands placed.at st notes in
     let y = c.in_ok-test_rules.ensures known ls s fs t stands placed.at st in
     let counts = c.in_ok-defined.ensures.nodes in
@@ -115,7 +115,7 @@ returns-in_err-define c = λ known region ls s fs n t p given knows stands place
 pub returns-in_err-push : goal.returns-in_err-push
 returns-in_err-push c = λ known region ls s fs n t p given knows stands placed is st pending notes one.
     let u = c.args.units.now in
-    let step : Step = λ go. run_syntax (searched known) go c.args.here fs p (n, t) s in
+    let step : Step = λ go. run_syntax (noting known) go c.args.here fs p (n, t) s in
     goes_without c.args.work.now region u c.define.new.self ls c.args.spot fs p.todo given (record c.args.pending.now { aside = c.push.new.self }) c.note_rules.new.asked c.from_residual-in_err-push.result step c.from_residual-in_err-push.ensures.1 stands.form.few_nodes
 
 pub returns : goal.returns

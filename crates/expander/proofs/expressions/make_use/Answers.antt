@@ -3,15 +3,15 @@ use Rattle.scheme_model.specs.Order.{use_of}
 use Rattle.scheme_model.specs.Requirements.{Known}
 use Rattle.unit_scopes.specs.declared.scope.UnitScope.{UnitScope}
 use Rattle.unit_scopes.specs.Outcomes.{WorksOn}
-use Rattle.unit_scopes.specs.Searched.{searched}
 use Rattle.unit_scopes.specs.Used.{InstanceFor}
 use Rattle.feature_requirements.specs.declared.fault.ExpandFault.TheVariants as fault
 use Rattle.expander.specs.Ready.{use_met}
 use Rattle.unit_scopes.proofs.UsesMet.{left_behind}
-use Rattle.unit_scopes.proofs.NodeLaws.{here_err}
 use Rattle.expander.proofs.HeldLaws.{are_held, pairs_held}
 use Rattle.expander.proofs.UseSteps.{use_ends, use_breaks}
 use Rattle.expander.proofs.expressions.make_use.Goals as goal
+use Rattle.noted_steps.specs.Noting.{noting}
+use Rattle.noted_steps.proofs.NodeLaws.{here_err}
 
 pub returns-in_err-given-clause-used : goal.returns-in_err-given-clause-used
 returns-in_err-given-clause-used c = λ known ls s fs keyword m ts tail e at for.
@@ -34,7 +34,7 @@ meet-requires-clause-look c =
     let compared = c.in_ok-comparisons.ensures known l.layout l.state l.frames l.keyword l.transformer l.parts l.tail l.stands l.there l.used in
     let ends = c.in_ok-given.ensures.used known l.layout l.state l.frames l.keyword l.transformer l.parts l.tail l.stands l.there l.used
     (are_held c.args.work.now known l.layout l.state l.frames l.transformer c.in_ok-comparisons.field-0-0 c.args.at.scope c.in_ok-comparisons.comparisons.items c.in_ok-same.same l.parts l.tail compared.1 (c.in_ok-same.ensures ∙ ap pairs_held c.deref.ensures.value)) in
-    record { layout = l.layout; state = (use_of (searched known) c.args.at.here l.frames l.keyword l.transformer l.parts l.tail l.state).1; frames = l.frames; stands = ends.1.stands; at = l.there }
+    record { layout = l.layout; state = (use_of (noting known) c.args.at.here l.frames l.keyword l.transformer l.parts l.tail l.state).1; frames = l.frames; stands = ends.1.stands; at = l.there }
 
 pub meet-requires-clause-waits : goal.meet-requires-clause-waits
 meet-requires-clause-waits c =
@@ -56,7 +56,7 @@ returns-in_err-meet-clause-used c = λ known ls s fs keyword m ts tail e at for.
     let ends = c.in_ok-given.ensures.used known ls s fs keyword m ts tail e at for
     (are_held work known ls s fs m c.in_ok-comparisons.field-0-0 c.args.at.scope c.in_ok-comparisons.comparisons.items c.in_ok-same.same ts tail compared.1 (c.in_ok-same.ensures ∙ ap pairs_held c.deref.ensures.value)) in
     here_err (WorksOn new region) work new region u c.meet.new.self ls c.from_residual-in_err-meet.result fault.Memory (use_met known c.args.at.here fs keyword m ts tail s) c.from_residual-in_err-meet.ensures.1
-    (left_behind work new region u v ls (use_of (searched known) c.args.at.here fs keyword m ts tail s).1 ends.1)
+    (left_behind work new region u v ls (use_of (noting known) c.args.at.here fs keyword m ts tail s).1 ends.1)
 
 pub returns-clause-used : goal.returns-clause-used
 returns-clause-used c = λ known ls s fs keyword m ts tail e at for.
@@ -68,7 +68,7 @@ returns-clause-used c = λ known ls s fs keyword m ts tail e at for.
     let compared = c.in_ok-comparisons.ensures known ls s fs keyword m ts tail e at for in
     let ends = c.in_ok-given.ensures.used known ls s fs keyword m ts tail e at for
     (are_held work known ls s fs m c.in_ok-comparisons.field-0-0 c.args.at.scope c.in_ok-comparisons.comparisons.items c.in_ok-same.same ts tail compared.1 (c.in_ok-same.ensures ∙ ap pairs_held c.deref.ensures.value)) in
-    let met = c.in_ok-meet.ensures.met known ls (use_of (searched known) c.args.at.here fs keyword m ts tail s).1 fs ends.0.met ends.1.stands at ends.3.1 in
+    let met = c.in_ok-meet.ensures.met known ls (use_of (noting known) c.args.at.here fs keyword m ts tail s).1 fs ends.0.met ends.1.stands at ends.3.1 in
     use_ends known c.args.at.here fs keyword m ts tail s work new region u v c.meet.new.self ls c.in_ok-given.given ends met c.in_ok-meet.ensures.rest
 
 pub returns-clause-counted : goal.returns-clause-counted

@@ -10,13 +10,13 @@ use Rattle.expander.specs.CoreSteps.{core_step}
 use Rattle.feature_requirements.specs.Faults.{plain_fault, text_fault}
 use Rattle.form_parts.specs.Marked.{mark_within, mark_here}
 use Rattle.expander.specs.Ready.{Reads}
-use Rattle.unit_scopes.specs.Searched.{searched}
 use Rattle.unit_scopes.specs.Told.{told, core_fault}
 use Rattle.feature_requirements.specs.declared.fault.ExpandFault.{ExpandFault}
 use Rattle.unit_scopes.proofs.NodeLaws.{plain_is}
 use Rattle.unit_scopes.proofs.ToldLaws.{misread_is}
 use Rattle.expander.proofs.FormLaws.{parsed_as, marks_there, shape_here, shaped_goes, misread_reads, shape_reads, refused_reads, here_reads, here_unread, quoted_is, text_is, inclusion_is, shape_left}
 use Rattle.expander.proofs.expressions.read_form.Goals as goal
+use Rattle.noted_steps.specs.Noting.{noting}
 
 pub returns-in-Err-clause-read : goal.returns-in-Err-clause-read
 returns-in-Err-clause-read c = λ known region ls s fs k head ts end o knows e at is works.
@@ -48,8 +48,8 @@ returns-in_err-quote-in-Quote-clause-read c = λ known region ls s fs k head ts 
     let t = list (tree head ts) end o in
     let read = parsed_as w c.args.core k c.in_ok-marks.marks (mark_here s fs) head ts end o (Ok c.in-Ok.shape) is (λ q. c.in_ok-marks.ensures.marks q ls s fs t e at works.0) c.in_ok-marks.ensures.none (λ m are. c.in-Ok.ensures.shape k m t is are works.0) in
     let q = quoted_is w c.in-Ok.shape c.in-Quote.datum read.0 c.in-Quote.is read.2 in
-    here_unread (CoreStands w u.unit u.form.number) known depth here w region u c.quote.new.units ls fs (λ f. core_form f (searched known) depth here fs k ts end s) (quote (searched known) depth here q.0 s) c.in_err-quote-in-Quote.field-0.0 c.from_residual-in_err-quote-in-Quote.result c.from_residual-in_err-quote-in-Quote.ensures.1
-    (λ f. shaped_goes known depth here fs s k ts end f read.0 read.1 ∙ ap (λ (m : Shape). core_step f (searched known) depth here fs k m s) q.1)
+    here_unread (CoreStands w u.unit u.form.number) known depth here w region u c.quote.new.units ls fs (λ f. core_form f (noting known) depth here fs k ts end s) (quote (noting known) depth here q.0 s) c.in_err-quote-in-Quote.field-0.0 c.from_residual-in_err-quote-in-Quote.result c.from_residual-in_err-quote-in-Quote.ensures.1
+    (λ f. shaped_goes known depth here fs s k ts end f read.0 read.1 ∙ ap (λ (m : Shape). core_step f (noting known) depth here fs k m s) q.1)
     (c.in_err-quote-in-Quote.ensures.quoted known region ls s q.0 e q.2)
 
 pub returns-in-Quote-clause-read : goal.returns-in-Quote-clause-read
@@ -61,8 +61,8 @@ returns-in-Quote-clause-read c = λ known region ls s fs k head ts end o knows e
     let t = list (tree head ts) end o in
     let read = parsed_as w c.args.core k c.in_ok-marks.marks (mark_here s fs) head ts end o (Ok c.in-Ok.shape) is (λ q. c.in_ok-marks.ensures.marks q ls s fs t e at works.0) c.in_ok-marks.ensures.none (λ m are. c.in-Ok.ensures.shape k m t is are works.0) in
     let q = quoted_is w c.in-Ok.shape c.in-Quote.datum read.0 c.in-Quote.is read.2 in
-    here_reads known depth here w region u c.quote.new.units ls fs (λ f. core_form f (searched known) depth here fs k ts end s) (quote (searched known) depth here q.0 s) c.in_ok-quote-in-Quote.field-0
-    (λ f. shaped_goes known depth here fs s k ts end f read.0 read.1 ∙ ap (λ (m : Shape). core_step f (searched known) depth here fs k m s) q.1)
+    here_reads known depth here w region u c.quote.new.units ls fs (λ f. core_form f (noting known) depth here fs k ts end s) (quote (noting known) depth here q.0 s) c.in_ok-quote-in-Quote.field-0
+    (λ f. shaped_goes known depth here fs s k ts end f read.0 read.1 ∙ ap (λ (m : Shape). core_step f (noting known) depth here fs k m s) q.1)
     (c.in_ok-quote-in-Quote.ensures.quoted known region ls s q.0 e q.2)
 
 pub name-requires : goal.name-requires
@@ -87,7 +87,7 @@ returns-in-SyntaxError-clause-read c = λ known region ls s fs k head ts end o k
     let q = text_is w c.in-Ok.shape c.in-SyntaxError.text read.0 c.in-SyntaxError.is read.2 in
     let same : c.in_ok-text-in-SyntaxError.text ≡ q.0 = c.in_ok-text-in-SyntaxError.ensures ∙ same_Some c.name.result.now q.0 (sym c.name.ensures ∙ q.2) in
     let told : c.fails_with.result ≡ text_fault here q.0 = c.fails_with.ensures ∙ ap (text_fault here) same in
-    subst (λ (x : ExpandFault). Reads known depth here w region u u ls fs (Err x) (λ f. core_form f (searched known) depth here fs k ts end s)) (sym told)
+    subst (λ (x : ExpandFault). Reads known depth here w region u u ls fs (Err x) (λ f. core_form f (noting known) depth here fs k ts end s)) (sym told)
     (refused_reads known depth here fs s k ts end w region u ls e (ErrorText q.0) (SyntaxError q.0) (text_fault here q.0) (read.1 ∙ ap (λ (m : Shape). Ok m) q.1) (λ f. refl) (record { code = refl; name = tt; place = refl; here = refl; text = refl }))
 
 pub returns-in-Include-clause-read : goal.returns-in-Include-clause-read
@@ -99,7 +99,7 @@ returns-in-Include-clause-read c = λ known region ls s fs k head ts end o knows
     let t = list (tree head ts) end o in
     let read = parsed_as w c.args.core k c.in_ok-marks.marks (mark_here s fs) head ts end o (Ok c.in-Ok.shape) is (λ q. c.in_ok-marks.ensures.marks q ls s fs t e at works.0) c.in_ok-marks.ensures.none (λ m are. c.in-Ok.ensures.shape k m t is are works.0) in
     let q = inclusion_is w c.in-Ok.shape read.0 c.in-Include.is read.2 in
-    subst (λ (x : ExpandFault). Reads known depth here w region u u ls fs (Err x) (λ f. core_form f (searched known) depth here fs k ts end s)) (sym c.fails.ensures)
+    subst (λ (x : ExpandFault). Reads known depth here w region u u ls fs (Err x) (λ f. core_form f (noting known) depth here fs k ts end s)) (sym c.fails.ensures)
     (refused_reads known depth here fs s k ts end w region u ls e Inclusion IncludeRefused (plain_fault here 48) (read.1 ∙ ap (λ (m : Shape). Ok m) q) (λ f. refl) (plain_is w.symbols here IncludeRefused refl refl))
 
 pub returns : goal.returns

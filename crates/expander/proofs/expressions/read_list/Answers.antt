@@ -10,12 +10,12 @@ use Rattle.core_forms.specs.declared.shape.CoreKeyword as code_keyword
 use Rattle.unit_scopes.specs.Outcomes.{WorksOn}
 use Rattle.expander.specs.Ready.{HasCore}
 use Rattle.unit_scopes.specs.declared.scope.UnitScope.{UnitScope}
-use Rattle.unit_scopes.specs.Searched.{searched}
-use Rattle.unit_scopes.specs.Stepped.{met}
 use Rattle.expander.proofs.AfterLaws.{all_known}
 use Rattle.expander.proofs.LoopLaws.{knows_on}
 use Rattle.expander.proofs.ListLaws.{meets, meets_here, reads_behind, core_goes, call_reads, call_fails}
 use Rattle.expander.proofs.expressions.read_list.Goals as goal
+use Rattle.noted_steps.specs.Noting.{noting}
+use Rattle.noted_steps.specs.Stepped.{met}
 
 -- what is known of the keyword is known of it as it was found
 keyword_there : (work : Work) (u : UnitScope) (scope : ℕ) (form : number.Tree) (core found : Option (code_keyword.CoreKeyword × code_target.Target)) → core ≡ found → HasCore work u scope form core → HasCore work u scope form found
@@ -29,7 +29,7 @@ read_form-requires-clause-look c =
     let k = all_known c.args.units.now.libraries in
     let there = keyword_there c.args.work.now c.args.units.now c.args.at.scope c.args.form c.args.core (Some (c.in-Some.core, c.in-Some.keyword)) c.in-Some.is c.requires.head in
     let h = there k.0 l.layout l.state l.frames (list r.0 r.1 r.2) l.stands l.at r.3 in
-    let t = target_of (searched k.0) l.frames l.state h.0 h.1 in
+    let t = target_of (noting k.0) l.frames l.state h.0 h.1 in
     record {
       layout = l.layout;
       state = met t l.state;
@@ -64,9 +64,9 @@ returns-in_ok-meet_keyword-in-Some-clause-read c = λ known region ls s fs ts en
     let depth = c.args.at.depth in
     let there = keyword_there c.args.work.now c.args.units.now c.args.at.scope c.args.form c.args.core (Some (c.in-Some.core, c.in-Some.keyword)) c.in-Some.is c.requires.head in
     let h = there known ls s fs (list ts end o) e at works.0 in
-    let t = target_of (searched known) fs s h.0 h.1 in
+    let t = target_of (noting known) fs s h.0 h.1 in
     let m = meets w region u v ls s c.in-Some.keyword t c.in_ok-meet_keyword-in-Some.ensures h.9 e in
-    reads_behind known depth here w region u v c.read_form.new.units ls fs (met t s) c.read_form.result (λ f. core_form f (searched known) depth here fs h.5 h.2 h.3 (met t s)) (λ f. expression f (searched known) depth here fs (list ts end o) s) m
+    reads_behind known depth here w region u v c.read_form.new.units ls fs (met t s) c.read_form.result (λ f. core_form f (noting known) depth here fs h.5 h.2 h.3 (met t s)) (λ f. expression f (noting known) depth here fs (list ts end o) s) m
     (λ f. core_goes f known depth here fs (list ts end o) h.0 h.1 h.2 h.3 h.4 h.5 s h.6 h.8)
     (c.read_form.ensures.read known region ls (met t s) fs h.5 (name h.0 h.1) h.2 h.3 h.4 (knows_on known u v m.same knows) m.stands at h.7 (subst (λ (x : Tree Identifier). WorksOn w region c.args.form x) h.6 works))
 

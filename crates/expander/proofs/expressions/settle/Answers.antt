@@ -1,11 +1,11 @@
 use Rattle.std.proofs.Common.{◌≡◌, ◌+◌, ◌*◌, ◌^◌, ◌≤◌, refl, ◌∙◌, arith}
 use Rattle.scheme_model.specs.Expression.{whole, expand}
 use Rattle.expander.specs.Ready.{use_met}
-use Rattle.unit_scopes.specs.Searched.{searched}
 use Rattle.expander.proofs.AfterLaws.{all_known, enough_there, stays_after}
 use Rattle.expander.proofs.LoopLaws.{after_itself, after_on}
 use Rattle.expander.proofs.SettleLaws.{so_far_begins, use_at, so_far_uses, so_far_fails, so_far_settles}
 use Rattle.expander.proofs.expressions.settle.Goals as goal
+use Rattle.noted_steps.specs.Noting.{noting}
 
 pub uses-init : goal.uses-init
 uses-init c = record {
@@ -44,7 +44,7 @@ returns-in_err-form-in-Macro-clause-settled c = λ known turns ls s fs t knows e
     let so = c.uses.invariant.so_far known turns ls s fs t knows e at works enough in
     let head = use_at known c.uses.work so.state fs so.tree c.in-Macro.keyword (c.in-Macro.ensures known ls so.state fs so.tree so.stays.stands at so.works.0) in
     so_far_fails known depth turns c.args.work.now c.uses.work c.make_use.new.work c.args.region.now c.args.units.now c.uses.units c.make_use.new.units ls fs c.uses.form c.uses.here c.in-Macro.keyword
-    (expand (searched known) turns depth c.args.at.here fs (whole t) s) so head c.from_residual.result c.in_err-form-in-Macro.field-0.0 c.from_residual.ensures.1
+    (expand (noting known) turns depth c.args.at.here fs (whole t) s) so head c.from_residual.result c.in_err-form-in-Macro.field-0.0 c.from_residual.ensures.1
     (c.in_err-form-in-Macro.ensures.used known ls so.state fs head.keyword head.macro head.parts head.tail so.stays.stands at (head.used c.args.at.scope c.uses.here c.uses.form so.works.0))
 
 pub here_at-here-requires-in-Macro : goal.here_at-here-requires-in-Macro
@@ -96,7 +96,7 @@ uses-preserved c =
       so_far = λ known turns ls s fs t knows e at works enough.
           let so2 = c.uses.invariant.so_far known turns ls s fs t knows e at works enough in
           let head2 = use_at known mid so2.state fs so2.tree c.in-Macro.keyword (c.in-Macro.ensures known ls so2.state fs so2.tree so2.stays.stands at so2.works.0) in
-          so_far_uses known depth w mid new region u cu nu ls fs c.uses.form c.in_ok-form-in-Macro.form c.uses.here c.here_at-here-in-Macro.result c.in-Macro.keyword (expand (searched known) turns depth c.args.at.here fs (whole t) s) so2 head2
+          so_far_uses known depth w mid new region u cu nu ls fs c.uses.form c.in_ok-form-in-Macro.form c.uses.here c.here_at-here-in-Macro.result c.in-Macro.keyword (expand (noting known) turns depth c.args.at.here fs (whole t) s) so2 head2
           c.in_ok-form-in-Macro.ensures.counted c.here_at-here-in-Macro.ensures
           (c.in_ok-form-in-Macro.ensures.used known ls so2.state fs head2.keyword head2.macro head2.parts head2.tail so2.stays.stands at (head2.used c.args.at.scope c.uses.here c.uses.form so2.works.0));
     }
@@ -105,14 +105,14 @@ pub returns-in-Core-clause-settled : goal.returns-in-Core-clause-settled
 returns-in-Core-clause-settled c = λ known turns ls s fs t knows e at works enough.
     let depth = c.args.at.depth in
     let so = c.uses.invariant.so_far known turns ls s fs t knows e at works enough in
-    so_far_settles known depth turns c.args.work.now c.uses.work c.args.region.now c.args.units.now c.uses.units ls fs c.uses.form c.uses.here (expand (searched known) turns depth c.args.at.here fs (whole t) s) so
+    so_far_settles known depth turns c.args.work.now c.uses.work c.args.region.now c.args.units.now c.uses.units ls fs c.uses.form c.uses.here (expand (noting known) turns depth c.args.at.here fs (whole t) s) so
     (c.in-Core.ensures known ls so.state fs so.tree so.stays.stands at so.works.0).0
 
 pub returns-in-Plain-clause-settled : goal.returns-in-Plain-clause-settled
 returns-in-Plain-clause-settled c = λ known turns ls s fs t knows e at works enough.
     let depth = c.args.at.depth in
     let so = c.uses.invariant.so_far known turns ls s fs t knows e at works enough in
-    so_far_settles known depth turns c.args.work.now c.uses.work c.args.region.now c.args.units.now c.uses.units ls fs c.uses.form c.uses.here (expand (searched known) turns depth c.args.at.here fs (whole t) s) so
+    so_far_settles known depth turns c.args.work.now c.uses.work c.args.region.now c.args.units.now c.uses.units ls fs c.uses.form c.uses.here (expand (noting known) turns depth c.args.at.here fs (whole t) s) so
     (c.in-Plain.ensures known ls so.state fs so.tree so.stays.stands at so.works.0).0
 
 pub returns-in-Core-clause-head : goal.returns-in-Core-clause-head

@@ -4,18 +4,15 @@ use Rattle.scheme_model.specs.Ident.{Ident as Identifier}
 use Rattle.scheme_model.specs.Keywords.{CoreKeyword}
 use Rattle.scheme_model.specs.Measures.{tree_size}
 use Rattle.scheme_model.specs.Order.{Going, Pass, run_core}
-use Rattle.scheme_model.specs.ScopedExpansion.{FramedIdent, ScopedState}
+use Rattle.scheme_model.specs.ScopedExpansion.{FramedIdent}
 use Rattle.scheme_model.specs.Quasiquote.{Mark}
 use Rattle.core_forms.specs.Marks.{AreMarks}
 use Rattle.core_forms.specs.declared.shape.QuasiMark.{QuasiMark}
 use Rattle.core_tree.specs.declared.cores.Target as code_target
 use Rattle.syntax_tree.specs.declared.trees.Work.{Work}
 use Rattle.expander.specs.Passed.{CanPass, shape_weight}
-use Rattle.unit_scopes.specs.Searched.{searched}
-use Rattle.unit_scopes.specs.Kept.{SpotFor}
-use Rattle.unit_scopes.specs.State.{Stands}
 use Rattle.form_parts.specs.FormsSeen.{takes_effect}
-use Rattle.unit_scopes.specs.Stepped.{met, with_keyword}
+use Rattle.unit_scopes.specs.Stepped.{with_keyword}
 use Rattle.unit_scopes.specs.declared.scope.UnitScope.{UnitScope}
 use Rattle.expander.proofs.CorePass.{core_goes, core_misread}
 use Rattle.expander.proofs.DefinitionSteps.{goes_without}
@@ -23,6 +20,10 @@ use Rattle.expander.proofs.PassForms.{in_weight, in_passes, in_fits, can_pass_me
 use Rattle.expander.proofs.PassLaws.{spot_same}
 use Rattle.expander.proofs.PassSteps.{set_aside}
 use Rattle.expander.proofs.passes.pass_core.Goals as goal
+use Rattle.noted_steps.specs.Noting.{Noting, noting}
+use Rattle.noted_steps.specs.Standing.{Stands}
+use Rattle.noted_steps.specs.Stepped.{met}
+use Rattle.noted_steps.specs.Kept.{SpotFor}
 
 -- no identifier marks anything in a form that is gone through
 abbrev unmarked : Identifier → Option Mark
@@ -42,7 +43,7 @@ within : (a b most : ℕ) → a < b → b ≤ most → a ≤ most
 within a b most h g = omega (arith, h, g)
 
 abbrev Step : Type 0
-Step = Going Identifier FramedIdent ScopedState → Pass Identifier FramedIdent × ScopedState
+Step = Going Identifier FramedIdent Noting → Pass Identifier FramedIdent × Noting
 
 abbrev with_keywords : UnitScope → List code_target.Target → UnitScope
 with_keywords u l = record u { form = record u.form { trace = record u.form.trace { keywords = l } } }
@@ -72,19 +73,19 @@ pass_shape-requires c =
 pub returns-in_err-push : goal.returns-in_err-push
 returns-in_err-push c = λ known region ls s fs k t m head ts tail o p knows stands placed is target on split pending notes.
     let u = c.args.units.now in
-    let step : Step = λ go. run_core (searched known) go c.args.here fs k t m ts tail p s in
+    let step : Step = λ go. run_core (noting known) go c.args.here fs k t m ts tail p s in
     goes_without c.args.work.now region u u ls c.args.spot fs p.todo (tree_size m.tree) (record c.args.pending.now { aside = c.push.new.self }) c.args.asked.now c.from_residual.result step c.from_residual.ensures.1 stands.form.few_nodes
 
 pub returns-in_err-push-2 : goal.returns-in_err-push-2
 returns-in_err-push-2 c = λ known region ls s fs k t m head ts tail o p knows stands placed is target on split pending notes.
     let u = c.args.units.now in
-    let step : Step = λ go. run_core (searched known) go c.args.here fs k t m ts tail p s in
+    let step : Step = λ go. run_core (noting known) go c.args.here fs k t m ts tail p s in
     goes_without c.args.work.now region u (with_keywords u c.push-2.new.self) ls c.args.spot fs p.todo (tree_size m.tree) c.args.pending.now c.args.asked.now c.from_residual-in_err-push-2.result step c.from_residual-in_err-push-2.ensures.1 stands.form.few_nodes
 
 pub returns-then-not-is_passed : goal.returns-then-not-is_passed
 returns-then-not-is_passed c = λ known region ls s fs k t m head ts tail o p knows stands placed is target on split pending notes.
     let effect = effect_of _ k false is (sym c.if-not-is_passed.true ∙ c.is_passed.ensures) in
-    sets_aside c.args.work.now region c.args.units.now ls c.args.spot fs s p [] c.args.pending.now (record c.args.pending.now { aside = c.push.new.self }) c.args.asked.now m c.args.form (λ go. run_core (searched known) go c.args.here fs k t m ts tail p s)
+    sets_aside c.args.work.now region c.args.units.now ls c.args.spot fs s p [] c.args.pending.now (record c.args.pending.now { aside = c.push.new.self }) c.args.asked.now m c.args.form (λ go. run_core (noting known) go c.args.here fs k t m ts tail p s)
     (λ go. set_aside known go c.args.here fs m p k t ts tail s effect) stands placed on pending notes (refl, refl) c.in_ok-push.ensures.items
 
 pub returns-in-Err : goal.returns-in-Err

@@ -3,7 +3,6 @@ use Rattle.scheme_model.specs.Ident.{Ident as Identifier}
 use Rattle.scheme_model.specs.Order.{Item}
 use Rattle.core_tree.specs.Cores.{PartStands}
 use Rattle.feature_requirements.specs.Judged.{Knows}
-use Rattle.unit_scopes.specs.Outcomes.{Ends}
 use Rattle.unit_scopes.specs.Stepped.{turned}
 use Rattle.unit_scopes.specs.Units.{ItemFor, expanded}
 use Rattle.feature_requirements.specs.declared.fault.ExpandFault.{ExpandFault}
@@ -11,6 +10,7 @@ use Rattle.unit_scopes.specs.declared.scope.Budget.{Budget}
 use Rattle.unit_scopes.specs.declared.scope.UnitScope.{UnitScope}
 use Rattle.unit_scopes.proofs.CallLaws.{can_set, turned_to, expands, expands_fault}
 use Rattle.expander.proofs.unit.expand_item.Goals as goal
+use Rattle.noted_steps.specs.Outcomes.{Ends}
 
 pub expand_apart-part-requires-clause-item : goal.expand_apart-part-requires-clause-item
 expand_apart-part-requires-clause-item g c = subst (λ (x : UnitScope). (i : Item Identifier) × ItemFor c.args.work.now c.args.region.now x.unit x.form.number c.args.item.now i) (sym c.turn.ensures) c.requires.item

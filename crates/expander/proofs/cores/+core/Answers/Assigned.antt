@@ -8,7 +8,7 @@ use Rattle.scheme_model.specs.Cores.{Core, Set, Part}
 use Rattle.scheme_model.specs.Steps.{Step, ◌>>=◌, done}
 use Rattle.scheme_model.specs.Order.{Item, target_of}
 use Rattle.scheme_model.specs.Expression.{assignment, whole, expand, lambda, item_part}
-use Rattle.scheme_model.specs.ScopedExpansion.{Frames, ScopedState}
+use Rattle.scheme_model.specs.ScopedExpansion.{Frames}
 use Rattle.core_tree.specs.Cores.{CoreStands, PartStands}
 use Rattle.core_tree.specs.declared.cores.Core as code_core
 use Rattle.core_tree.specs.declared.cores.CorePart as code_part
@@ -16,8 +16,7 @@ use Rattle.core_tree.specs.declared.cores.CorePart.TheVariants as core_parts
 use Rattle.expander.specs.Expanded.{ClauseAtWork}
 use Rattle.unit_scopes.specs.Defining.{HasNumber}
 use Rattle.unit_scopes.specs.Kept.{KeptFor}
-use Rattle.unit_scopes.specs.Outcomes.{CanLook, IsAtWork, IsEnoughBelow, Runs}
-use Rattle.unit_scopes.specs.Searched.{searched}
+use Rattle.unit_scopes.specs.Outcomes.{CanLook, IsAtWork, IsEnoughBelow}
 use Rattle.expander.specs.declared.expressions.At as code_at
 use Rattle.feature_requirements.specs.declared.fault.ExpandFault.TheVariants as fault
 use Rattle.form_parts.specs.declared.items.Kept as code_kept
@@ -30,6 +29,8 @@ use Rattle.expander.proofs.KeptKinds.{as_assigned, as_assigned_function}
 use Rattle.expander.proofs.RowRuns.{runs_memory}
 use Rattle.expander.proofs.StepLaws.{runs_err, node_none}
 use Rattle.expander.proofs.cores.+core.Goals as goal
+use Rattle.noted_steps.specs.Noting.{Noting, noting}
+use Rattle.noted_steps.specs.Outcomes.{Runs}
 
 -- ---- assignments
 
@@ -62,10 +63,10 @@ assign-returns-in_err-below-clause-runs t c = λ n tree turns name stands enough
     let v = c.below.new.units in
     let at = c.args.at in
     let Q : List Frames → code_core.Core → Core → Type 0 = λ layout. CoreStands d v.unit v.form.number in
-    let f : Known → Frames → Step ScopedState Core = λ known fs. assignment (searched known) at.depth at.here fs n (λ below. expand (searched known) turns below at.here fs (whole tree)) in
+    let f : Known → Frames → Step Noting Core = λ known fs. assignment (noting known) at.depth at.here fs n (λ below. expand (noting known) turns below at.here fs (whole tree)) in
     let e = c.in_err-below.field-0.0 in
     runs_err Q a d region u v at.scope c.from_residual.result e f c.from_residual.ensures.1
-    (node_none Q a region u v at 1 e (λ known fs below t1. expand (searched known) turns below at.here fs (whole tree) t1 >>= λ x. done (Set (target_of (searched known) fs t1 n.name n.occ) x)) c.in_err-below.ensures)
+    (node_none Q a region u v at 1 e (λ known fs below t1. expand (noting known) turns below at.here fs (whole tree) t1 >>= λ x. done (Set (target_of (noting known) fs t1 n.name n.occ) x)) c.in_err-below.ensures)
 
 pub assign-returns-in_err-value-clause-runs : goal.assign-returns-in_err-value-clause-runs
 assign-returns-in_err-value-clause-runs t c = λ n tree turns name stands enough.
@@ -76,14 +77,14 @@ assign-returns-in_err-value-clause-runs t c = λ n tree turns name stands enough
     let v = c.expand.new.units in
     let at = c.args.at in
     let Q : List Frames → code_core.Core → Core → Type 0 = λ layout. CoreStands d v.unit v.form.number in
-    let f : Known → Frames → Step ScopedState Core = λ known fs. assignment (searched known) at.depth at.here fs n (λ below. expand (searched known) turns below at.here fs (whole tree)) in
+    let f : Known → Frames → Step Noting Core = λ known fs. assignment (noting known) at.depth at.here fs n (λ below. expand (noting known) turns below at.here fs (whole tree)) in
     let w = c.below.new.units in
     let below = c.in_ok-below.below in
     let h = c.in_ok-below.ensures in
     let now = below_enough u w at below 1 h turns enough in
     let e = c.in_err-value.field-0.0 in
     runs_err Q a d region u v at.scope c.from_residual-in_err-value.result e f c.from_residual-in_err-value.ensures.1
-    (assigned_fails a d region u w v at below h c.args.name n name (λ known fs depth o. expand (searched known) turns depth o fs (whole tree)) Q e (c.in_err-value.ensures.runs tree turns stands now))
+    (assigned_fails a d region u w v at below h c.args.name n name (λ known fs depth o. expand (noting known) turns depth o fs (whole tree)) Q e (c.in_err-value.ensures.runs tree turns stands now))
 
 pub assign-returns-in_err-new-clause-runs : goal.assign-returns-in_err-new-clause-runs
 assign-returns-in_err-new-clause-runs t c = λ n tree turns name stands enough.
@@ -94,14 +95,14 @@ assign-returns-in_err-new-clause-runs t c = λ n tree turns name stands enough.
     let v = c.expand.new.units in
     let at = c.args.at in
     let Q : List Frames → code_core.Core → Core → Type 0 = λ layout. CoreStands d v.unit v.form.number in
-    let f : Known → Frames → Step ScopedState Core = λ known fs. assignment (searched known) at.depth at.here fs n (λ below. expand (searched known) turns below at.here fs (whole tree)) in
+    let f : Known → Frames → Step Noting Core = λ known fs. assignment (noting known) at.depth at.here fs n (λ below. expand (noting known) turns below at.here fs (whole tree)) in
     let w = c.below.new.units in
     let below = c.in_ok-below.below in
     let h = c.in_ok-below.ensures in
     let now = below_enough u w at below 1 h turns enough in
-    let g : Known → Frames → Step ScopedState Core = λ known fs. expand (searched known) turns below.depth below.here fs (whole tree) in
+    let g : Known → Frames → Step Noting Core = λ known fs. expand (noting known) turns below.depth below.here fs (whole tree) in
     runs_err Q a d region u v at.scope c.from_residual-in_err-new.result fault.Memory f c.from_residual-in_err-new.ensures.1
-    (assigned_fails a d region u w v at below h c.args.name n name (λ known fs depth o. expand (searched known) turns depth o fs (whole tree)) Q fault.Memory (runs_memory Q Q a d region w v below.scope c.in_ok-value.value g g (c.in_ok-value.ensures.runs tree turns stands now)))
+    (assigned_fails a d region u w v at below h c.args.name n name (λ known fs depth o. expand (noting known) turns depth o fs (whole tree)) Q fault.Memory (runs_memory Q Q a d region w v below.scope c.in_ok-value.value g g (c.in_ok-value.ensures.runs tree turns stands now)))
 
 pub assign-returns-clause-runs : goal.assign-returns-clause-runs
 assign-returns-clause-runs t c = λ n tree turns name stands enough.
@@ -119,8 +120,8 @@ assign-returns-clause-runs t c = λ n tree turns name stands enough.
     let x = c.target-target.result in
     let y = c.in_ok-new.field-0 in
     let after = expand_after a d region w v below c.args.value c.in_ok-value.value (below_look u w at below 1 h a c.requires.look) c.requires.value c.in_ok-value.ensures.runs in
-    assigned_runs a d region u w v at below h c.args.name n name (λ known fs depth o. expand (searched known) turns depth o fs (whole tree)) x y after.work after.same c.target-target.ensures
-    (subst (λ (q : code_core.Core). Runs Q a d region w v below.scope (Ok q) (λ known fs. expand (searched known) turns below.depth below.here fs (whole tree))) (sym c.in_ok-new.ensures.ok) (c.in_ok-value.ensures.runs tree turns stands now))
+    assigned_runs a d region u w v at below h c.args.name n name (λ known fs depth o. expand (noting known) turns depth o fs (whole tree)) x y after.work after.same c.target-target.ensures
+    (subst (λ (q : code_core.Core). Runs Q a d region w v below.scope (Ok q) (λ known fs. expand (noting known) turns below.depth below.here fs (whole tree))) (sym c.in_ok-new.ensures.ok) (c.in_ok-value.ensures.runs tree turns stands now))
 
 pub assign-returns-clause-locals : goal.assign-returns-clause-locals
 assign-returns-clause-locals t c = spends_on c.args.units.now c.below.new.units c.expand.new.units (below_spends c.args.units.now c.below.new.units c.args.at c.in_ok-below.below 1 c.in_ok-below.ensures) c.in_ok-value.ensures.locals
@@ -154,10 +155,10 @@ assign_procedure-returns-in_err-below-clause-runs t c = λ n m turns name clause
     let v = c.below.new.units in
     let at = c.args.at in
     let Q : List Frames → code_core.Core → Core → Type 0 = λ layout. CoreStands d v.unit v.form.number in
-    let f : Known → Frames → Step ScopedState Core = λ known fs. assignment (searched known) at.depth at.here fs n (λ below. lambda (expand (searched known) turns) (searched known) below at.here fs m) in
+    let f : Known → Frames → Step Noting Core = λ known fs. assignment (noting known) at.depth at.here fs n (λ below. lambda (expand (noting known) turns) (noting known) below at.here fs m) in
     let e = c.in_err-below.field-0.0 in
     runs_err Q a d region u v at.scope c.from_residual.result e f c.from_residual.ensures.1
-    (node_none Q a region u v at 1 e (λ known fs below t1. lambda (expand (searched known) turns) (searched known) below at.here fs m t1 >>= λ x. done (Set (target_of (searched known) fs t1 n.name n.occ) x)) c.in_err-below.ensures)
+    (node_none Q a region u v at 1 e (λ known fs below t1. lambda (expand (noting known) turns) (noting known) below at.here fs m t1 >>= λ x. done (Set (target_of (noting known) fs t1 n.name n.occ) x)) c.in_err-below.ensures)
 
 pub assign_procedure-returns-in_err-value-clause-runs : goal.assign_procedure-returns-in_err-value-clause-runs
 assign_procedure-returns-in_err-value-clause-runs t c = λ n m turns name clause enough.
@@ -168,14 +169,14 @@ assign_procedure-returns-in_err-value-clause-runs t c = λ n m turns name clause
     let v = c.lambda.new.units in
     let at = c.args.at in
     let Q : List Frames → code_core.Core → Core → Type 0 = λ layout. CoreStands d v.unit v.form.number in
-    let f : Known → Frames → Step ScopedState Core = λ known fs. assignment (searched known) at.depth at.here fs n (λ below. lambda (expand (searched known) turns) (searched known) below at.here fs m) in
+    let f : Known → Frames → Step Noting Core = λ known fs. assignment (noting known) at.depth at.here fs n (λ below. lambda (expand (noting known) turns) (noting known) below at.here fs m) in
     let w = c.below.new.units in
     let below = c.in_ok-below.below in
     let h = c.in_ok-below.ensures in
     let now = enough_here below.depth w.form.budget.uses turns (below_enough u w at below 1 h turns enough) in
     let e = c.in_err-value.field-0.0 in
     runs_err Q a d region u v at.scope c.from_residual-in_err-value.result e f c.from_residual-in_err-value.ensures.1
-    (assigned_fails a d region u w v at below h c.args.name n name (λ known fs depth o. lambda (expand (searched known) turns) (searched known) depth o fs m) Q e (c.in_err-value.ensures.runs m turns clause now))
+    (assigned_fails a d region u w v at below h c.args.name n name (λ known fs depth o. lambda (expand (noting known) turns) (noting known) depth o fs m) Q e (c.in_err-value.ensures.runs m turns clause now))
 
 pub assign_procedure-returns-in_err-new-clause-runs : goal.assign_procedure-returns-in_err-new-clause-runs
 assign_procedure-returns-in_err-new-clause-runs t c = λ n m turns name clause enough.
@@ -186,14 +187,14 @@ assign_procedure-returns-in_err-new-clause-runs t c = λ n m turns name clause e
     let v = c.lambda.new.units in
     let at = c.args.at in
     let Q : List Frames → code_core.Core → Core → Type 0 = λ layout. CoreStands d v.unit v.form.number in
-    let f : Known → Frames → Step ScopedState Core = λ known fs. assignment (searched known) at.depth at.here fs n (λ below. lambda (expand (searched known) turns) (searched known) below at.here fs m) in
+    let f : Known → Frames → Step Noting Core = λ known fs. assignment (noting known) at.depth at.here fs n (λ below. lambda (expand (noting known) turns) (noting known) below at.here fs m) in
     let w = c.below.new.units in
     let below = c.in_ok-below.below in
     let h = c.in_ok-below.ensures in
     let now = enough_here below.depth w.form.budget.uses turns (below_enough u w at below 1 h turns enough) in
-    let g : Known → Frames → Step ScopedState Core = λ known fs. lambda (expand (searched known) turns) (searched known) below.depth below.here fs m in
+    let g : Known → Frames → Step Noting Core = λ known fs. lambda (expand (noting known) turns) (noting known) below.depth below.here fs m in
     runs_err Q a d region u v at.scope c.from_residual-in_err-new.result fault.Memory f c.from_residual-in_err-new.ensures.1
-    (assigned_fails a d region u w v at below h c.args.name n name (λ known fs depth o. lambda (expand (searched known) turns) (searched known) depth o fs m) Q fault.Memory (runs_memory Q Q a d region w v below.scope c.in_ok-value.value g g (c.in_ok-value.ensures.runs m turns clause now)))
+    (assigned_fails a d region u w v at below h c.args.name n name (λ known fs depth o. lambda (expand (noting known) turns) (noting known) depth o fs m) Q fault.Memory (runs_memory Q Q a d region w v below.scope c.in_ok-value.value g g (c.in_ok-value.ensures.runs m turns clause now)))
 
 pub assign_procedure-returns-clause-runs : goal.assign_procedure-returns-clause-runs
 assign_procedure-returns-clause-runs t c = λ n m turns name clause enough.
@@ -211,8 +212,8 @@ assign_procedure-returns-clause-runs t c = λ n m turns name clause enough.
     let x = c.target-target.result in
     let y = c.in_ok-new.field-0 in
     let after = lambda_after a d region w v below c.args.clause.now c.in_ok-value.value (below_look u w at below 1 h a c.requires.look) c.requires.clause c.in_ok-value.ensures.runs in
-    assigned_runs a d region u w v at below h c.args.name n name (λ known fs depth o. lambda (expand (searched known) turns) (searched known) depth o fs m) x y after.work after.same c.target-target.ensures
-    (subst (λ (q : code_core.Core). Runs Q a d region w v below.scope (Ok q) (λ known fs. lambda (expand (searched known) turns) (searched known) below.depth below.here fs m)) (sym c.in_ok-new.ensures.ok) (c.in_ok-value.ensures.runs m turns clause now))
+    assigned_runs a d region u w v at below h c.args.name n name (λ known fs depth o. lambda (expand (noting known) turns) (noting known) depth o fs m) x y after.work after.same c.target-target.ensures
+    (subst (λ (q : code_core.Core). Runs Q a d region w v below.scope (Ok q) (λ known fs. lambda (expand (noting known) turns) (noting known) below.depth below.here fs m)) (sym c.in_ok-new.ensures.ok) (c.in_ok-value.ensures.runs m turns clause now))
 
 pub assign_procedure-returns-clause-locals : goal.assign_procedure-returns-clause-locals
 assign_procedure-returns-clause-locals t c = spends_on c.args.units.now c.below.new.units c.lambda.new.units (below_spends c.args.units.now c.below.new.units c.args.at c.in_ok-below.below 1 c.in_ok-below.ensures) c.in_ok-value.ensures.locals
@@ -246,10 +247,10 @@ expand_kept_item-returns-in_err-value-in-Assigned-clause-runs t c = λ i turns f
     let less = subst (λ (x : code_at.At). IsEnoughBelow x.depth u.form.budget.uses turns) (sym c.in_place-in-Assigned.ensures) (enough_here at.depth u.form.budget.uses turns enough) in
     let P : List Frames → code_core.Core → Core → Type 0 = λ layout. CoreStands d v.unit v.form.number in
     let Q : List Frames → code_part.CorePart → Part → Type 0 = λ layout. PartStands d v.unit v.form.number in
-    let f : Item Identifier → Known → Frames → Step ScopedState Part = λ x known fs. item_part (expand (searched known) turns) (searched known) at.depth fs x in
+    let f : Item Identifier → Known → Frames → Step Noting Part = λ x known fs. item_part (expand (noting known) turns) (noting known) at.depth fs x in
     let e = c.in_err-value-in-Assigned.field-0.0 in
     runs_err Q a d region u v at.scope c.from_residual-in_err-value-in-Assigned.result e (f i) c.from_residual-in_err-value-in-Assigned.ensures.1
-    (as_assigned a region u.unit u.form.number (λ x. Runs Q a d region u v at.scope (Err e) (f x)) c.in-Assigned.name c.in-Assigned.form i (subst (λ (x : code_kept.Kept). KeptFor a region u.unit u.form.number x i) c.in-Assigned.is for) (λ n m name form. item_assigned_fails a d region u v at.scope turns at.depth P Q n m e (placed_runs P a d region u v at placed m.here (c.in_place-in-Assigned.ensures ∙ ap (λ (o : Option Occ). record at { here = o }) form.0) (Err e) (λ depth o known fs. assignment (searched known) depth o fs n (λ below. expand (searched known) turns below o fs (whole m.tree))) (c.in_err-value-in-Assigned.ensures.runs n m.tree turns name form.1.0 less))))
+    (as_assigned a region u.unit u.form.number (λ x. Runs Q a d region u v at.scope (Err e) (f x)) c.in-Assigned.name c.in-Assigned.form i (subst (λ (x : code_kept.Kept). KeptFor a region u.unit u.form.number x i) c.in-Assigned.is for) (λ n m name form. item_assigned_fails a d region u v at.scope turns at.depth P Q n m e (placed_runs P a d region u v at placed m.here (c.in_place-in-Assigned.ensures ∙ ap (λ (o : Option Occ). record at { here = o }) form.0) (Err e) (λ depth o known fs. assignment (noting known) depth o fs n (λ below. expand (noting known) turns below o fs (whole m.tree))) (c.in_err-value-in-Assigned.ensures.runs n m.tree turns name form.1.0 less))))
 
 pub expand_kept_item-returns-in_ok-value-in-Assigned-clause-runs : goal.expand_kept_item-returns-in_ok-value-in-Assigned-clause-runs
 expand_kept_item-returns-in_ok-value-in-Assigned-clause-runs t c = λ i turns for enough.
@@ -263,9 +264,9 @@ expand_kept_item-returns-in_ok-value-in-Assigned-clause-runs t c = λ i turns fo
     let less = subst (λ (x : code_at.At). IsEnoughBelow x.depth u.form.budget.uses turns) (sym c.in_place-in-Assigned.ensures) (enough_here at.depth u.form.budget.uses turns enough) in
     let P : List Frames → code_core.Core → Core → Type 0 = λ layout. CoreStands d v.unit v.form.number in
     let Q : List Frames → code_part.CorePart → Part → Type 0 = λ layout. PartStands d v.unit v.form.number in
-    let f : Item Identifier → Known → Frames → Step ScopedState Part = λ x known fs. item_part (expand (searched known) turns) (searched known) at.depth fs x in
+    let f : Item Identifier → Known → Frames → Step Noting Part = λ x known fs. item_part (expand (noting known) turns) (noting known) at.depth fs x in
     let x = c.in_ok-value-in-Assigned.value in
-    as_assigned a region u.unit u.form.number (λ y. Runs Q a d region u v at.scope (Ok (core_parts.Expression x)) (f y)) c.in-Assigned.name c.in-Assigned.form i (subst (λ (x : code_kept.Kept). KeptFor a region u.unit u.form.number x i) c.in-Assigned.is for) (λ n m name form. item_assigned a d region u v at.scope turns at.depth n m x (placed_runs P a d region u v at placed m.here (c.in_place-in-Assigned.ensures ∙ ap (λ (o : Option Occ). record at { here = o }) form.0) (Ok x) (λ depth o known fs. assignment (searched known) depth o fs n (λ below. expand (searched known) turns below o fs (whole m.tree))) (c.in_ok-value-in-Assigned.ensures.runs n m.tree turns name form.1.0 less)))
+    as_assigned a region u.unit u.form.number (λ y. Runs Q a d region u v at.scope (Ok (core_parts.Expression x)) (f y)) c.in-Assigned.name c.in-Assigned.form i (subst (λ (x : code_kept.Kept). KeptFor a region u.unit u.form.number x i) c.in-Assigned.is for) (λ n m name form. item_assigned a d region u v at.scope turns at.depth n m x (placed_runs P a d region u v at placed m.here (c.in_place-in-Assigned.ensures ∙ ap (λ (o : Option Occ). record at { here = o }) form.0) (Ok x) (λ depth o known fs. assignment (noting known) depth o fs n (λ below. expand (noting known) turns below o fs (whole m.tree))) (c.in_ok-value-in-Assigned.ensures.runs n m.tree turns name form.1.0 less)))
 
 pub expand_kept_item-returns-in_ok-value-in-Assigned-clause-locals : goal.expand_kept_item-returns-in_ok-value-in-Assigned-clause-locals
 expand_kept_item-returns-in_ok-value-in-Assigned-clause-locals t c = c.in_ok-value-in-Assigned.ensures.locals
@@ -297,10 +298,10 @@ expand_kept_item-returns-in_err-value-in-AssignedFunction-clause-runs t c = λ i
     let less = subst (λ (x : code_at.At). IsEnoughBelow x.depth u.form.budget.uses turns) (sym c.in_place-in-AssignedFunction.ensures) (enough_here at.depth u.form.budget.uses turns enough) in
     let P : List Frames → code_core.Core → Core → Type 0 = λ layout. CoreStands d v.unit v.form.number in
     let Q : List Frames → code_part.CorePart → Part → Type 0 = λ layout. PartStands d v.unit v.form.number in
-    let f : Item Identifier → Known → Frames → Step ScopedState Part = λ x known fs. item_part (expand (searched known) turns) (searched known) at.depth fs x in
+    let f : Item Identifier → Known → Frames → Step Noting Part = λ x known fs. item_part (expand (noting known) turns) (noting known) at.depth fs x in
     let e = c.in_err-value-in-AssignedFunction.field-0.0 in
     runs_err Q a d region u v at.scope c.from_residual-in_err-value-in-AssignedFunction.result e (f i) c.from_residual-in_err-value-in-AssignedFunction.ensures.1
-    (as_assigned_function a region u.unit u.form.number (λ x. Runs Q a d region u v at.scope (Err e) (f x)) c.in-AssignedFunction.name c.in-AssignedFunction.here c.in-AssignedFunction.clause i (subst (λ (x : code_kept.Kept). KeptFor a region u.unit u.form.number x i) c.in-AssignedFunction.is for) (λ n m name clause. item_assigned_function_fails a d region u v at.scope turns at.depth P Q n c.in-AssignedFunction.here m e (placed_runs P a d region u v at placed c.in-AssignedFunction.here c.in_place-in-AssignedFunction.ensures (Err e) (λ depth o known fs. assignment (searched known) depth o fs n (λ below. lambda (expand (searched known) turns) (searched known) below o fs m)) (c.in_err-value-in-AssignedFunction.ensures.runs n m turns name clause less))))
+    (as_assigned_function a region u.unit u.form.number (λ x. Runs Q a d region u v at.scope (Err e) (f x)) c.in-AssignedFunction.name c.in-AssignedFunction.here c.in-AssignedFunction.clause i (subst (λ (x : code_kept.Kept). KeptFor a region u.unit u.form.number x i) c.in-AssignedFunction.is for) (λ n m name clause. item_assigned_function_fails a d region u v at.scope turns at.depth P Q n c.in-AssignedFunction.here m e (placed_runs P a d region u v at placed c.in-AssignedFunction.here c.in_place-in-AssignedFunction.ensures (Err e) (λ depth o known fs. assignment (noting known) depth o fs n (λ below. lambda (expand (noting known) turns) (noting known) below o fs m)) (c.in_err-value-in-AssignedFunction.ensures.runs n m turns name clause less))))
 
 pub expand_kept_item-returns-in_ok-value-in-AssignedFunction-clause-runs : goal.expand_kept_item-returns-in_ok-value-in-AssignedFunction-clause-runs
 expand_kept_item-returns-in_ok-value-in-AssignedFunction-clause-runs t c = λ i turns for enough.
@@ -314,9 +315,9 @@ expand_kept_item-returns-in_ok-value-in-AssignedFunction-clause-runs t c = λ i 
     let less = subst (λ (x : code_at.At). IsEnoughBelow x.depth u.form.budget.uses turns) (sym c.in_place-in-AssignedFunction.ensures) (enough_here at.depth u.form.budget.uses turns enough) in
     let P : List Frames → code_core.Core → Core → Type 0 = λ layout. CoreStands d v.unit v.form.number in
     let Q : List Frames → code_part.CorePart → Part → Type 0 = λ layout. PartStands d v.unit v.form.number in
-    let f : Item Identifier → Known → Frames → Step ScopedState Part = λ x known fs. item_part (expand (searched known) turns) (searched known) at.depth fs x in
+    let f : Item Identifier → Known → Frames → Step Noting Part = λ x known fs. item_part (expand (noting known) turns) (noting known) at.depth fs x in
     let x = c.in_ok-value-in-AssignedFunction.value in
-    as_assigned_function a region u.unit u.form.number (λ y. Runs Q a d region u v at.scope (Ok (core_parts.Expression x)) (f y)) c.in-AssignedFunction.name c.in-AssignedFunction.here c.in-AssignedFunction.clause i (subst (λ (x : code_kept.Kept). KeptFor a region u.unit u.form.number x i) c.in-AssignedFunction.is for) (λ n m name clause. item_assigned_function a d region u v at.scope turns at.depth n c.in-AssignedFunction.here m x (placed_runs P a d region u v at placed c.in-AssignedFunction.here c.in_place-in-AssignedFunction.ensures (Ok x) (λ depth o known fs. assignment (searched known) depth o fs n (λ below. lambda (expand (searched known) turns) (searched known) below o fs m)) (c.in_ok-value-in-AssignedFunction.ensures.runs n m turns name clause less)))
+    as_assigned_function a region u.unit u.form.number (λ y. Runs Q a d region u v at.scope (Ok (core_parts.Expression x)) (f y)) c.in-AssignedFunction.name c.in-AssignedFunction.here c.in-AssignedFunction.clause i (subst (λ (x : code_kept.Kept). KeptFor a region u.unit u.form.number x i) c.in-AssignedFunction.is for) (λ n m name clause. item_assigned_function a d region u v at.scope turns at.depth n c.in-AssignedFunction.here m x (placed_runs P a d region u v at placed c.in-AssignedFunction.here c.in_place-in-AssignedFunction.ensures (Ok x) (λ depth o known fs. assignment (noting known) depth o fs n (λ below. lambda (expand (noting known) turns) (noting known) below o fs m)) (c.in_ok-value-in-AssignedFunction.ensures.runs n m turns name clause less)))
 
 pub expand_kept_item-returns-in_ok-value-in-AssignedFunction-clause-locals : goal.expand_kept_item-returns-in_ok-value-in-AssignedFunction-clause-locals
 expand_kept_item-returns-in_ok-value-in-AssignedFunction-clause-locals t c = c.in_ok-value-in-AssignedFunction.ensures.locals

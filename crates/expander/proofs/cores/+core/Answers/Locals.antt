@@ -6,7 +6,7 @@ use Rattle.scheme_model.specs.Shapes.{LocalMacros}
 use Rattle.scheme_model.specs.Cores.{Core}
 use Rattle.scheme_model.specs.Steps.{Step}
 use Rattle.scheme_model.specs.Expression.{body, expand}
-use Rattle.scheme_model.specs.ScopedExpansion.{Frames, ScopedState}
+use Rattle.scheme_model.specs.ScopedExpansion.{Frames}
 use Rattle.core_forms.specs.Parts.{AllMatch as AllParts, IsName}
 use Rattle.core_forms.specs.declared.shape.NamePart.{NamePart}
 use Rattle.core_tree.specs.Cores.{CoreStands}
@@ -14,8 +14,6 @@ use Rattle.core_tree.specs.declared.cores.Binder as code_binder
 use Rattle.core_tree.specs.declared.cores.Core as code_core
 use Rattle.expander.specs.Bodies.{AreLocalMacros, CanKeep, HaveNumbers}
 use Rattle.expander.specs.Expanded.{macros_step}
-use Rattle.unit_scopes.specs.Outcomes.{Runs}
-use Rattle.unit_scopes.specs.Searched.{searched}
 use Rattle.feature_requirements.specs.declared.fault.ExpandFault.TheVariants as fault
 use Rattle.unit_scopes.specs.declared.scope.UnitScope.{UnitScope}
 use Rattle.expander.proofs.AfterLaws.{enough_deeper}
@@ -26,6 +24,8 @@ use Rattle.expander.proofs.ShapeParts.{macros_named}
 use Rattle.expander.proofs.StepLaws.{runs_err}
 use Rattle.expander.proofs.cores.+core.Goals as goal
 use Rattle.expander.proofs.cores.+core.Goals.{local_macros-then-recursive, local_macros-else-recursive}
+use Rattle.noted_steps.specs.Noting.{Noting, noting}
+use Rattle.noted_steps.specs.Outcomes.{Runs}
 
 -- ---- local macros
 
@@ -35,7 +35,7 @@ local_macros-returns-in_err-names_of-clause-runs t c = λ m turns are stand enou
     let u = c.args.units.now in
     let at = c.args.at in
     let Q : List Frames → code_core.Core → Core → Type 0 = λ layout. CoreStands a u.unit u.form.number in
-    let f : Known → Frames → Step ScopedState Core = λ known fs. macros_step c.args.recursive (expand (searched known) turns) (searched known) at.depth at.here fs m in
+    let f : Known → Frames → Step Noting Core = λ known fs. macros_step c.args.recursive (expand (noting known) turns) (noting known) at.depth at.here fs m in
     runs_err Q a a c.args.region.now u u at.scope c.from_residual.result fault.Memory f c.from_residual.ensures.1 (runs_nothing Q a c.args.region.now u u at.scope f)
 
 pub local_macros-bind_names-requires-clause-scope : goal.local_macros-bind_names-requires-clause-scope
@@ -52,7 +52,7 @@ local_macros-returns-in_err-scope-clause-runs t c = λ m turns are stand enough.
     let v = c.bind_names.new.self in
     let at = c.args.at in
     let Q : List Frames → code_core.Core → Core → Type 0 = λ layout. CoreStands a v.unit v.form.number in
-    let f : Known → Frames → Step ScopedState Core = λ known fs. macros_step c.args.recursive (expand (searched known) turns) (searched known) at.depth at.here fs m in
+    let f : Known → Frames → Step Noting Core = λ known fs. macros_step c.args.recursive (expand (noting known) turns) (noting known) at.depth at.here fs m in
     runs_err Q a a c.args.region.now c.args.units.now v at.scope c.from_residual-in_err-scope.result fault.Memory f c.from_residual-in_err-scope.ensures.1 (runs_nothing Q a c.args.region.now c.args.units.now v at.scope f)
 
 pub local_macros-test_all_rules-requires-clause-look : goal.local_macros-test_all_rules-requires-clause-look
@@ -109,7 +109,7 @@ local_macros-returns-in_err-test_all_rules-clause-runs t c = λ m turns are stan
     let d = c.args.work.now in
     let v = c.bind_names.new.self in
     let Q : List Frames → code_core.Core → Core → Type 0 = λ layout. CoreStands d v.unit v.form.number in
-    let f : Known → Frames → Step ScopedState Core = λ known fs. macros_step c.args.recursive (expand (searched known) turns) (searched known) at.depth at.here fs m in
+    let f : Known → Frames → Step Noting Core = λ known fs. macros_step c.args.recursive (expand (noting known) turns) (noting known) at.depth at.here fs m in
     runs_err Q a d region u v at.scope c.from_residual-in_err-test_all_rules.result c.in_err-test_all_rules.field-0.0 f c.from_residual-in_err-test_all_rules.ensures.1
     (local_untested a region u w1 at c.args.recursive m c.args.macros.now xs inner rules_at bs apart sound names room h place are Q turns c.in_err-test_all_rules.field-0.0 c.in_err-test_all_rules.ensures)
 
@@ -165,7 +165,7 @@ local_macros-returns-in_err-below-clause-runs t c = λ m turns are stand enough.
     let d = c.args.work.now in
     let v = c.below.new.units in
     let Q : List Frames → code_core.Core → Core → Type 0 = λ layout. CoreStands d v.unit v.form.number in
-    let f : Known → Frames → Step ScopedState Core = λ known fs. macros_step c.args.recursive (expand (searched known) turns) (searched known) at.depth at.here fs m in
+    let f : Known → Frames → Step Noting Core = λ known fs. macros_step c.args.recursive (expand (noting known) turns) (noting known) at.depth at.here fs m in
     runs_err Q a d region u v at.scope c.from_residual-in_err-below.result c.in_err-below.field-0.0 f c.from_residual-in_err-below.ensures.1
     (local_unbegun a region u w1 at c.args.recursive m c.args.macros.now xs inner rules_at bs apart sound names room h place are tt c.in_ok-test_all_rules.ensures v Q turns c.in_err-below.field-0.0 c.in_err-below.ensures)
 
@@ -278,7 +278,7 @@ local_macros-returns-in_err-keep_all-clause-runs t c = λ m turns are stand enou
     let d = c.args.work.now in
     let v = c.keep_all.new.units in
     let Q : List Frames → code_core.Core → Core → Type 0 = λ layout. CoreStands d v.unit v.form.number in
-    let f : Known → Frames → Step ScopedState Core = λ known fs. macros_step c.args.recursive (expand (searched known) turns) (searched known) at.depth at.here fs m in
+    let f : Known → Frames → Step Noting Core = λ known fs. macros_step c.args.recursive (expand (noting known) turns) (noting known) at.depth at.here fs m in
     runs_err Q a d region u v at.scope c.from_residual-in_err-keep_all.result c.in_err-keep_all.field-0.0 f c.from_residual-in_err-keep_all.ensures.1
     (local_unkept a region u w1 at c.args.recursive m c.args.macros.now xs inner rules_at bs apart sound names room h place are tt c.in_ok-test_all_rules.ensures w2 below b Q turns v c.in_err-keep_all.field-0.0 (λ known r ls s fs ns ts vs rs stands there macros numbers read. c.in_err-keep_all.ensures.kept known r ls s fs ns ts vs rs stands there macros (subst (λ (l : List code_binder.Binder). HaveNumbers s l vs) (sym c.deref-2.ensures.value) numbers) read))
 
@@ -339,7 +339,7 @@ local_macros-returns-in_err-macros-clause-runs t c = λ m turns are stand enough
     let d = c.args.work.now in
     let v = c.keep_all.new.units in
     let Q : List Frames → code_core.Core → Core → Type 0 = λ layout. CoreStands d v.unit v.form.number in
-    let f : Known → Frames → Step ScopedState Core = λ known fs. macros_step c.args.recursive (expand (searched known) turns) (searched known) at.depth at.here fs m in
+    let f : Known → Frames → Step Noting Core = λ known fs. macros_step c.args.recursive (expand (noting known) turns) (noting known) at.depth at.here fs m in
     runs_err Q a d region u v at.scope c.from_residual-in_err-macros.result fault.Memory f c.from_residual-in_err-macros.ensures.1
     (runs_nothing Q a region u v at.scope f)
 
@@ -420,7 +420,7 @@ local_macros-returns-in_err-body-clause-runs t c = λ m turns are stand enough.
     let d = c.body.new.work in
     let v = c.body.new.units in
     let Q : List Frames → code_core.Core → Core → Type 0 = λ layout. CoreStands d v.unit v.form.number in
-    let f : Known → Frames → Step ScopedState Core = λ known fs. macros_step c.args.recursive (expand (searched known) turns) (searched known) at.depth at.here fs m in
+    let f : Known → Frames → Step Noting Core = λ known fs. macros_step c.args.recursive (expand (noting known) turns) (noting known) at.depth at.here fs m in
     runs_err Q a d region u v at.scope c.from_residual-in_err-body.result c.in_err-body.field-0.0 f c.from_residual-in_err-body.ensures.1
     (local_body_fails a region u w1 at c.args.recursive m c.args.macros.now xs inner rules_at bs apart sound names room h place are tt c.in_ok-test_all_rules.ensures w2 below b w3 tt keeps d v turns Q c.in_err-body.field-0.0 (c.in_err-body.ensures.runs m.body turns stand now))
 
@@ -460,9 +460,9 @@ local_macros-returns-in_err-new-clause-runs t c = λ m turns are stand enough.
     let d = c.body.new.work in
     let v = c.body.new.units in
     let Q : List Frames → code_core.Core → Core → Type 0 = λ layout. CoreStands d v.unit v.form.number in
-    let f : Known → Frames → Step ScopedState Core = λ known fs. macros_step c.args.recursive (expand (searched known) turns) (searched known) at.depth at.here fs m in
+    let f : Known → Frames → Step Noting Core = λ known fs. macros_step c.args.recursive (expand (noting known) turns) (noting known) at.depth at.here fs m in
     runs_err Q a d region u v at.scope c.from_residual-in_err-new.result fault.Memory f c.from_residual-in_err-new.ensures.1
-    (local_body_fails a region u w1 at c.args.recursive m c.args.macros.now xs inner rules_at bs apart sound names room h place are tt c.in_ok-test_all_rules.ensures w2 below b w3 tt keeps d v turns Q fault.Memory (runs_memory Q Q a d region w3 v inner c.in_ok-body.body (λ known fs. expand (searched known) turns below.depth below.here fs (body m.body)) (λ known fs. expand (searched known) turns below.depth below.here fs (body m.body)) (c.in_ok-body.ensures.runs m.body turns stand now)))
+    (local_body_fails a region u w1 at c.args.recursive m c.args.macros.now xs inner rules_at bs apart sound names room h place are tt c.in_ok-test_all_rules.ensures w2 below b w3 tt keeps d v turns Q fault.Memory (runs_memory Q Q a d region w3 v inner c.in_ok-body.body (λ known fs. expand (noting known) turns below.depth below.here fs (body m.body)) (λ known fs. expand (noting known) turns below.depth below.here fs (body m.body)) (c.in_ok-body.ensures.runs m.body turns stand now)))
 
 pub local_macros-returns-clause-runs : goal.local_macros-returns-clause-runs
 local_macros-returns-clause-runs t c = λ m turns are stand enough.
@@ -500,9 +500,9 @@ local_macros-returns-clause-runs t c = λ m turns are stand enough.
     let d = c.body.new.work in
     let v = c.body.new.units in
     let Q : List Frames → code_core.Core → Core → Type 0 = λ layout. CoreStands d v.unit v.form.number in
-    let f : Known → Frames → Step ScopedState Core = λ known fs. macros_step c.args.recursive (expand (searched known) turns) (searched known) at.depth at.here fs m in
+    let f : Known → Frames → Step Noting Core = λ known fs. macros_step c.args.recursive (expand (noting known) turns) (noting known) at.depth at.here fs m in
     local_body_goes a region u w1 at c.args.recursive m c.args.macros.now xs inner rules_at bs apart sound names room h place are tt c.in_ok-test_all_rules.ensures w2 below b w3 tt keeps d v turns c.in_ok-macros.macros c.in_ok-new.field-0 (λ known ls s vs ns stands macros. c.in_ok-macros.ensures known ls s vs ns stands (subst (λ (l : List code_binder.Binder). AreLocalMacros a s l vs ns) (sym c.deref-3.ensures.value) macros))
-    (subst (λ (q : code_core.Core). Runs Q a d region w3 v inner (Ok q) (λ known fs. expand (searched known) turns below.depth below.here fs (body m.body))) (sym c.in_ok-new.ensures.ok) (c.in_ok-body.ensures.runs m.body turns stand now))
+    (subst (λ (q : code_core.Core). Runs Q a d region w3 v inner (Ok q) (λ known fs. expand (noting known) turns below.depth below.here fs (body m.body))) (sym c.in_ok-new.ensures.ok) (c.in_ok-body.ensures.runs m.body turns stand now))
 
 pub local_macros-returns-clause-locals : goal.local_macros-returns-clause-locals
 local_macros-returns-clause-locals t c =
