@@ -19,7 +19,7 @@ use Rattle.core_tree.specs.Cores.{CoreStands}
 use Rattle.core_tree.specs.declared.cores.Core as code_core
 use Rattle.unit_scopes.specs.Counts.{Begins}
 use Rattle.feature_requirements.specs.Judged.{Knows, library_text}
-use Rattle.unit_scopes.specs.Outcomes.{At, Grows, SameForm, CanLook, WorksOn, IsEnough, IsEnoughBelow, HasRoom, Spends}
+use Rattle.unit_scopes.specs.Outcomes.{At, Grows, SameForm, WorksOn, IsEnough, IsEnoughBelow, HasRoom, Spends}
 use Rattle.expander.specs.Ready.{IsSettled, Settles, Reads, Expanding}
 use Rattle.expander.specs.declared.expressions.Ready.TheVariants as ready
 use Rattle.feature_requirements.specs.declared.fault.ExpandFault.{ExpandFault}
@@ -32,6 +32,7 @@ use Rattle.noted_steps.specs.Outcomes.{Stays, Moves, Ends, Runs}
 use Rattle.noted_steps.proofs.OutcomeLaws.{ends_after, moves_here, here_ends}
 use Rattle.noted_steps.proofs.CountingStands.{nodes_stand}
 use Rattle.noted_steps.proofs.NodeLaws.{spends, begins_goes, here_done}
+use Rattle.noted_steps.specs.Kept.{CanLook}
 
 -- ---- what can be done after a call
 

@@ -11,7 +11,7 @@ use Rattle.std.specs.BTreeSet.{BTreeSet}
 use Rattle.std.specs.Prelude.{String}
 use Rattle.std.specs.declared.alloc.Global.{Global}
 use Rattle.feature_requirements.specs.Judged.{Knows}
-use Rattle.unit_scopes.specs.Outcomes.{At, CanLook, IsEnough, IsEnoughBelow, HasRoom, Spends}
+use Rattle.unit_scopes.specs.Outcomes.{At, IsEnough, IsEnoughBelow, HasRoom, Spends}
 use Rattle.expander.specs.Ready.{BeginsBelow}
 use Rattle.expander.specs.declared.expressions.At as code_at
 use Rattle.feature_requirements.specs.declared.fault.ExpandFault.{ExpandFault}
@@ -25,6 +25,7 @@ use Rattle.noted_steps.specs.Stepped.{spent}
 use Rattle.noted_steps.specs.Outcomes.{Ends}
 use Rattle.noted_steps.proofs.OutcomeLaws.{here_ends, ends_fails}
 use Rattle.noted_steps.proofs.NodeLaws.{begins_fails}
+use Rattle.noted_steps.specs.Kept.{CanLook}
 
 -- ---- where the parts stand
 

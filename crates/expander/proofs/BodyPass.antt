@@ -22,7 +22,7 @@ use Rattle.unit_scopes.specs.State.{most_locals}
 use Rattle.unit_scopes.specs.Stepped.{with_uses}
 use Rattle.form_parts.specs.FormsSeen.{form_at}
 use Rattle.unit_scopes.specs.Kept.{KeptFor, WaitsFor, PendingFor, NoteFor, NotesFor, forms_size, left_with}
-use Rattle.unit_scopes.specs.Outcomes.{At, CanLook, Leaves}
+use Rattle.unit_scopes.specs.Outcomes.{At, Leaves}
 use Rattle.expander.specs.Passed.{CanPass, Passes}
 use Rattle.unit_scopes.specs.declared.asked.Asked.{Asked}
 use Rattle.unit_scopes.specs.declared.asked.Note as code_note
@@ -44,6 +44,7 @@ use Rattle.noted_steps.specs.Stepped.{entered, entered_frames}
 use Rattle.noted_steps.specs.Outcomes.{Stays, Moves, Ends}
 use Rattle.noted_steps.proofs.OutcomeLaws.{stays_on, leaves_on, fills_on}
 use Rattle.noted_steps.specs.Kept.{SpotFor}
+use Rattle.noted_steps.specs.Kept.{CanLook}
 
 forms_of_size : (here : Here) (ts : Trees Identifier) → forms_size (forms_at here ts) ≡ trees_size ts
 forms_of_size here no_trees = refl

@@ -31,7 +31,7 @@ use Rattle.unit_scopes.specs.Binds.{Binds}
 use Rattle.expander.specs.Bodies.{BodyFor, body_pass}
 use Rattle.feature_requirements.specs.Judged.{Knows}
 use Rattle.unit_scopes.specs.Kept.{KeptFor}
-use Rattle.unit_scopes.specs.Outcomes.{At, CanLook, IsEnough, HasRoom, Spends}
+use Rattle.unit_scopes.specs.Outcomes.{At, IsEnough, HasRoom, Spends}
 use Rattle.expander.specs.Ready.{BeginsBelow}
 use Rattle.unit_scopes.specs.State.{most_locals}
 use Rattle.unit_scopes.specs.Stepped.{bound_frames}
@@ -54,6 +54,7 @@ use Rattle.noted_steps.specs.Standing.{Stands}
 use Rattle.noted_steps.specs.Stepped.{spent, taken, entered, entered_frames}
 use Rattle.noted_steps.proofs.NodeLaws.{ends_then}
 use Rattle.noted_steps.proofs.OutcomeLaws.{ends_fails}
+use Rattle.noted_steps.specs.Kept.{CanLook}
 
 -- ---- trees stand for the same
 

@@ -21,7 +21,7 @@ use Rattle.core_tree.specs.declared.cores.CorePart as code_part
 use Rattle.expander.specs.Bodies.{BodyFor, body_pass}
 use Rattle.expander.specs.Expanded.{AreKeptAtWork, BodyAtWork, ClauseAtWork, ClauseStands, KeptAtWork}
 use Rattle.unit_scopes.specs.Kept.{ClauseFor, KeptFor}
-use Rattle.unit_scopes.specs.Outcomes.{CanLook, IsAtWork, IsEnough, IsEnoughBelow}
+use Rattle.unit_scopes.specs.Outcomes.{IsAtWork, IsEnough, IsEnoughBelow}
 use Rattle.expander.specs.declared.expressions.At as code_at
 use Rattle.feature_requirements.specs.declared.fault.ExpandFault.{ExpandFault}
 use Rattle.form_parts.specs.declared.items.Kept as code_kept
@@ -29,6 +29,7 @@ use Rattle.unit_scopes.specs.declared.scope.UnitScope.{UnitScope}
 use Rattle.expander.proofs.AfterLaws.{IsAfter, all_known, enough_there, runs_after}
 use Rattle.noted_steps.specs.Outcomes.{Runs}
 use Rattle.noted_steps.specs.Noting.{noting}
+use Rattle.noted_steps.specs.Kept.{CanLook}
 
 module _ (old new : Work) (region : Region) (u v : UnitScope) (at : code_at.At) where
   -- an expression

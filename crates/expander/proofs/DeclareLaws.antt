@@ -17,7 +17,7 @@ use Rattle.unit_scopes.specs.Kept.{KeptFor, WaitsFor, FormFor, PendingFor}
 use Rattle.unit_scopes.specs.Outcomes.{Leaves, SameForm, IsAtWork, HasRoom}
 use Rattle.expander.specs.Passed.{CanPass, Passes}
 use Rattle.form_parts.specs.FormsSeen.{form_at, item_of}
-use Rattle.unit_scopes.specs.Units.{form_at as at_form, ItemFor, CanSet, Sets}
+use Rattle.unit_scopes.specs.Units.{form_at as at_form, ItemFor, Sets}
 use Rattle.unit_scopes.specs.declared.asked.Asked.{Asked}
 use Rattle.feature_requirements.specs.declared.fault.ExpandFault.{ExpandFault}
 use Rattle.feature_requirements.specs.declared.fault.ExpandFault.TheVariants as fault
@@ -36,6 +36,7 @@ use Rattle.noted_steps.specs.Noting.{Noting}
 use Rattle.noted_steps.specs.Outcomes.{Stays, Moves, Ends}
 use Rattle.noted_steps.specs.Standing.{Stands}
 use Rattle.noted_steps.specs.Kept.{SpotFor}
+use Rattle.noted_steps.specs.Kept.{CanSet}
 
 abbrev pub asking : UnitScope → Asked → UnitScope
 asking u a = record u { asked = a }

@@ -24,7 +24,7 @@ use Rattle.core_tree.specs.declared.cores.Core as code_core
 use Rattle.expander.specs.CoreSteps.{core_step, IsLeft}
 use Rattle.expander.specs.Expanded.{AreAtWork, ShapeAtWork}
 use Rattle.feature_requirements.specs.Judged.{Knows}
-use Rattle.unit_scopes.specs.Outcomes.{At, CanLook, IsAtWork, WorksOn, IsEnough, IsEnoughBelow}
+use Rattle.unit_scopes.specs.Outcomes.{At, IsAtWork, WorksOn, IsEnough, IsEnoughBelow}
 use Rattle.expander.specs.Passed.{ShapeFits}
 use Rattle.expander.specs.Ready.{Prepares, BeginsBelow}
 use Rattle.expander.specs.declared.expressions.At as code_at
@@ -40,6 +40,7 @@ use Rattle.expander.proofs.StepLaws.{node_runs, node_stops, runs_same}
 use Rattle.noted_steps.specs.Noting.{Noting, noting}
 use Rattle.noted_steps.specs.Outcomes.{Runs}
 use Rattle.noted_steps.specs.Standing.{Stands}
+use Rattle.noted_steps.specs.Kept.{CanLook}
 
 -- ---- what was read
 

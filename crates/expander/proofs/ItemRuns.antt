@@ -24,7 +24,7 @@ use Rattle.core_tree.specs.declared.cores.Binder as code_binder
 use Rattle.core_tree.specs.declared.cores.Core as code_core
 use Rattle.core_tree.specs.declared.cores.CorePart as code_part
 use Rattle.core_tree.specs.declared.cores.CorePart.TheVariants as parts
-use Rattle.unit_scopes.specs.Outcomes.{CanLook, Grows, SameForm, IsEnough, IsEnoughBelow}
+use Rattle.unit_scopes.specs.Outcomes.{Grows, SameForm, IsEnough, IsEnoughBelow}
 use Rattle.unit_scopes.specs.RulesTold.{CanTell}
 use Rattle.expander.specs.declared.expressions.At as code_at
 use Rattle.feature_requirements.specs.declared.fault.ExpandFault.{ExpandFault}
@@ -37,6 +37,7 @@ use Rattle.noted_steps.specs.Outcomes.{Runs}
 use Rattle.noted_steps.specs.Standing.{Stands}
 use Rattle.noted_steps.proofs.NodeLaws.{here_done}
 use Rattle.noted_steps.proofs.OutcomeLaws.{here_ends, stays_itself}
+use Rattle.noted_steps.specs.Kept.{CanLook}
 
 -- a call at a place of its own, as one at this place
 pub placed_runs : {X Y : Type 0} (P : List Frames → X → Y → Type 0) (old new : Work) (region : Region) (u v : UnitScope) (at placed : code_at.At) (o : Option Occ) → placed ≡ record at { here = o } → (result : Result X ExpandFault) (g : ℕ → Option Occ → Known → Frames → Step Noting Y) →

@@ -25,7 +25,6 @@ use Rattle.expander.specs.Bodies.{HaveNumbers, RulesAre}
 use Rattle.unit_scopes.specs.Macros.{Keeps}
 use Rattle.unit_scopes.specs.State.{IsMacro}
 use Rattle.unit_scopes.specs.Stepped.{with_macros}
-use Rattle.unit_scopes.specs.Outcomes.{CanLook}
 use Rattle.feature_requirements.specs.declared.fault.ExpandFault.{ExpandFault}
 use Rattle.unit_scopes.specs.declared.macros.Macro.{Macro}
 use Rattle.unit_scopes.specs.declared.macros.Macros.{Macros}
@@ -37,6 +36,7 @@ use Rattle.noted_steps.specs.Standing.{Stands}
 use Rattle.noted_steps.specs.Stepped.{kept}
 use Rattle.noted_steps.specs.Outcomes.{Stays, EndsHere}
 use Rattle.noted_steps.proofs.OutcomeLaws.{stays_itself, stays_on, here_after, here_fails, bound_goes}
+use Rattle.noted_steps.specs.Kept.{CanLook}
 
 -- ---- rules that have a head
 

@@ -33,7 +33,7 @@ use Rattle.unit_scopes.specs.Binds.{Binds, local_binders}
 use Rattle.expander.specs.Bodies.{AreLocalMacros, CanKeep, HaveHeads, HaveNumbers}
 use Rattle.expander.specs.Expanded.{MacrosAtWork, macros_step}
 use Rattle.feature_requirements.specs.Judged.{Knows}
-use Rattle.unit_scopes.specs.Outcomes.{At, CanLook, SameForm}
+use Rattle.unit_scopes.specs.Outcomes.{At, SameForm}
 use Rattle.expander.specs.Ready.{BeginsBelow}
 use Rattle.unit_scopes.specs.RulesTold.{Tests}
 use Rattle.unit_scopes.specs.State.{most_locals}
@@ -60,6 +60,7 @@ use Rattle.noted_steps.specs.Stepped.{spent, taken}
 use Rattle.noted_steps.proofs.CountingStands.{nodes_stand}
 use Rattle.noted_steps.proofs.NodeLaws.{here_then}
 use Rattle.noted_steps.proofs.OutcomeLaws.{stays_itself, moves_here, here_ends, ends_after, ends_fails}
+use Rattle.noted_steps.specs.Kept.{CanLook}
 
 -- ---- the heads of rules are the same when nodes were counted
 

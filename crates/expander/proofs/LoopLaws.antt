@@ -11,7 +11,7 @@ use Rattle.syntax_tree.specs.declared.trees.Work.{Work}
 use Rattle.syntax_tree.specs.declared.trees.table.Region.{Region}
 use Rattle.core_tree.specs.Names.{AllMatch}
 use Rattle.feature_requirements.specs.Judged.{Knows}
-use Rattle.unit_scopes.specs.Outcomes.{At, SameForm, CanLook}
+use Rattle.unit_scopes.specs.Outcomes.{At, SameForm}
 use Rattle.feature_requirements.specs.declared.fault.ExpandFault.{ExpandFault}
 use Rattle.feature_requirements.specs.declared.fault.ExpandFault.TheVariants as fault
 use Rattle.unit_scopes.specs.declared.scope.UnitScope.{UnitScope}
@@ -22,6 +22,7 @@ use Rattle.noted_steps.specs.Noting.{Noting}
 use Rattle.noted_steps.specs.Outcomes.{Moves, Ends, Runs}
 use Rattle.noted_steps.proofs.OutcomeLaws.{stays_itself, moves_here, ends_fails}
 use Rattle.noted_steps.proofs.NodeLaws.{ends_err}
+use Rattle.noted_steps.specs.Kept.{CanLook}
 
 -- ---- what can be done after calls
 
@@ -39,7 +40,7 @@ knows_on known u v same knows = subst (λ (l : BTreeSet (String Global)). Knows 
 module _ {A X Y : Type 0} (f : Known → Frames → A → Step Noting Y) where
   pub runs_none : (P : X → Y → Type 0) (work : Work) (region : Region) (u : UnitScope) (scope : ℕ) (xs : List X) → xs ≡ [] → Runs (λ layout. AllMatch P) work work region u u scope (Ok xs) (λ known fs. row (f known fs) [])
   runs_none P work region u scope xs none = λ known ls s fs knows stands at.
-      subst (λ (zs : List X). Ends (λ layout. AllMatch P) work work region u u ls (Ok zs) (done {S = ScopedState} {A = List Y} [] s)) (sym none)
+      subst (λ (zs : List X). Ends (λ layout. AllMatch P) work work region u u ls (Ok zs) (done {S = Noting} {A = List Y} [] s)) (sym none)
       ([], moves_here work work region u u ls s (stays_itself work region u ls s stands), refl, tt)
 
   module _ (P Q : X → Y → Type 0) (on : (x : X) (y : Y) → P x y → Q x y) (a b c : Work) (region : Region) (u w v : UnitScope) (scope : ℕ) (xs : List X) (k : ℕ) (es : List A) (e : A) (split : take (suc k) es ≡ take k es ++ e ∷ [])

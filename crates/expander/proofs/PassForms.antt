@@ -24,16 +24,14 @@ use Rattle.syntax_tree.specs.declared.trees.table.Region.{Region}
 use Rattle.core_tree.specs.Names.{IsTarget}
 use Rattle.core_tree.specs.Traces.{IsFault}
 use Rattle.core_tree.specs.declared.cores.Target as code_target
-use Rattle.unit_scopes.specs.Defining.{CanGo}
 use Rattle.form_parts.specs.Heads.{IsHead}
 use Rattle.unit_scopes.specs.State.{most_locals}
 use Rattle.unit_scopes.specs.Stepped.{with_keyword}
 use Rattle.feature_requirements.specs.Judged.{IsBadForm}
 use Rattle.unit_scopes.specs.Kept.{FormFor, PendingFor, NotesFor, left_with}
-use Rattle.unit_scopes.specs.Outcomes.{At, CanLook}
+use Rattle.unit_scopes.specs.Outcomes.{At}
 use Rattle.expander.specs.Passed.{CanPass, GoesOn, IsPassed, ShapeFits, shape_weight}
 use Rattle.form_parts.specs.FormsSeen.{head_name_of, takes_effect}
-use Rattle.unit_scopes.specs.Used.{CanUse}
 use Rattle.unit_scopes.specs.declared.asked.Asked.{Asked}
 use Rattle.feature_requirements.specs.declared.fault.ExpandFault.{ExpandFault}
 use Rattle.feature_requirements.specs.declared.fault.ExpandFault.TheVariants as fault
@@ -58,6 +56,7 @@ use Rattle.noted_steps.specs.Stepped.{met}
 use Rattle.noted_steps.specs.Outcomes.{Stays}
 use Rattle.noted_steps.proofs.CountingStands.{keyword_stands}
 use Rattle.noted_steps.specs.Kept.{SpotFor, UseFor}
+use Rattle.noted_steps.specs.Kept.{CanGo, CanLook, CanUse}
 
 -- ---- heads
 

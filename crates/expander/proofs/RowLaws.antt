@@ -169,7 +169,7 @@ trees_in (tree t ts) = t ∷ trees_in ts
 -- a value at the head of the row, however the row is told
 put_as : {Y Z : Type 0} (tell : List Y → Z) (with : Y → Z → Z) → ((y : Y) (ys : List Y) → with y (tell ys) ≡ tell (y ∷ ys)) → (y : Y) (r : Result (List Y) Broken × Noting) →
     ((r >>= λ ys. done (tell ys)) >>= λ z. done (with y z)) ≡ ((r >>= λ ys. done (y ∷ ys)) >>= λ ys. done (tell ys))
-put_as {Z = Z} tell with same y (Ok ys, t) = ap (λ (z : Z). done {S = ScopedState} z t) (same y ys)
+put_as {Z = Z} tell with same y (Ok ys, t) = ap (λ (z : Z). done {S = Noting} z t) (same y ys)
 put_as tell with same y (Err e, t) = refl
 
 module _ (f : Tree Identifier → Step Noting Core) where

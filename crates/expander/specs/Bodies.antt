@@ -22,12 +22,13 @@ use Rattle.core_tree.specs.Names.{AllMatch, IsBinder}
 use Rattle.core_tree.specs.declared.cores.Binder as code_binder
 use Rattle.unit_scopes.specs.State.{most_locals}
 use Rattle.unit_scopes.specs.Kept.{KeptFor}
-use Rattle.unit_scopes.specs.Outcomes.{At, CanLook}
+use Rattle.unit_scopes.specs.Outcomes.{At}
 use Rattle.form_parts.specs.declared.items.Kept as code_kept
 use Rattle.unit_scopes.specs.declared.scope.UnitScope.{UnitScope}
 use Rattle.noted_steps.specs.Noting.{Noting, noting}
 use Rattle.noted_steps.specs.Standing.{Stands}
 use Rattle.noted_steps.specs.Stepped.{entered, entered_frames}
+use Rattle.noted_steps.specs.Kept.{CanLook}
 
 -- ---- bodies
 

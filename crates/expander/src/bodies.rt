@@ -16,7 +16,7 @@ ghost use Rattle.syntax_tree.specs.declared.trees.table.Region.{Region as AnyReg
 ghost use Rattle.core_forms.specs.Parts.{AreMacros};
 ghost use Rattle.core_tree.specs.Names.{AllMatch, IsMacro as IsMacroDef};
 ghost use Rattle.expander.specs.Bodies.{AreLocalMacros, BodyFor, CanEnter, CanKeep, HaveHeads, HaveNumbers, HaveRules, body_pass};
-ghost use Rattle.unit_scopes.specs.Outcomes.{At as Stand, CanLook};
+ghost use Rattle.unit_scopes.specs.Outcomes.{At as Stand};
 ghost use Rattle.unit_scopes.specs.RulesTold.{Tests};
 
 use crate::expressions::At;
@@ -36,6 +36,7 @@ use unit_scopes::scope::UnitScope;
 ghost use Rattle.noted_steps.specs.Noting.{Noting, noting};
 ghost use Rattle.noted_steps.specs.Standing.{Stands};
 ghost use Rattle.noted_steps.specs.Outcomes.{EndsHere, Runs};
+ghost use Rattle.noted_steps.specs.Kept.{CanLook};
 
 /// Where a form stands that was set aside: the scope of its body, and the place that it keeps.
 pub fn in_place(at: At, here: Option<Occ>) -> At

@@ -18,7 +18,7 @@ ghost use Rattle.expander.specs.CoreSteps.{case_lambda, conditional, core_step, 
 ghost use Rattle.unit_scopes.specs.Defining.{HasNumber};
 ghost use Rattle.unit_scopes.specs.Kept.{ClauseFor, KeptFor};
 ghost use Rattle.expander.specs.Passed.{ShapeFits};
-ghost use Rattle.unit_scopes.specs.Outcomes.{CanLook, IsAtWork, IsEnough, IsEnoughBelow, HasRoom, Spends};
+ghost use Rattle.unit_scopes.specs.Outcomes.{IsAtWork, IsEnough, IsEnoughBelow, HasRoom, Spends};
 ghost use Rattle.expander.specs.Expanded.{AreAtWork, BodyAtWork, ClauseStands, macros_step, ShapeAtWork, ClauseAtWork, ClausesAtWork, KeptAtWork, AreKeptAtWork, MacrosAtWork};
 
 use crate::bodies::{in_place, keep_all, local_defs, pass_body, test_all_rules};
@@ -35,6 +35,7 @@ use syntax_tree::trees::{Region, Tree, Work};
 use unit_scopes::scope::UnitScope;
 ghost use Rattle.noted_steps.specs.Noting.{noting};
 ghost use Rattle.noted_steps.specs.Outcomes.{Runs};
+ghost use Rattle.noted_steps.specs.Kept.{CanLook};
 
 /// The core of an expression.
 #[cycle(core)]

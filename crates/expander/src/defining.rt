@@ -15,7 +15,7 @@ ghost use Rattle.unit_scopes.specs.State.{most_locals};
 ghost use Rattle.unit_scopes.specs.Kept.{NotesFor, PendingFor, ClauseFor};
 ghost use Rattle.syntax_tree.specs.Works.{IsStanding, StandsFor};
 ghost use Rattle.unit_scopes.specs.Outcomes.{WorksOn};
-ghost use Rattle.unit_scopes.specs.Defining.{CanGo, HasNumber, Takes, define_each};
+ghost use Rattle.unit_scopes.specs.Defining.{HasNumber, Takes, define_each};
 ghost use Rattle.expander.specs.Passed.{GoesOn};
 ghost use Rattle.form_parts.specs.Records.{IsRecordFor};
 
@@ -32,6 +32,7 @@ use unit_scopes::scope::UnitScope;
 ghost use Rattle.noted_steps.specs.Noting.{Noting, noting};
 ghost use Rattle.noted_steps.specs.Standing.{Stands};
 ghost use Rattle.noted_steps.specs.Kept.{SpotFor, EndsIn};
+ghost use Rattle.noted_steps.specs.Kept.{CanGo};
 
 /// `(define id e)`, or a later one of a program's variable.
 pub(crate) fn define_variable(

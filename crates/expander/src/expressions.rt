@@ -7,7 +7,6 @@ ghost use Rattle.scheme_model.specs.Requirements.{Known};
 ghost use Rattle.scheme_model.specs.Order.{Transformer, Headed as AskedHead, head_of};
 ghost use Rattle.scheme_model.specs.Cores.{Target as ModelTarget, Const};
 ghost use Rattle.scheme_model.specs.Steps.{done};
-ghost use Rattle.unit_scopes.specs.Used.{CanUse};
 ghost use Rattle.scheme_model.specs.Trees.{Atom, Tree as ModelTree, atom, list, Trees, tree, Tail};
 ghost use Rattle.scheme_model.specs.Expression.{whole, expand, expression, core_form, node, quote, reference};
 ghost use Rattle.scheme_model.specs.ScopedExpansion.{Frames};
@@ -19,7 +18,7 @@ ghost use Rattle.core_forms.specs.Parts.{IsName};
 ghost use Rattle.core_tree.specs.Cores.{CoreStands};
 ghost use Rattle.core_tree.specs.Names.{IsTarget};
 ghost use Rattle.feature_requirements.specs.Judged.{Knows};
-ghost use Rattle.unit_scopes.specs.Outcomes.{At as Stand, CanLook, IsAtWork, WorksOn, IsEnough};
+ghost use Rattle.unit_scopes.specs.Outcomes.{At as Stand, IsAtWork, WorksOn, IsEnough};
 ghost use Rattle.unit_scopes.specs.Defining.{HasNumber};
 ghost use Rattle.unit_scopes.specs.Stepped.{with_keyword};
 ghost use Rattle.expander.specs.Ready.{use_met, IsSettled, IsHeaded, HasCore, IsCall, Prepares, Settles, come_to, Reads, TestsVariable, passed, BeginsBelow};
@@ -44,6 +43,7 @@ ghost use Rattle.noted_steps.specs.Noting.{Noting, means_here, noting};
 ghost use Rattle.noted_steps.specs.Standing.{Stands, with_notes};
 ghost use Rattle.noted_steps.specs.Outcomes.{EndsHere};
 ghost use Rattle.noted_steps.specs.Kept.{UseFor};
+ghost use Rattle.noted_steps.specs.Kept.{CanUse, CanLook};
 
 /// Where an expression stands: its scope, the innermost form read from a text around it, and how much depth is left.
 #[derive(Clone, Copy)]

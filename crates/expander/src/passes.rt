@@ -25,7 +25,7 @@ ghost use Rattle.unit_scopes.specs.Kept.{FormFor, NotesFor, PendingFor, left_wit
 ghost use Rattle.unit_scopes.specs.Outcomes.{At, IsAtWork};
 ghost use Rattle.unit_scopes.specs.Defining.{HasNumber};
 ghost use Rattle.expander.specs.Passed.{GoesOn, Passes, CanPass, IsPassed, pass_step, shape_weight, ShapeFits};
-ghost use Rattle.unit_scopes.specs.Used.{CanUse, ComparisonFor};
+ghost use Rattle.unit_scopes.specs.Used.{ComparisonFor};
 ghost use Rattle.syntax_tree.specs.declared.trees.Work.{Work as AnyWork};
 ghost use Rattle.unit_scopes.specs.declared.asked.Asked.{Asked as AnyAsked};
 ghost use Rattle.form_parts.specs.declared.items.Spot.{Spot as AnySpot};
@@ -53,6 +53,7 @@ use unit_scopes::uses::{Comparison, Instance, Use, held};
 ghost use Rattle.noted_steps.specs.Noting.{Noting, noting};
 ghost use Rattle.noted_steps.specs.Standing.{Stands};
 ghost use Rattle.noted_steps.specs.Kept.{SpotFor, UseFor};
+ghost use Rattle.noted_steps.specs.Kept.{CanUse};
 
 /// Goes through the forms that are left, in order: what was set aside, and the macro uses that wait.
 pub(crate) fn pass(

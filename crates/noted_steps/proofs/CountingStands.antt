@@ -48,14 +48,23 @@ module _ (work : Work) (u : UnitScope) (ls : List Frames) (s : Noting) (e : Stan
   counted_nodes : (n : ℕ) → u.form.budget.nodes + n ≤ max_nodes → Stands work (with_nodes u n) ls (spent n s)
   counted_nodes n within = after (with_nodes u n) (state_of (spent n s)) (counting.nodes_stand work u ls (state_of s) n within (plainly work u ls s e)) refl refl refl
 
-  pub locals_stand : (n : ℕ) → u.form.budget.locals + n ≤ most_locals u.form.budget.nodes → Stands work (with_locals u (u.form.budget.locals + n)) ls (taken n s)
-  locals_stand n within = after (with_locals u (u.form.budget.locals + n)) (state_of (taken n s)) (counting.locals_stand work u ls (state_of s) n within (plainly work u ls s e)) refl refl refl
+  counted_locals : (n : ℕ) → u.form.budget.locals + n ≤ most_locals u.form.budget.nodes → Stands work (with_locals u (u.form.budget.locals + n)) ls (taken n s)
+  counted_locals n within = after (with_locals u (u.form.budget.locals + n)) (state_of (taken n s)) (counting.locals_stand work u ls (state_of s) n within (plainly work u ls s e)) refl refl refl
 
-  pub keyword_stands : (x : code_target.Target) (t : Target) → IsTarget work.symbols s.unit s.form x t → Stands work (with_keyword u x) ls (met t s)
-  keyword_stands x t for = after (with_keyword u x) (state_of (met t s)) (counting.keyword_stands work u ls (state_of s) x t for (plainly work u ls s e)) refl refl refl
+  met_keyword : (x : code_target.Target) (t : Target) → IsTarget work.symbols s.unit s.form x t → Stands work (with_keyword u x) ls (met t s)
+  met_keyword x t for = after (with_keyword u x) (state_of (met t s)) (counting.keyword_stands work u ls (state_of s) x t for (plainly work u ls s e)) refl refl refl
 
-  pub use_stands : (x : code_use.MacroUse) (t : MacroUse) → IsUse work.symbols s.unit s.form x t → Stands work (with_met u x) ls (met_use t s)
-  use_stands x t for = after (with_met u x) (state_of (met_use t s)) (counting.use_stands work u ls (state_of s) x t for (plainly work u ls s e)) refl refl refl
+  met_uses : (x : code_use.MacroUse) (t : MacroUse) → IsUse work.symbols s.unit s.form x t → Stands work (with_met u x) ls (met_use t s)
+  met_uses x t for = after (with_met u x) (state_of (met_use t s)) (counting.use_stands work u ls (state_of s) x t for (plainly work u ls s e)) refl refl refl
 
 pub nodes_stand : (work : Work) (u : UnitScope) (ls : List Frames) (s : Noting) (n : ℕ) → u.form.budget.nodes + n ≤ max_nodes → Stands work u ls s → Stands work (with_nodes u n) ls (spent n s)
 nodes_stand work u ls s n within e = counted_nodes work u ls s e n within
+
+pub locals_stand : (work : Work) (u : UnitScope) (ls : List Frames) (s : Noting) (n : ℕ) → u.form.budget.locals + n ≤ most_locals u.form.budget.nodes → Stands work u ls s → Stands work (with_locals u (u.form.budget.locals + n)) ls (taken n s)
+locals_stand work u ls s n within e = counted_locals work u ls s e n within
+
+pub keyword_stands : (work : Work) (u : UnitScope) (ls : List Frames) (s : Noting) (x : code_target.Target) (t : Target) → IsTarget work.symbols s.unit s.form x t → Stands work u ls s → Stands work (with_keyword u x) ls (met t s)
+keyword_stands work u ls s x t for e = met_keyword work u ls s e x t for
+
+pub use_stands : (work : Work) (u : UnitScope) (ls : List Frames) (s : Noting) (x : code_use.MacroUse) (t : MacroUse) → IsUse work.symbols s.unit s.form x t → Stands work u ls s → Stands work (with_met u x) ls (met_use t s)
+use_stands work u ls s x t for e = met_uses work u ls s e x t for

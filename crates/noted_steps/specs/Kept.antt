@@ -1,18 +1,19 @@
 -- Where forms are gone through, and a macro use, in a state of an expansion that notes.
-use Rattle.std.specs.Prelude.{◌≡◌, List, Result, Ok, Err}
+use Rattle.std.specs.Prelude.{◌≡◌, ℕ, List, Result, Ok, Err}
 use Rattle.scheme_model.specs.Ident.{Ident as Identifier}
 use Rattle.scheme_model.specs.Trees.{Trees, Tail}
 use Rattle.scheme_model.specs.Cores.{Target}
 use Rattle.scheme_model.specs.Steps.{Broken}
-use Rattle.scheme_model.specs.Order.{Transformer}
-use Rattle.scheme_model.specs.ScopedExpansion.{Frames}
+use Rattle.scheme_model.specs.Order.{Note, Transformer}
+use Rattle.scheme_model.specs.ScopedExpansion.{Frames, FramedIdent}
 use Rattle.syntax_tree.specs.declared.trees.Work.{Work}
 use Rattle.form_parts.specs.declared.items.Spot as code_spot
 use Rattle.feature_requirements.specs.declared.fault.ExpandFault.{ExpandFault}
 use Rattle.feature_requirements.specs.declared.fault.ExpandFault.TheVariants as fault
 use Rattle.unit_scopes.specs.Kept as plain
 use Rattle.unit_scopes.specs.Used as plain_use
-use Rattle.unit_scopes.specs.Outcomes.{SameForm}
+use Rattle.unit_scopes.specs.Outcomes.{At, SameForm}
+use Rattle.unit_scopes.specs.declared.asked.Asked.{Asked}
 use Rattle.unit_scopes.specs.declared.scope.UnitScope.{UnitScope}
 use Rattle.unit_scopes.specs.declared.uses.Use as code_use
 use Rattle.noted_steps.specs.Noting.{Noting, state_of}
@@ -37,3 +38,44 @@ EndsIn {X} {Y} P work u v ls spot fs (Ok x) p = (y : Y) × GoesTo work u v ls sp
 EndsIn P work u v ls spot fs (Err (fault.At e)) p = GoesTo work u v ls spot fs p.1 × Breaks work e p
 EndsIn P work u v ls spot fs (Err fault.Full) p = ⊥
 EndsIn P work u v ls spot fs (Err fault.Memory) p = Unit {0}
+
+-- ---- what calls demand
+
+-- the code's scopes and notes stand for some state, and this scope for some frames
+pub record CanLook (work : Work) (u : UnitScope) (scope : ℕ) : Type 0 where
+  pub layout : List Frames
+  pub state : Noting
+  pub frames : Frames
+  pub stands : Stands work u layout state
+  pub at : At layout scope frames
+
+-- some macro
+pub record CanUse (work : Work) (u : UnitScope) (at : code_use.Use) : Type 0 where
+  pub layout : List Frames
+  pub state : Noting
+  pub frames : Frames
+  pub stands : Stands work u layout state
+  pub there : At layout at.scope frames
+  pub keyword : Target
+  pub transformer : Transformer Frames Identifier
+  pub parts : Trees Identifier
+  pub tail : Tail Identifier
+  pub used : UseFor work state at keyword transformer parts tail
+
+-- forms are gone through here, and these are the notes of definitions
+pub record CanGo (work : Work) (u : UnitScope) (spot : code_spot.Spot) (asked : Asked) : Type 0 where
+  pub layout : List Frames
+  pub state : Noting
+  pub frames : Frames
+  pub found : List (Note FramedIdent)
+  pub stands : Stands work u layout state
+  pub placed : SpotFor work u layout state spot frames
+  pub notes : plain.NotesFor work layout asked found
+
+-- the form at work is the open unit's
+pub record CanSet (work : Work) (u : UnitScope) : Type 0 where
+  pub layout : List Frames
+  pub state : Noting
+  pub notes : List (Note FramedIdent)
+  pub stands : Stands work u layout state
+  pub asked : plain.NotesFor work layout u.asked notes

@@ -11,11 +11,12 @@ use Rattle.scheme_model.specs.ScopedExpansion.{Frames}
 use Rattle.syntax_tree.specs.declared.trees.table.Region.{Region}
 use Rattle.core_forms.specs.Parts.{AreMacros}
 use Rattle.expander.specs.Bodies.{HaveNumbers}
-use Rattle.unit_scopes.specs.Outcomes.{At, CanLook}
+use Rattle.unit_scopes.specs.Outcomes.{At}
 use Rattle.expander.proofs.KeepLaws.{KeptSoFar}
 use Rattle.expander.proofs.bodies.keep_all.Given as goal
 use Rattle.noted_steps.specs.Noting.{Noting, noting}
 use Rattle.noted_steps.specs.Standing.{Stands}
+use Rattle.noted_steps.specs.Kept.{CanLook}
 
 abbrev pub invariant-loop-k : goal.invariant-loop-k
 invariant-loop-k l = record {

@@ -16,7 +16,7 @@ use Rattle.core_tree.specs.declared.cores.CorePart.TheVariants as core_parts
 use Rattle.expander.specs.Expanded.{ClauseAtWork}
 use Rattle.unit_scopes.specs.Defining.{HasNumber}
 use Rattle.unit_scopes.specs.Kept.{KeptFor}
-use Rattle.unit_scopes.specs.Outcomes.{CanLook, IsAtWork, IsEnoughBelow}
+use Rattle.unit_scopes.specs.Outcomes.{IsAtWork, IsEnoughBelow}
 use Rattle.expander.specs.declared.expressions.At as code_at
 use Rattle.feature_requirements.specs.declared.fault.ExpandFault.TheVariants as fault
 use Rattle.form_parts.specs.declared.items.Kept as code_kept
@@ -31,6 +31,7 @@ use Rattle.expander.proofs.StepLaws.{runs_err, node_none}
 use Rattle.expander.proofs.cores.+core.Goals as goal
 use Rattle.noted_steps.specs.Noting.{Noting, noting}
 use Rattle.noted_steps.specs.Outcomes.{Runs}
+use Rattle.noted_steps.specs.Kept.{CanLook}
 
 -- ---- assignments
 

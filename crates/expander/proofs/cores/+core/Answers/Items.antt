@@ -19,7 +19,7 @@ use Rattle.core_tree.specs.declared.cores.CorePart.TheVariants as core_parts
 use Rattle.core_tree.specs.declared.cores.FieldUse as code_field
 use Rattle.expander.specs.Expanded.{ClauseAtWork, KeptAtWork}
 use Rattle.unit_scopes.specs.Kept.{KeptFor}
-use Rattle.unit_scopes.specs.Outcomes.{CanLook, IsAtWork, IsEnough, IsEnoughBelow}
+use Rattle.unit_scopes.specs.Outcomes.{IsAtWork, IsEnough, IsEnoughBelow}
 use Rattle.unit_scopes.specs.RulesTold.{CanTell}
 use Rattle.expander.specs.declared.expressions.At as code_at
 use Rattle.feature_requirements.specs.declared.fault.ExpandFault.TheVariants as fault
@@ -36,6 +36,7 @@ use Rattle.expander.proofs.StepLaws.{runs_err}
 use Rattle.expander.proofs.cores.+core.Goals as goal
 use Rattle.noted_steps.specs.Noting.{Noting, noting}
 use Rattle.noted_steps.specs.Outcomes.{Runs}
+use Rattle.noted_steps.specs.Kept.{CanLook}
 
 -- ---- what was set aside, in order
 

@@ -17,7 +17,6 @@ use Rattle.core_tree.specs.declared.cores.Core.TheVariants as cores
 use Rattle.core_tree.specs.declared.cores.CorePart as code_part
 use Rattle.core_tree.specs.declared.cores.CorePart.TheVariants as core_parts
 use Rattle.expander.specs.Expanded.{AreAtWork}
-use Rattle.unit_scopes.specs.Outcomes.{CanLook}
 use Rattle.expander.specs.declared.expressions.At as code_at
 use Rattle.feature_requirements.specs.declared.fault.ExpandFault.TheVariants as fault
 use Rattle.expander.proofs.AfterLaws.{opened_on, room_same, room_on, spends_same, spends_itself, spends_on, enough_later}
@@ -32,6 +31,7 @@ use Rattle.expander.proofs.RowRuns.{row_one_more, row_stops, runs_memory, cores_
 use Rattle.expander.proofs.StepLaws.{runs_err, runs_fails, runs_mapped, node_none}
 use Rattle.expander.proofs.cores.+core.Goals as goal
 use Rattle.noted_steps.specs.Noting.{Noting, noting}
+use Rattle.noted_steps.specs.Kept.{CanLook}
 
 -- ---- an expression
 
