@@ -16,6 +16,9 @@ use Rattle.form_notes.specs.declared.noting.Noting as code_noting
 use Rattle.unit_scopes.specs.Outcomes.{CanLook}
 use Rattle.unit_scopes.specs.State.{IsMacroIfAny}
 use Rattle.unit_scopes.specs.State as plain
+use Rattle.unit_scopes.specs.Used.{CanUse}
+use Rattle.unit_scopes.specs.declared.uses.Use as code_use
+use Rattle.noted_steps.specs.Kept as noted
 use Rattle.unit_scopes.specs.declared.macros.Macro.{Macro}
 use Rattle.unit_scopes.specs.declared.scope.UnitScope.{UnitScope}
 use Rattle.noted_steps.specs.Noting.{Noting, state_of, means_here, look_up, noting}
@@ -105,6 +108,24 @@ pub looks_on : (work : Work) (u v : UnitScope) (scope : ℕ) → v ≡ with_note
 looks_on work u v scope same h =
     subst (λ (x : UnitScope). CanLook work x scope) (sym same)
     (record { layout = h.layout; state = h.state; frames = h.frames; stands = plain_notes work u h.layout h.state v.form.trace.notes h.stands; at = h.at })
+
+-- what can be looked up with notes can be without
+pub plain_look : (work : Work) (u : UnitScope) (scope : ℕ) → noted.CanLook work u scope → CanLook work u scope
+plain_look work u scope h = record { layout = h.layout; state = state_of h.state; frames = h.frames; stands = plainly work u h.layout h.state h.stands; at = h.at }
+
+pub plain_use : (work : Work) (u : UnitScope) (at : code_use.Use) → noted.CanUse work u at → CanUse work u at
+plain_use work u at h = record {
+  layout = h.layout;
+  state = state_of h.state;
+  frames = h.frames;
+  stands = plainly work u h.layout h.state h.stands;
+  there = h.there;
+  keyword = h.keyword;
+  transformer = h.transformer;
+  parts = h.parts;
+  tail = h.tail;
+  used = h.used;
+}
 
 -- the code has a macro where the state has one
 pub macro_told : (work : Work) (ls : List Frames) (o : Option Macro) (p : Option (Transformer Frames Identifier)) → IsMacroIfAny work ls o p → is_some o ≡ is_some p

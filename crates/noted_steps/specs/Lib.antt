@@ -3,4 +3,4 @@ pub mod Standing  -- What the scopes of the code and its notes stand for while a
 pub mod Stepped  -- What the operations make of a state of an expansion that notes, and of frames
 pub mod Outcomes  -- How a call of the expander ends while what is asked is noted
 pub mod Used  -- A macro use of which the comparisons are asked first (R7RS 4.3.2)
-pub mod Kept
+pub mod Kept  -- Where forms are gone through, and a macro use, in a state of an expansion that notes

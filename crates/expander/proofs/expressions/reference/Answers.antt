@@ -67,8 +67,8 @@ returns-clause-referred c = λ known region ls s fs n e at is.
     let goes = begins_goes known w region m v ls t c.args.at.here 1 stays.stands parts c.args.at.depth c.in_ok-begin_node.field-0 c.in_ok-begin_node.ensures in
     let x = target_of (noting known) fs (spent 1 t) n.name n.occ in
     let target = c.in_ok-target.ensures.target ls s fs n e at is in
-    subst (λ (p : Result Core Broken × Noting). EndsHere P w w region u v ls _ p) (sym all)
-    (here_after P w w w region u m v ls t _ (go t) stays
+    subst (λ (p : Result Core Broken × Noting). EndsHere P w w region u v ls (Ok (cores.Ref c.in_ok-target.target)) p) (sym all)
+    (here_after P w w w region u m v ls t (Ok (cores.Ref c.in_ok-target.target)) (go t) stays
     (here_done P w w region m v ls (cores.Ref c.in_ok-target.target) (go t) (Ref x) (spent 1 t) goes.0 goes.1
     (c.in_ok-target.target, refl, target_at w.symbols u.unit u.form.number s.unit s.form c.in_ok-target.target x e.unit e.form.number target)))
 

@@ -7,21 +7,27 @@ use Rattle.expander.specs.Ready.{TestsVariable}
 use Rattle.feature_requirements.specs.declared.fault.ExpandFault.{ExpandFault}
 use Rattle.expander.proofs.ReadLaws.{keyword_fault}
 use Rattle.noted_steps.specs.Noting.{Noting, state_of, means_here, target_at, noting}
-use Rattle.noted_steps.proofs.NoteLaws.{plainly, plain_noted}
+use Rattle.noted_steps.proofs.NoteLaws.{plainly, plain_noted, plain_look}
 use Rattle.expander.proofs.expressions.variable.Goals as goal
+
+pub target-target-requires-clause-look : goal.target-target-requires-clause-look
+target-target-requires-clause-look c = plain_look c.args.work.now c.args.units.now c.args.at.scope c.requires.look
 
 pub note-requires : goal.note-requires
 note-requires c =
     let l = c.requires.look in
     let n = c.requires.name in
-    slice_get_within c.args.work.now.symbols.idents _ _ (c.target-target.ensures l.layout l.state l.frames n.0 l.stands l.at n.1).ident
+    slice_get_within c.args.work.now.symbols.idents _ _ (c.target-target.ensures l.layout (state_of l.state) l.frames n.0 (plainly c.args.work.now c.args.units.now l.layout l.state l.stands) l.at n.1).ident
 
 pub head_by-requires : goal.head_by-requires
 head_by-requires c =
+    let w = c.args.work.now in
+    let u = c.args.units.now in
     let l = c.requires.look in
     let n = c.requires.name in
-    let is = c.target-target.ensures l.layout l.state l.frames n.0 l.stands l.at n.1 in
-    (l.layout, (l.state, plain_noted c.args.work.now c.args.units.now c.note.new.units l.layout l.state c.note.ensures.rest l.stands, (_, is.meaning)))
+    let e = plainly w u l.layout l.state l.stands in
+    let is = c.target-target.ensures l.layout (state_of l.state) l.frames n.0 e l.at n.1 in
+    (l.layout, (state_of l.state, plain_noted w u c.note.new.units l.layout (state_of l.state) c.note.ensures.rest e, (means_here l.state l.frames n.0.name, is.meaning)))
 
 pub returns-then-is_keyword-clause-tested : goal.returns-then-is_keyword-clause-tested
 returns-then-is_keyword-clause-tested c = λ known ls s fs n e at is.
