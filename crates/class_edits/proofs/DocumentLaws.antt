@@ -9,8 +9,8 @@ use Rattle.scheme_model.specs.Diagnostics.{spans_at}
 use Rattle.scheme_model.specs.Program.{UnitResult}
 use Rattle.scheme_model.specs.Spelling.{Link}
 use Rattle.document_store.specs.Texts.{Document}
-use Rattle.document_units.specs.Places.{spans_of}
-use Rattle.document_units.specs.Readings.{AreReadAs, Read, spans_in}
+use Rattle.read_documents.specs.Places.{spans_of}
+use Rattle.read_documents.specs.Readings.{AreReadAs, Read, spans_in}
 use Rattle.program_answers.specs.ToldAnswers.{document_at, text_of}
 use Rattle.text_edits.specs.Edits.{Edit, edited}
 use Rattle.text_edits.specs.Members.{identifiers_of, members_of, name_at, name_of}

@@ -10,9 +10,9 @@ use Rattle.scheme_model.specs.Diagnostics.{Span, first_token}
 use Rattle.scheme_model.specs.Program.{UnitResult}
 use Rattle.scheme_model.specs.Sites.{names_in_forms, or_else}
 use Rattle.document_store.specs.Texts.{Document}
-use Rattle.document_units.specs.Places.{AreHeads}
-use Rattle.document_units.specs.Readings.{Read, spans_in}
-use Rattle.document_units.specs.declared.listing.Head.{Head}
+use Rattle.read_documents.specs.Places.{AreHeads}
+use Rattle.read_documents.specs.Readings.{Read, spans_in}
+use Rattle.read_documents.specs.declared.heads.Head.{Head}
 use Rattle.text_edits.specs.Members.{Identifier, identifier_in, identifiers_of, name_at}
 use Rattle.text_edits.specs.NewNames.{edit_if, edits_from, edits_of}
 use Rattle.text_edits.specs.Views.{first_at, identifier_by}

@@ -9,9 +9,9 @@ use Rattle.datum_reader.specs.Texts.{TextReads}
 use Rattle.datum_reader.proofs.Stops.{never_reads_and_stops}
 use Rattle.datum_reader.proofs.TokensSeen.{text_once}
 use Rattle.document_store.specs.Texts.{Document}
-use Rattle.document_units.specs.declared.documents.Document as code
-use Rattle.document_units.specs.Places.{spans_of}
-use Rattle.document_units.specs.Readings.{AreReadAs, IsDocument, IsReadAs, IsReadSo, Read, Reads, Stops, span_of, span_seen, spans_in}
+use Rattle.read_documents.specs.declared.documents.Document as code
+use Rattle.read_documents.specs.Places.{spans_of}
+use Rattle.read_documents.specs.Readings.{AreReadAs, IsDocument, IsReadAs, IsReadSo, Read, Reads, Stops, span_of, span_seen, spans_in}
 use Rattle.program_answers.specs.ToldAnswers.{document_at}
 use Rattle.text_edits.specs.NewNames.{edits_of}
 use Rattle.text_edits.specs.Views.{AreCuts, CanEdit, edit_of}

@@ -8,7 +8,7 @@ use Rattle.scheme_model.specs.declared.Occ.{Occ}
 use Rattle.scheme_model.specs.Program.{UnitResult}
 use Rattle.scheme_model.specs.Spelling.{Link}
 use Rattle.document_store.specs.Texts.{Document}
-use Rattle.document_units.specs.Readings.{Read, program_in, spans_in}
+use Rattle.read_documents.specs.Readings.{Read, program_in, spans_in}
 use Rattle.program_answers.specs.ToldAnswers.{facts_in}
 use Rattle.text_edits.specs.Edits.{Edit, edited}
 use Rattle.text_edits.specs.Members.{class_edits}

@@ -4,8 +4,8 @@ use Rattle.scheme_model.specs.declared.Occ.{Occ}
 use Rattle.scheme_model.specs.Program.{UnitResult}
 use Rattle.scheme_model.specs.Spelling.{Link}
 use Rattle.document_store.specs.Texts.{Document}
-use Rattle.document_units.specs.Readings.{Read, spans_in}
-use Rattle.document_units.specs.declared.listing.Head.{Head}
+use Rattle.read_documents.specs.Readings.{Read, spans_in}
+use Rattle.read_documents.specs.declared.heads.Head.{Head}
 use Rattle.program_answers.specs.declared.classes.ClassPart.{ClassPart}
 use Rattle.text_edits.specs.Edits.{Edit}
 use Rattle.text_edits.specs.Members.{Identifier, Member, identifiers_of, members_of, name_at, name_of}

@@ -5,17 +5,17 @@ ghost use Rattle.std.specs.FinMap.{entries};
 ghost use Rattle.scheme_model.specs.declared.Occ.{Occ as AnyOcc};
 ghost use Rattle.scheme_model.specs.Answers.{bytes_before};
 ghost use Rattle.arrow_index.specs.Classes.{AreParts};
-ghost use Rattle.document_units.specs.Places.{bytes_at};
-ghost use Rattle.document_units.specs.Readings.{Read, AreReadAs};
+ghost use Rattle.read_documents.specs.Places.{bytes_at};
+ghost use Rattle.read_documents.specs.Readings.{Read, AreReadAs};
 ghost use Rattle.program_answers.specs.Classed.{bare_part, head_of};
 ghost use Rattle.program_answers.specs.ToldAnswers.{facts_in, place_told};
 ghost use Rattle.class_edits.specs.Clashes.{clashes, clashing};
 ghost use Rattle.class_edits.specs.FirstBytes.{earlier, first_of, is_same, repeated};
 
-use document_units::findings::At;
 use ls_base::{Encoding, Mem, Place};
 use program_answers::classes::ClassPart;
 use program_answers::open::Open;
+use read_documents::findings::At;
 use scheme_model::Occ;
 
 /// The place of the first member of a class, by document and start, that would get two new names. `None` exactly where each would

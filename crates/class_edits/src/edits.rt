@@ -6,8 +6,8 @@ ghost use Rattle.std.specs.Ordering.{nat_cmp};
 ghost use Rattle.scheme_model.specs.declared.Occ.{Occ};
 ghost use Rattle.scheme_model.specs.Diagnostics.{spans_at};
 ghost use Rattle.scheme_model.specs.Sites.{or_else};
-ghost use Rattle.document_units.specs.Places.{spans_of};
-ghost use Rattle.document_units.specs.Readings.{Read, AreReadAs, program_in};
+ghost use Rattle.read_documents.specs.Places.{spans_of};
+ghost use Rattle.read_documents.specs.Readings.{Read, AreReadAs, program_in};
 ghost use Rattle.program_answers.specs.ToldAnswers.{facts_in, text_of};
 ghost use Rattle.text_edits.specs.Members.{identifiers_of, name_at};
 ghost use Rattle.text_edits.specs.NewNames as new;
@@ -15,9 +15,9 @@ ghost use Rattle.text_edits.specs.Views.{CanEdit, edit_of, identifier_by, occ_cm
 ghost use Rattle.class_edits.specs.DocumentEdits.{CanEditAll, edits_of_class, seen};
 ghost use Rattle.class_edits.specs.Named.{AreNamed, edits_by, identifiers_in};
 
-use document_units::listing::Head;
 use ls_base::{Items, Mem};
 use program_answers::open::Open;
+use read_documents::heads::Head;
 use std::alloc::Global;
 use std::collections::BTreeMap;
 use text_edits::{Edit, Members, TokenNames, edits_of, note_names};

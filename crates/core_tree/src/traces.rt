@@ -1,8 +1,11 @@
 //! What an expansion meets on its way, and why it ends early.
+ghost use Rattle.std.specs.Prelude.{◌≡◌, []};
+
 use crate::cores::{Binder, Target};
 use form_notes::Noting;
 use ls_base::{Items, Text};
 use scheme_model::Occ;
+use std::alloc::Global;
 use syntax_tree::symbols::IdNo;
 
 /// A macro use: its keyword, and the leaves of the form that met a literal.
@@ -31,4 +34,17 @@ pub struct FormFault {
     pub occ: Option<Occ>,
     pub here: Option<Occ>,
     pub text: Option<Text>,
+}
+
+/// A trace of nothing.
+pub fn blank_trace(alloc: Global) -> Trace
+    ensures definitions { result.definitions ≡ [] }
+    ensures keywords { result.keywords ≡ [] }
+    ensures uses { result.uses ≡ [] }
+{
+    Trace {
+        definitions: Items::new(alloc),
+        keywords: Items::new(alloc),
+        uses: Items::new(alloc),
+    }
 }

@@ -18,4 +18,4 @@ mod tail;
 
 pub use datum::{Atom, Datum, Mark, Shape};
 pub use reader::{read_all, read_with_spans};
-pub use seeding::{seed, seed_as};
+pub use seeding::{joined, seed, seed_as};

@@ -20,6 +20,8 @@ use syntax_tree::trees::{Node, PoolFault, Region, Tree, Work};
 
 mod leaves;
 
+pub use leaves::joined;
+
 /// Adds the tree of a datum, the form `form` of the unit `unit`, which was read from a text of at most 1,048,576 bytes. Its names
 /// are written in this unit. What was read from a token has that token's place, whose number counts from the datum's first token;
 /// the identifier that a mark implies (R7RS 4.1.2, 4.2.8) has none. A bytevector is one atom, its numerals with one space

@@ -18,12 +18,12 @@ use Rattle.unit_sources.specs.UnitsRead.{forms_of, IsSource, IsUnitRead}
 use Rattle.unit_sources.specs.declared.fault.LibraryFault.{LibraryFault}
 use Rattle.unit_sources.specs.declared.units.UnitSource as code
 use Rattle.unit_sources.proofs.KnownTexts.{IfProper, name_proper}
-use Rattle.document_units.specs.DataRead.{AllRead, DocumentsRead, data_at}
+use Rattle.read_documents.specs.DataRead.{AllRead, DocumentsRead, data_at}
 use Rattle.document_units.specs.Listing.{Begins, BeginsWith, IsOneOf, IsWholeOf}
 use Rattle.document_units.specs.UnitsListed.{IsBlank, IsReadFor, without_standard}
-use Rattle.document_units.specs.WereRead.{FormsRead}
-use Rattle.document_units.specs.declared.listing.WholeFault.{WholeFault}
-use Rattle.document_units.specs.declared.listing.WholeFault.TheVariants as fault
+use Rattle.read_documents.specs.WereRead.{FormsRead}
+use Rattle.read_documents.specs.declared.heads.WholeFault.{WholeFault}
+use Rattle.read_documents.specs.declared.heads.WholeFault.TheVariants as fault
 use Rattle.document_units.proofs.ListedUnits.{unit_for, nameless_for, blank_for, broken_by, kind_by, name_by, start_by, none_lost}
 use Rattle.document_units.proofs.ReadForms.{library_read, program_read, all_texts_read, source_read, plain_read}
 

@@ -12,12 +12,12 @@ use Rattle.import_sets.specs.Firsts.{first_place, place_in}
 use Rattle.unit_sources.specs.declared.units.UnitSource.{UnitSource}
 use Rattle.unit_sources.specs.Named.{with_place}
 use Rattle.unit_sources.specs.Orders.{ArePlaces}
-use Rattle.document_units.specs.declared.listing.Head.{Head}
-use Rattle.document_units.specs.declared.listing.WholeFault.{WholeFault}
-use Rattle.document_units.specs.Places.{SameHead, HeadsStay, NamesKept, AreHeadsIn}
-use Rattle.document_units.specs.Libraries.{places_by}
-use Rattle.document_units.specs.Broken.{or_fault, broken_by, broken_if, Breaks, SameSource}
-use Rattle.document_units.proofs.ChangedLaws.{changes_itself, changes_as, changes_on, changes_set}
+use Rattle.read_documents.specs.declared.heads.Head.{Head}
+use Rattle.read_documents.specs.declared.heads.WholeFault.{WholeFault}
+use Rattle.read_documents.specs.Places.{SameHead, HeadsStay, NamesKept, AreHeadsIn}
+use Rattle.read_documents.specs.Libraries.{places_by}
+use Rattle.read_documents.specs.Broken.{or_fault, broken_by, broken_if, Breaks, SameSource}
+use Rattle.read_documents.proofs.ChangedLaws.{changes_itself, changes_as, changes_on, changes_set}
 
 -- ---- heads stay
 

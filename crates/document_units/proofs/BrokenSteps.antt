@@ -9,12 +9,12 @@ use Rattle.std.proofs.lemmas.Option.{slice_get_within}
 use Rattle.unit_sources.specs.declared.units.ImportSpec.{ImportSpec}
 use Rattle.unit_sources.specs.declared.units.UnitSource.{UnitSource}
 use Rattle.unit_sources.specs.Named.{imported_places}
-use Rattle.document_units.specs.declared.listing.Head.{Head}
-use Rattle.document_units.specs.declared.listing.WholeFault.TheVariants as fault
-use Rattle.document_units.specs.Changed.{Changes}
-use Rattle.document_units.specs.Places.{SameHead, HeadsStay}
-use Rattle.document_units.specs.Broken.{broken_if, has_standard, BreaksStandard, importing, FindsImports, SameSource, SourcesStay, without_if, Forgets}
-use Rattle.document_units.proofs.ChangedLaws.{changes_itself, changes_as, changes_set}
+use Rattle.read_documents.specs.declared.heads.Head.{Head}
+use Rattle.read_documents.specs.declared.heads.WholeFault.TheVariants as fault
+use Rattle.read_documents.specs.Changed.{Changes}
+use Rattle.read_documents.specs.Places.{SameHead, HeadsStay}
+use Rattle.read_documents.specs.Broken.{broken_if, has_standard, BreaksStandard, importing, FindsImports, SameSource, SourcesStay, without_if, Forgets}
+use Rattle.read_documents.proofs.ChangedLaws.{changes_itself, changes_as, changes_set}
 use Rattle.document_units.proofs.BrokenLaws.{head_itself, head_broken, source_itself, source_without, all_taken}
 
 -- ---- one item more

@@ -14,7 +14,7 @@ use Rattle.unit_sources.specs.Named.{place_named, with_place}
 use Rattle.unit_sources.specs.Orders.{with_imports, circles, name_before, names_of}
 use Rattle.unit_sources.specs.Repeated.{is_at}
 use Rattle.unit_sources.proofs.NamedLaws.{library_told, place_same}
-use Rattle.document_units.specs.Libraries.{places_by}
+use Rattle.read_documents.specs.Libraries.{places_by}
 use Rattle.document_units.proofs.NamedUnits.{named_at, imports_hold}
 use Rattle.document_units.proofs.TurnGraph.{all_numbered}
 

@@ -22,10 +22,10 @@ use Rattle.unit_sources.specs.Repeated.{repeated_places, has_standard_name}
 use Rattle.unit_sources.proofs.NamedLaws.{place_same}
 use Rattle.unit_sources.proofs.RepeatedLaws.{repeated_are}
 use Rattle.unit_sources.proofs.GraphLaws.{imports_same}
-use Rattle.document_units.specs.declared.listing.Head.{Head}
-use Rattle.document_units.specs.declared.listing.WholeFault.{WholeFault}
-use Rattle.document_units.specs.declared.listing.WholeFault.TheVariants as fault
-use Rattle.document_units.specs.Broken.{told, or_fault, broken_if, Breaks, has_standard, BreaksStandard, IsListed, AreListed, IsJudged, AreJudged, importing, FindsImports, without_if, Forgets}
+use Rattle.read_documents.specs.declared.heads.Head.{Head}
+use Rattle.read_documents.specs.declared.heads.WholeFault.{WholeFault}
+use Rattle.read_documents.specs.declared.heads.WholeFault.TheVariants as fault
+use Rattle.read_documents.specs.Broken.{told, or_fault, broken_if, Breaks, has_standard, BreaksStandard, IsListed, AreListed, IsJudged, AreJudged, importing, FindsImports, without_if, Forgets}
 use Rattle.document_units.specs.Turned.{turns}
 use Rattle.document_units.proofs.StandardNamed.{standard_same}
 use Rattle.document_units.proofs.Handed.{handed, code_given, units_given, turns_handed}

@@ -10,9 +10,9 @@ use Rattle.scheme_model.specs.Requirements.{LibraryName}
 use Rattle.scheme_tokens.specs.LibraryNames.{library_text}
 use Rattle.datum_reader.specs.declared.datum.Datum as code
 use Rattle.datum_reader.specs.Views.{datum_of, data_of}
-use Rattle.document_units.specs.DataRead.{HaveData}
+use Rattle.read_documents.specs.DataRead.{HaveData}
 use Rattle.document_units.specs.KnownNames.{name_in}
-use Rattle.document_units.specs.declared.documents.Document.{Document}
+use Rattle.read_documents.specs.declared.documents.Document.{Document}
 
 -- ---- the names among data
 

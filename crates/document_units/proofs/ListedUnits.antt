@@ -33,19 +33,19 @@ use Rattle.unit_sources.specs.declared.units.LostString as code_lost
 use Rattle.unit_sources.specs.declared.units.UnitSource.{UnitSource}
 use Rattle.unit_sources.proofs.KnownTexts.{IfProper}
 use Rattle.unit_sources.proofs.SpelledSources.{imports_spelled, unit_spelled}
-use Rattle.document_units.specs.Broken.{told, has_standard}
-use Rattle.document_units.specs.UnitSources.{IsSourceOf, HaveOneIfSame, IsSpec}
+use Rattle.read_documents.specs.Broken.{told, has_standard}
+use Rattle.read_documents.specs.UnitSources.{IsSourceOf, HaveOneIfSame, IsSpec}
 use Rattle.scheme_model.specs.Sites.{names_in_forms}
-use Rattle.document_units.specs.DataRead.{data_at}
+use Rattle.read_documents.specs.DataRead.{data_at}
 use Rattle.document_units.specs.Listing.{Begins, IsWholeOf}
 use Rattle.document_units.specs.UnitsListed.{WritesProper, IsReadAt, IsReadFor, IsBlank, without_standard, IsOne, AreSoFar, placed_in, AddsRead, AreUnitsListed}
-use Rattle.document_units.specs.WereRead.{FormsRead}
-use Rattle.document_units.specs.declared.listing.WholeFault.{WholeFault}
-use Rattle.document_units.specs.declared.listing.WholeFault.TheVariants as fault
-use Rattle.document_units.specs.declared.listing.Head.{Head}
+use Rattle.read_documents.specs.WereRead.{FormsRead}
+use Rattle.read_documents.specs.declared.heads.WholeFault.{WholeFault}
+use Rattle.read_documents.specs.declared.heads.WholeFault.TheVariants as fault
+use Rattle.read_documents.specs.declared.heads.Head.{Head}
 use Rattle.document_units.specs.declared.listing.Units.{Units}
 use Rattle.document_units.proofs.ExportsRead.{exports_read}
-use Rattle.document_units.proofs.OneIfSame.{all_from}
+use Rattle.read_documents.proofs.OneIfSame.{all_from}
 use Rattle.document_units.proofs.RenamedLaws.{AreDeclaredRead}
 use Rattle.document_units.proofs.StandardNamed.{standard_told, as_imported}
 

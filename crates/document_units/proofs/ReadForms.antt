@@ -10,8 +10,8 @@ use Rattle.datum_reader.specs.WellFormed.{IsIn, WasRead}
 use Rattle.datum_reader.proofs.ReadParts.{part_was_read}
 use Rattle.datum_reader.specs.declared.datum.Datum as code
 use Rattle.datum_reader.specs.Views.{data_of}
-use Rattle.document_units.specs.DataRead.{AllRead, DocumentsRead, DataWereRead, data_at}
-use Rattle.document_units.specs.WereRead.{WereRead, IsInHome, FormsRead}
+use Rattle.read_documents.specs.DataRead.{AllRead, DocumentsRead, DataWereRead, data_at}
+use Rattle.read_documents.specs.WereRead.{WereRead, IsInHome, FormsRead}
 use Rattle.document_units.proofs.ListedForms.{AllSuch, FormsSuch, Gives, TextsGive, library_such, program_such, all_texts_such}
 use Rattle.document_units.proofs.RisingParts.{part_behind}
 

@@ -27,9 +27,9 @@ use Rattle.text_parts.specs.Parts.{IsTextPart}
 use Rattle.text_parts.specs.Places.{Each}
 use Rattle.text_parts.specs.declared.parts.TextPart.{TextPart}
 use Rattle.text_parts.specs.declared.texts.TextRead.{TextRead}
-use Rattle.document_units.specs.DataRead.{items_in, AreReadIn, AreOpened, DocumentsRead}
+use Rattle.read_documents.specs.DataRead.{items_in, AreReadIn, AreOpened, DocumentsRead}
 use Rattle.document_units.specs.Listing.{sources_of, AreAt, CanReadAll, IsReader}
-use Rattle.document_units.specs.declared.documents.Document.{Document}
+use Rattle.read_documents.specs.declared.documents.Document.{Document}
 use Rattle.document_units.specs.declared.included.Reader.{Reader}
 use Rattle.document_units.proofs.ViewedDocuments.{alike_at, alike_length, HaveItems, items_at, viewed_items, opened_viewed, documents_read}
 

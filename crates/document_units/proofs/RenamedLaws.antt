@@ -14,7 +14,7 @@ use Rattle.scheme_model.specs.Declarations.{UnitForm, home_or, home_of, is_heade
 use Rattle.scheme_model.specs.Program.{ExportSpec, behind_first, export_of, exports_with, exports_in, exports_from}
 use Rattle.import_sets.specs.Given.{same_place}
 use Rattle.datum_reader.specs.WellFormed.{WasRead}
-use Rattle.document_units.specs.WereRead.{IsInHome}
+use Rattle.read_documents.specs.WereRead.{IsInHome}
 use Rattle.document_units.proofs.RisingParts.{Inner, Rise, read_rises}
 
 -- two identifiers stand at two places exactly where an export is renamed

@@ -4,10 +4,10 @@ use Rattle.std.proofs.lemmas.List.{length_push}
 use Rattle.syntax_tree.proofs.Places.{push_cases}
 use Rattle.unit_sources.specs.UnitsRead.{forms_of}
 use Rattle.unit_sources.specs.declared.units.UnitSource.{UnitSource}
-use Rattle.document_units.specs.declared.listing.Head.{Head}
+use Rattle.read_documents.specs.declared.heads.Head.{Head}
 use Rattle.document_units.specs.declared.listing.Units.{Units}
-use Rattle.document_units.specs.Places.{AreHeadsIn}
-use Rattle.document_units.specs.WereRead.{WereRead, AreSourcesRead}
+use Rattle.read_documents.specs.Places.{AreHeadsIn}
+use Rattle.read_documents.specs.WereRead.{WereRead, AreSourcesRead}
 use Rattle.document_units.specs.Sound.{IsSound}
 
 heads_more : (count : ℕ) (hs : List Head) (h : Head) → AreHeadsIn count hs → h.document < count → AreHeadsIn count (hs ++ h ∷ [])

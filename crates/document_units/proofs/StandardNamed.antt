@@ -10,7 +10,7 @@ use Rattle.base_library.proofs.TextLaws.{by_name}
 use Rattle.base_library.proofs.StandardTexts as standard_texts
 use Rattle.unit_sources.specs.Repeated.{has_standard_name}
 use Rattle.unit_sources.specs.declared.units.UnitSource as code
-use Rattle.document_units.specs.Broken.{has_standard}
+use Rattle.read_documents.specs.Broken.{has_standard}
 use Rattle.document_units.specs.UnitsListed.{WritesProper, without_standard}
 
 same_some : {A : Type 0} (o : Option A) → std.is_some o ≡ order.is_some o

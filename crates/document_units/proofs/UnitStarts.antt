@@ -9,12 +9,12 @@ use Rattle.scheme_model.specs.Diagnostics.{Span, span_at, spans_at}
 use Rattle.datum_reader.specs.FirstTokens.{first_token}
 use Rattle.datum_reader.specs.Views.{datum_of, data_of}
 use Rattle.datum_reader.specs.declared.datum.Datum as code
-use Rattle.document_units.specs.DataRead.{data_at}
+use Rattle.read_documents.specs.DataRead.{data_at}
 use Rattle.document_units.specs.Listing.{IsOneOf, Begins}
-use Rattle.document_units.specs.Readings.{Read, Reads, Stops, IsReadAs, AreReadAs, data_in, documents_from, documents_in, spans_in, span_seen}
+use Rattle.read_documents.specs.Readings.{Read, Reads, Stops, IsReadAs, AreReadAs, data_in, documents_from, documents_in, spans_in, span_seen}
 use Rattle.document_store.specs.Texts.{Document}
-use Rattle.document_units.specs.Places.{spans_of}
-use Rattle.document_units.proofs.TokenPlaces.{AreAtTokens, data_at_tokens}
+use Rattle.read_documents.specs.Places.{spans_of}
+use Rattle.read_documents.proofs.TokenPlaces.{AreAtTokens, data_at_tokens}
 use Rattle.ls_base.specs.declared.places.Span as code_span
 
 -- ---- one of some data

@@ -10,8 +10,8 @@ use Rattle.datum_reader.specs.Views.{data_of}
 use Rattle.included_documents.specs.Meant.{meant}
 use Rattle.text_parts.specs.Documents.{document_of, documents_from, documents_in}
 use Rattle.text_parts.specs.declared.texts.TextRead.{TextRead}
-use Rattle.document_units.specs.DataRead.{DataWereRead, AreReadIn, HaveData, AreOpened, items_in, data_at, AllRead, DocumentsRead}
-use Rattle.document_units.specs.declared.documents.Document.{Document}
+use Rattle.read_documents.specs.DataRead.{DataWereRead, AreReadIn, HaveData, AreOpened, items_in, data_at, AllRead, DocumentsRead}
+use Rattle.read_documents.specs.declared.documents.Document.{Document}
 use Rattle.document_units.proofs.ReadForms.{all_read}
 
 -- ---- items of lists that are alike

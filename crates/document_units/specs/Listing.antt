@@ -14,11 +14,11 @@ use Rattle.unit_sources.specs.declared.fault.LibraryFault.{LibraryFault}
 use Rattle.unit_sources.specs.declared.fault.LibraryFault.TheVariants as library
 use Rattle.text_parts.specs.Parts.{IsTextPart}
 use Rattle.text_parts.specs.declared.parts.TextPart.{TextPart}
-use Rattle.document_units.specs.DataRead.{data_at, items_in, DocumentsRead}
-use Rattle.document_units.specs.declared.documents.Document as code_document
+use Rattle.read_documents.specs.DataRead.{data_at, items_in, DocumentsRead}
+use Rattle.read_documents.specs.declared.documents.Document as code_document
 use Rattle.document_units.specs.declared.included.Reader.{Reader}
-use Rattle.document_units.specs.declared.listing.WholeFault.{WholeFault}
-use Rattle.document_units.specs.declared.listing.WholeFault.TheVariants as fault
+use Rattle.read_documents.specs.declared.heads.WholeFault.{WholeFault}
+use Rattle.read_documents.specs.declared.heads.WholeFault.TheVariants as fault
 
 -- ---- documents that include
 

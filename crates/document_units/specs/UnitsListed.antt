@@ -13,15 +13,15 @@ use Rattle.core_tree.specs.Units.{kind_as, ranges_from}
 use Rattle.unit_sources.specs.Sources.{AreUnits}
 use Rattle.unit_sources.specs.UnitsRead.{forms_of}
 use Rattle.unit_sources.specs.declared.units.UnitSource.{UnitSource}
-use Rattle.document_units.specs.Broken.{told, has_standard, IsListed, AreListed}
-use Rattle.document_units.specs.DataRead.{data_at}
+use Rattle.read_documents.specs.Broken.{told, has_standard, IsListed, AreListed}
+use Rattle.read_documents.specs.DataRead.{data_at}
 use Rattle.document_units.specs.Listing.{Begins}
-use Rattle.document_units.specs.UnitSources.{IsSourceOf, AreReadOf}
-use Rattle.document_units.specs.declared.listing.WholeFault.{WholeFault}
-use Rattle.document_units.specs.declared.listing.Head.{Head}
+use Rattle.read_documents.specs.UnitSources.{IsSourceOf, AreReadOf}
+use Rattle.read_documents.specs.declared.heads.WholeFault.{WholeFault}
+use Rattle.read_documents.specs.declared.heads.Head.{Head}
 use Rattle.document_units.specs.declared.listing.Units.{Units}
 use Rattle.scheme_model.specs.Sites.{names_in_forms}
-use Rattle.document_units.specs.WereRead.{FormsRead}
+use Rattle.read_documents.specs.WereRead.{FormsRead}
 
 -- proper names are written as they stand
 abbrev pub WritesProper : (LibraryName → List ℕ) → Type 0

@@ -10,24 +10,23 @@ ghost use Rattle.base_library.specs.Texts.{SpellsStandard};
 ghost use Rattle.unit_sources.specs.Named.{place_named, imported_places};
 ghost use Rattle.unit_sources.specs.Orders.{with_imports, AreInTurn, ArePlaces};
 ghost use Rattle.unit_sources.specs.Sources.{TellsNames, AreUnits};
-ghost use Rattle.document_units.specs.Libraries.{FindsBelow, library_of, places_by};
-ghost use Rattle.document_units.specs.Places.{HeadsStay};
-ghost use Rattle.document_units.specs.Broken.{broken_by, broken_if, Breaks, BreaksStandard, FindsImports, Forgets, AreListed, AreJudged, SourcesStay};
+ghost use Rattle.read_documents.specs.Libraries.{FindsBelow, library_of, places_by};
+ghost use Rattle.read_documents.specs.Places.{HeadsStay};
+ghost use Rattle.read_documents.specs.Broken.{broken_by, broken_if, Breaks, BreaksStandard, FindsImports, Forgets, AreListed, AreJudged, SourcesStay};
 ghost use Rattle.document_units.specs.Turned.{turns};
 
 use crate::known::has_standard_name;
-use crate::listing::{Head, Units, WholeFault};
+use crate::listing::Units;
 use import_sets::ImportSet;
 use import_sets::firsts::{place_for, place_in};
 use ls_base::limits::MAX_UNITS;
 use ls_base::{Items, Mem, Memory, Text};
+use read_documents::heads::{Head, WholeFault};
+use read_documents::sets::Firsts;
 use std::alloc::Global;
 use std::collections::BTreeMap;
 use unit_sources::firsts::first_places;
 use unit_sources::{ImportSpec, LibraryFault, UnitSource, order, repeated};
-
-/// The places of the units that are libraries by their names: the first with each name. Units behind the most aren't among them.
-pub type Firsts = BTreeMap<String, usize>;
 
 /// The place of the first unit with each name.
 pub fn firsts(alloc: Global, sources: &[UnitSource]) -> Mem<Firsts>
@@ -220,20 +219,6 @@ fn imports_of(alloc: Global, firsts: &Firsts, specs: &[ImportSpec]) -> Mem<Items
         push_place(&mut places, place_in(firsts, &spec.set))?;
     }
     Ok(places)
-}
-
-/// The library that a set is of, unless it has no shape.
-pub fn library_in(set: &ImportSet) -> Option<&str>
-    ensures { option_map (λ s. s.now) result ≡ library_of set.now }
-{
-    match set {
-        ImportSet::Library(name) => Some(name.as_str()),
-        ImportSet::Only { set, .. } => library_in(set),
-        ImportSet::Except { set, .. } => library_in(set),
-        ImportSet::Prefix { set, .. } => library_in(set),
-        ImportSet::Rename { set, .. } => library_in(set),
-        ImportSet::Bad => None,
-    }
 }
 
 /// Takes the import sets of broken units away.

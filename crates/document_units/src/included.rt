@@ -10,15 +10,15 @@ ghost use Rattle.included_forms.specs.Built.{IsText};
 ghost use Rattle.included_forms.specs.Tables.{Mean};
 ghost use Rattle.included_forms.specs.declared.tables.Text.{Text as ModelText};
 ghost use Rattle.text_parts.specs.declared.parts.TextPart.{TextPart as ModelPart};
-ghost use Rattle.document_units.specs.DataRead.{DocumentsRead, items_in};
+ghost use Rattle.read_documents.specs.DataRead.{DocumentsRead, items_in};
 ghost use Rattle.document_units.specs.Listing.{IsReader};
 
-use crate::documents::Document;
 use datum_reader::Datum;
 use included_documents::Uris;
 use included_forms::{Documents, Table, Text};
 use known_libraries::KnownLibraries;
 use ls_base::{Mem, Memory};
+use read_documents::documents::Document;
 use std::alloc::Global;
 use text_parts::{TextPart, TextParts, TextRead};
 

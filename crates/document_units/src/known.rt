@@ -8,41 +8,17 @@ ghost use Rattle.scheme_model.specs.StandardLibraries.{standard_libraries};
 ghost use Rattle.base_library.specs.Texts.{name_text};
 ghost use Rattle.datum_reader.specs.Views.{datum_of, data_of};
 ghost use Rattle.scheme_tokens.specs.LibraryNames.{library_text};
-ghost use Rattle.document_units.specs.Broken.{has_standard};
-ghost use Rattle.document_units.specs.DataRead.{HaveData};
+ghost use Rattle.read_documents.specs.Broken.{has_standard};
+ghost use Rattle.read_documents.specs.DataRead.{HaveData};
 ghost use Rattle.document_units.specs.KnownNames.{name_in, listed_texts};
 
-use crate::documents::Document;
 use base_library::standard;
 use datum_reader::Datum;
 use datum_reader::heads::is_headed;
 use ls_base::{Items, Mem, Text};
+use read_documents::documents::Document;
+use read_documents::standard_names::standard_library_names;
 use std::alloc::Global;
-
-/// The names of the standard libraries.
-pub fn standard_library_names() -> &'static [&'static str]
-    ensures { map (λ s. s.now) result.now ≡ map (λ l. name_text l.name) standard_libraries }
-{
-    &STANDARD
-}
-
-static STANDARD: [&str; 15] = [
-    "(scheme base)",
-    "(scheme case-lambda)",
-    "(scheme char)",
-    "(scheme complex)",
-    "(scheme cxr)",
-    "(scheme eval)",
-    "(scheme file)",
-    "(scheme inexact)",
-    "(scheme lazy)",
-    "(scheme load)",
-    "(scheme process-context)",
-    "(scheme read)",
-    "(scheme repl)",
-    "(scheme time)",
-    "(scheme write)",
-];
 
 /// The names of all libraries that there are.
 pub fn known(alloc: Global, documents: &[Document]) -> Mem<Items<Text>>

@@ -3,13 +3,7 @@
 #![tactic(auto)]
 
 pub mod breaking;
-pub mod documents;
-pub mod findings;
-pub mod form_numbers;
 mod identifiers;
 pub mod included;
 pub mod known;
 pub mod listing;
-pub mod opened;
-pub mod places;
-pub mod wording;

@@ -12,13 +12,12 @@ ghost use Rattle.datum_reader.specs.WellFormed.{WasRead};
 ghost use Rattle.known_libraries.specs.PartsRead.{Knows};
 ghost use Rattle.unit_sources.specs.UnitsRead.{forms_of};
 ghost use Rattle.document_units.specs.Sound.{IsSound};
-ghost use Rattle.document_units.specs.DataRead.{AreOpened, AreReadIn, DataWereRead, data_at};
+ghost use Rattle.read_documents.specs.DataRead.{AreOpened, AreReadIn, DataWereRead, data_at};
 ghost use Rattle.document_units.specs.Listing.{IsReader, IsAt, AreAt, CanRead, CanReadIn, CanReadAll, IsOneOf, BeginsWith, IsWholeOf};
 ghost use Rattle.document_units.specs.UnitsListed.{AddsRead, AreSoFar, AreUnitsListed, IsBlank, IsReadFor, WritesProper, without_standard};
-ghost use Rattle.document_units.specs.WereRead.{WereRead};
-ghost use Rattle.document_units.specs.declared.listing.WholeFault.TheVariants as fault;
+ghost use Rattle.read_documents.specs.WereRead.{WereRead};
+ghost use Rattle.read_documents.specs.declared.heads.WholeFault.TheVariants as fault;
 
-use crate::documents::Document;
 use crate::identifiers::names_of;
 use crate::included::{Reader, items_in, place_of, reader_of, texts_of, uris_of, views_of};
 use crate::known::{has_standard_name, library_name};
@@ -29,39 +28,13 @@ use known_libraries::KnownLibraries;
 use library_table::{first_of_program, read_part, read_program, read_unit};
 use ls_base::limits::MAX_UNITS;
 use ls_base::{Items, Mem, Memory, Span, Text};
+use read_documents::documents::Document;
+use read_documents::heads::{Head, WholeFault};
 use scheme_model::{Home, Occ};
 use std::alloc::Global;
 use syntax_tree::units::UnitKind;
 use text_parts::{TextPart, text_parts};
 use unit_sources::{LibraryFault, UnitForm, UnitSource};
-
-/// Why a unit is broken as a whole.
-#[derive(Clone, Copy)]
-pub enum WholeFault {
-    TooMany,
-    IncludeCycle,
-    BadDeclaration { unit: u32, span: Span },
-    DefinedTwice,
-    ImportCycle,
-    TooLarge,
-}
-
-/// What a unit is besides its source: its document, its library's name, its first token, the numbers of the first tokens of its
-/// forms, the units where their texts are at home, their identifiers, the places of the units that it imports, and what breaks it as
-/// a whole.
-#[derive(Drop)]
-pub struct Head {
-    pub document: usize,
-    pub kind: UnitKind,
-    pub name: Option<Text>,
-    pub span: Span,
-    pub firsts: Vec<u32>,
-    pub homes: Vec<u32>,
-    pub names: Vec<Occ>,
-    pub ranges: Vec<TokenRange>,
-    pub imports: Items<u32>,
-    pub fault: Option<WholeFault>,
-}
 
 /// The units in their order: their heads and their sources. The source of a unit that isn't read has no name.
 #[derive(Drop)]

@@ -10,10 +10,10 @@ use Rattle.ls_base.specs.declared.encoding.Encoding.TheVariants.{Utf16}
 use Rattle.ls_base.specs.declared.places.Pos.{Pos}
 use Rattle.document_store.specs.Texts.{Added, Document, Refusal, Texts, after, has_room}
 use Rattle.document_store.proofs.Events.{adds}
-use Rattle.document_units.specs.Readings.{AreReadAs, Read}
+use Rattle.read_documents.specs.Readings.{AreReadAs, Read}
 use Rattle.program_answers.proofs.TextLists.{some_row}
 use Rattle.program_expansion.specs.UsesInTurn.{uses_in}
-use Rattle.workspace_state.specs.Events.{leaves}
+use Rattle.document_changes.specs.Events.{leaves}
 use Rattle.rename_conditions.specs.Readers.{IsReader, Reader}
 use Rattle.rename_planner.specs.ToldRenames.{rename_uses, text_uses, texts_of, uris_of}
 use Rattle.rename_planner.specs.declared.faults.RenameFault.{RenameFault}

@@ -14,8 +14,8 @@ use Rattle.scheme_model.specs.StandardLibraries.{standard_libraries}
 use Rattle.scheme_model.specs.StandardNames.{base_names}
 use Rattle.included_documents.specs.Meant.{meant}
 use Rattle.document_store.specs.Texts.{Document}
-use Rattle.document_units.specs.Listed.{lists_of}
-use Rattle.document_units.specs.Readings.{Read, Reads}
+use Rattle.read_documents.specs.Listed.{lists_of}
+use Rattle.read_documents.specs.Readings.{Read, Reads}
 use Rattle.rename_conditions.specs.Readers.{Reader, Reading}
 use Rattle.file_commands.specs.Checking as checking
 use Rattle.file_commands.specs.Renaming.{printed, rename_in_text, renamed_in}

@@ -10,8 +10,8 @@ use Rattle.std.specs.declared.vec.Vec.{Vec}
 use Rattle.ls_base.specs.declared.answers.Diagnostic.{Diagnostic}
 use Rattle.ls_base.specs.declared.encoding.Encoding.TheVariants.{Utf16}
 use Rattle.document_store.specs.Texts.{Texts}
-use Rattle.document_units.specs.Listed.{lists_of}
-use Rattle.document_units.specs.Readings.{Read}
+use Rattle.read_documents.specs.Listed.{lists_of}
+use Rattle.read_documents.specs.Readings.{Read}
 use Rattle.command_lines.specs.Diagnostics.{diagnostic_lines, has_error, not_utf8}
 use Rattle.file_commands.specs.declared.checking.Checked.{Checked}
 

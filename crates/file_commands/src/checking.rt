@@ -7,7 +7,7 @@ ghost use Rattle.std.specs.Ordering.{nat_cmp};
 ghost use Rattle.ls_base.specs.Limits.{max_documents, max_text};
 ghost use Rattle.ls_base.specs.declared.encoding.Encoding.TheVariants.{Utf16};
 ghost use Rattle.command_lines.specs.Diagnostics as diagnostics;
-ghost use Rattle.document_units.specs.Readings.{Read, AreReadAs};
+ghost use Rattle.read_documents.specs.Readings.{Read, AreReadAs};
 ghost use Rattle.program_answers.specs.Updates.{AreListsOf, entries_shown};
 ghost use Rattle.program_expansion.specs.UsesInTurn.{uses_in};
 ghost use Rattle.file_commands.specs.Checking.{checked_in, bytes_in, open_file, opened, printed, with_file};
@@ -17,10 +17,11 @@ use document_store::{Store, StoreFault};
 use ls_base::{Encoding, Items, Mem, Memory, Steps, Text};
 use program_answers::lists::{Lists, lists};
 use program_answers::open::Open;
-use program_expansion::program::{Reading, read_program};
+use program_expansion::program::read_program;
 use std::alloc::Global;
 use std::sync::ledger::Ledger;
 use syntax_tree::trees::Work;
+use unit_results::collecting::Reading;
 
 /// The version of a document that no client has opened.
 const VERSION: i64 = 0;

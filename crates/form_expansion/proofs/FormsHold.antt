@@ -31,7 +31,7 @@ use Rattle.expansion_laws.proofs.OtherForms.{declared_stays}
 use Rattle.syntax_tree.specs.Works.{IsOpened}
 use Rattle.form_expansion.specs.Ends.{numbers_of, Rise, IsAmong}
 use Rattle.form_expansion.specs.Forms.{IsBench, IsBegun, IsUntouched, IsDeclared, used_by, AreInOrder, PassesTo, PassesForm, CanPass, FormsHeld, AreFresh, AreDeclared, Passes, Stays, passed, taken, known_by}
-use Rattle.document_units.specs.WereRead.{WereRead}
+use Rattle.read_documents.specs.WereRead.{WereRead}
 use Rattle.form_expansion.specs.declared.forms.Bench.{Bench}
 use Rattle.form_expansion.specs.declared.forms.Declared as code
 use Rattle.form_expansion.proofs.DeclaredForms.{declared_on, declared_blank, declared_more}

@@ -1,5 +1,4 @@
 pub mod Live  -- Live nodes are no fewer in a work that keeps its trees
-pub mod Enumerated  -- The items of a list with their places
 pub mod BenchLaws  -- What calls leave of a bench adds up, and units stand in a work that has grown
 pub mod UnitForms  -- The forms of a unit by their numbers
 pub mod FormAtWork  -- While an item is expanded its form stays at work, and work may turn to another form at any time between

@@ -36,6 +36,7 @@ use Rattle.expansion_laws.specs.Tops.{OfOk, ItemsBind}
 use Rattle.unit_scopes.specs.Kept.{WaitsFor}
 use Rattle.unit_scopes.specs.Units.{UnitStands, CountsFor, HasSpace, ItemFor, declared}
 use Rattle.unit_scopes.specs.declared.scope.Budget.{Budget}
+pub use Rattle.program_leaves.specs.Formed.{AreFormed}
 use Rattle.form_expansion.specs.Ends.{numbers_of, Rise, IsAmong, Comes}
 use Rattle.form_expansion.specs.declared.forms.Bench.{Bench}
 use Rattle.form_expansion.specs.declared.forms.Declared as code
@@ -225,13 +226,6 @@ pub record FormsHeld (b : Bench) (unit place : ℕ) (ds : List code.Declared) : 
 -- the forms from one on are as new
 abbrev pub AreFresh : ℕ → ScopedState → Type 0
 AreFresh place s = (m : ℕ) → place ≤ m → IsFresh s m
-
--- forms of a unit that stand for what came of some, and what they tell of its definitions
-pub record AreFormed (work : Work) (unit : ℕ) (cs : List code_form.UnitForm) : Type 0 where
-  pub formed : List Formed
-  pub stand : FormsStand work unit 0 cs formed
-  pub defined : List Defined
-  pub definitions : AreDefinitions work.symbols (reverse (definitions_from 0 cs)) defined
 
 -- the forms from a number on: each is the next that was gone through, or isn't expanded
 abbrev pub AreDeclared : Work → Region → (unit form : ℕ) → ScopedState → List code.Declared → List (LeftOf Identifier) → Type 0

@@ -22,17 +22,17 @@ ghost use Rattle.unit_scopes.specs.Outcomes.{Grows, IsAtWork};
 ghost use Rattle.unit_scopes.specs.Searched.{searched_unit_over};
 ghost use Rattle.unit_scopes.specs.Units.{UnitStands, CountsFor, HasSpace, ItemFor, CanDeclare, Expands, declared, expanded};
 ghost use Rattle.form_expansion.specs.Forms.{IsBench, IsBegun, IsUntouched, IsDeclared, used_by, Passing, PassesTo, PassesForm, FinishesForm, CanPass, CanFinish, CanFinishAll, FormsHeld, Passes, Finishes, AreFormed, Unfolds, Stays, IsTurned};
-ghost use Rattle.document_units.specs.WereRead.{WereRead};
+ghost use Rattle.read_documents.specs.WereRead.{WereRead};
 
-use core_tree::traces::{FormFault, Trace};
+use core_tree::traces::{FormFault, Trace, blank_trace};
 use core_tree::units::{ExpandedItem, UnitForm};
 use datum_reader::seed_as;
-use document_units::form_numbers::number_of;
 use expander::{
     Budget, ExpandFault, Item, Left, UnitScope, WaitingUse, declare_form, expand_item, meet_uses,
 };
 use ls_base::limits::MAX_UNIT_NODES;
 use ls_base::{Items, Mem, Memory, Steps};
+use read_documents::form_numbers::number_of;
 use std::alloc::Global;
 use std::sync::ledger::Ledger;
 use syntax_tree::trees::{PoolFault, Region, Tree, Work};
@@ -188,19 +188,6 @@ fn blank(alloc: Global) -> Declared
         uses: Vec::new(alloc),
         aside: Items::new(alloc),
         fault: None,
-    }
-}
-
-/// A trace of nothing.
-pub fn blank_trace(alloc: Global) -> Trace
-    ensures definitions { result.definitions ≡ [] }
-    ensures keywords { result.keywords ≡ [] }
-    ensures uses { result.uses ≡ [] }
-{
-    Trace {
-        definitions: Items::new(alloc),
-        keywords: Items::new(alloc),
-        uses: Items::new(alloc),
     }
 }
 

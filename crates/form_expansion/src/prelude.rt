@@ -13,9 +13,9 @@ ghost use Rattle.unit_scopes.specs.Units.{UnitStands};
 ghost use Rattle.form_expansion.specs.Begun.{AreStandard, AddsStandard};
 
 use base_library::{PreludeMacro, prelude, standard};
-use document_units::known::standard_library_names;
 use expander::{Imported, UnitScope};
 use ls_base::{Items, Mem, Memory, Text};
+use read_documents::standard_names::standard_library_names;
 use std::alloc::Global;
 use syntax_tree::meaning::Meaning;
 use syntax_tree::trees::{PoolFault, Region, Work};

@@ -11,8 +11,8 @@ ghost use Rattle.form_expansion.specs.Refused.{refused_fault, refused_forms, ref
 
 use core_tree::traces::FormFault;
 use core_tree::units::UnitForm;
-use document_units::form_numbers::number_of;
 use ls_base::{Items, Mem};
+use read_documents::form_numbers::number_of;
 use scheme_model::Occ;
 use unit_sources::UnitForm as SourceForm;
 use unit_sources::declared::is_include;

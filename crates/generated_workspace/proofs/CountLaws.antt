@@ -8,9 +8,9 @@ use Rattle.std.proofs.lemmas.List.Folds.{fold-map}
 use Rattle.ls_base.specs.declared.answers.Diagnostic.{Diagnostic}
 use Rattle.ls_base.specs.declared.encoding.Encoding.{Encoding}
 use Rattle.document_store.specs.Texts.{Document, Texts}
-use Rattle.document_units.specs.Listed.{Listed, lists_of}
-use Rattle.document_units.specs.Readings.{AreDocuments, AreReadAs, Read}
-use Rattle.document_units.specs.declared.documents.Document as read
+use Rattle.read_documents.specs.Listed.{Listed, lists_of}
+use Rattle.read_documents.specs.Readings.{AreDocuments, AreReadAs, Read}
+use Rattle.read_documents.specs.declared.documents.Document as read
 use Rattle.program_answers.specs.Listings.{or_none}
 use Rattle.program_answers.specs.Updates.{AreListsOfTexts}
 use Rattle.program_answers.proofs.PublishedMaps.{is_tied, ties_are}

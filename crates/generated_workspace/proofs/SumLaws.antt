@@ -2,7 +2,7 @@
 use Rattle.std.proofs.Common.{◌≡◌, ◌<◌, ◌≤◌, ◌+◌, ℕ, List, length, get_or, take, sym, ap, ◌∙◌, arith}
 use Rattle.std.specs.List.{sum_by}
 use Rattle.std.proofs.lemmas.List.Sums.{sum_by_more}
-use Rattle.document_units.proofs.Nths.{take_all}
+use Rattle.read_documents.proofs.Nths.{take_all}
 
 -- with one more
 pub sum_more : {X : Type 0} (f : X → ℕ) (xs : List X) (n : ℕ) (x : X) (total next : ℕ) → n < length xs → x ≡ get_or xs n x → total ≡ sum_by f (take n xs) → next ≡ total + f x → next ≡ sum_by f (take (n + 1) xs)

@@ -10,8 +10,8 @@ use Rattle.ls_base.specs.declared.answers.DocEdits.{DocEdits}
 use Rattle.ls_base.specs.declared.encoding.Encoding.TheVariants.{Utf16}
 use Rattle.ls_base.specs.declared.places.Pos.{Pos}
 use Rattle.document_store.specs.Texts.{Document, Texts}
-use Rattle.document_units.specs.Listed.{lists_of}
-use Rattle.document_units.specs.Readings.{Read}
+use Rattle.read_documents.specs.Listed.{lists_of}
+use Rattle.read_documents.specs.Readings.{Read}
 use Rattle.program_answers.specs.ToldAnswers.{answer_of}
 use Rattle.scheme_model.specs.Session as model
 use Rattle.rename_conditions.specs.Readers.{Reader}

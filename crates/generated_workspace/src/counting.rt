@@ -8,7 +8,7 @@ ghost use Rattle.ls_base.specs.declared.answers.Arrow as told;
 ghost use Rattle.ls_base.specs.declared.answers.DocEdits as edited;
 ghost use Rattle.ls_base.specs.declared.encoding.Encoding.TheVariants.{Utf16};
 ghost use Rattle.document_store.specs.Texts.{Document as Entry};
-ghost use Rattle.document_units.specs.Readings.{Read, AreReadAs};
+ghost use Rattle.read_documents.specs.Readings.{Read, AreReadAs};
 ghost use Rattle.program_answers.specs.ToldAnswers.{answer_of};
 ghost use Rattle.program_answers.specs.Updates.{list_at};
 ghost use Rattle.rename_conditions.specs.Readers.{Reader, IsReader};

@@ -1,14 +1,14 @@
 //! What is known of diagnostics by what was published (LSP 3.17, publishDiagnostics): of each document the list that was published last.
 ghost use Rattle.std.specs.Prelude.{◌≡◌, ◌+◌, ℕ, List, length, IfOk, OnOk};
 ghost use Rattle.std.specs.List.{fold, sum_by};
-ghost use Rattle.document_units.specs.declared.documents.Document as read;
+ghost use Rattle.read_documents.specs.declared.documents.Document as read;
 ghost use Rattle.program_answers.specs.Updates.{list_at};
 ghost use Rattle.generated_workspace.specs.Known.{with_published};
 
-use document_units::documents::Document;
 use ls_base::{Diagnostic, Items, Mem, Range};
 use program_answers::lists::Lists;
 use program_answers::publications::Published;
+use read_documents::documents::Document;
 use std::alloc::Global;
 
 /// Keeps the lists that are published, each in place of the one before.

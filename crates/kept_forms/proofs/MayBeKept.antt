@@ -33,7 +33,7 @@ module _ (f : Bound → Bound) (none : (x : Bound) → f x ≡ x) where
   items_still [] = refl
   items_still (k ∷ ks) = let a = or_still k.part in let b = items_still ks in λ j. record { part = a j; moment = k.moment } ∷ b j
 
-  kept_still : (k : KeptParts) → kept_moved f k ≡ k
+  pub kept_still : (k : KeptParts) → kept_moved f k ≡ k
   kept_still k = let a = left_still f none k.left in let b = items_still k.items in λ j. record { left = a j; before = k.before; begun = k.begun; met = k.met; items = b j }
 
 pub pass_itself : (w : Around) (turns : ℕ) (t : Tree Ident) (o : Option KeptParts) → start w.state ≡ no_counts → FormBegins w t → PassKept w turns t (Some (kept_form (kept_aside w turns t) o))

@@ -15,11 +15,11 @@ use Rattle.kept_forms.specs.KeptForms.{KeptAside, KeptParts, KeptForm, goes_thro
 use Rattle.kept_forms.specs.Carried.{PassKept, RestFits, FormFits}
 use Rattle.kept_forms.proofs.OneSide.{BindsAll, LeftBinds, run_keeps}
 
-abbrev AtLeast : ℕ → Bound → Type 0
+abbrev pub AtLeast : ℕ → Bound → Type 0
 AtLeast n (LocalNumber k) = Unit {0}
 AtLeast n (Definition u m) = n ≤ m
 
-set_numbers : (w : Around) (turns : ℕ) (t : Tree Ident) → LeftBinds (AtLeast (definition_count w.state.table w.state.unit)) (set_aside w turns t).0.left
+pub set_numbers : (w : Around) (turns : ℕ) (t : Tree Ident) → LeftBinds (AtLeast (definition_count w.state.table w.state.unit)) (set_aside w turns t).0.left
 set_numbers w turns t =
     let n = definition_count w.state.table w.state.unit in
     let I : ScopedState → Type 0 = λ (s : ScopedState). n ≤ definition_count s.table s.unit in
@@ -70,7 +70,7 @@ pub left_same : (l m : Left Ident) (r : Result (Left Ident) Broken) → r ≡ Ok
 unfolding left_in
 left_same l m r a b = ap (left_in l) (sym b ∙ a)
 
-moved_left : (a b c : ℕ) (r : Result (Left Ident) Broken) (m : Left Ident) → LeftBinds (AtLeast a) r → or_fault (left_with (bound_moved a b)) r ≡ Ok m → or_fault (left_with (bound_moved a c)) r ≡ Ok (left_with (bound_moved b c) m)
+pub moved_left : (a b c : ℕ) (r : Result (Left Ident) Broken) (m : Left Ident) → LeftBinds (AtLeast a) r → or_fault (left_with (bound_moved a b)) r ≡ Ok m → or_fault (left_with (bound_moved a c)) r ≡ Ok (left_with (bound_moved b c) m)
 unfolding left_in
 moved_left a b c (Ok l) m h e = ap (λ z. Ok z) (sym (left_twice a b c l h) ∙ ap (λ z. left_with (bound_moved b c) (left_in m z)) e)
 moved_left a b c (Err x) m h e = let q : Err x ≡ Ok m = e in absurd cc

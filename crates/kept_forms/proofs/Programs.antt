@@ -75,7 +75,7 @@ distinct_forms (x ∷ xs) h = (not_among x.form xs h.0, distinct_forms xs h.1)
 
 -- ---- what is told of the same work
 
-not_kept_same : (xs : List FormOrKept) (s t : ScopedState) → t.uses ≡ s.uses → uses_not_kept xs t ≡ uses_not_kept xs s
+pub not_kept_same : (xs : List FormOrKept) (s t : ScopedState) → t.uses ≡ s.uses → uses_not_kept xs t ≡ uses_not_kept xs s
 not_kept_same [] s t e = refl
 not_kept_same (x ∷ xs) s t e = let b = not_kept_same xs s t e in λ j. not_kept x.kept (e j x.form) + b j
 
@@ -129,7 +129,7 @@ done_more rs r n e u h = go (u == n) (ap (λ m. m == u) e ∙ turned n u) h
     go true q k = ap (λ t. is_some (cond t (Some r) (result_at rs u))) q
     go false q k = ap (λ t. is_some (cond t (Some r) (result_at rs u))) q ∙ k
 
-result_number : (p : Prepared) (imports : List Entry × List SetResult) (table : Table) (forms : Option (List Formed)) → (unit_result p imports table forms).unit.number ≡ p.number
+pub result_number : (p : Prepared) (imports : List Entry × List SetResult) (table : Table) (forms : Option (List Formed)) → (unit_result p imports table forms).unit.number ≡ p.number
 result_number p imports table None = refl
 result_number p imports table (Some forms) = refl
 
@@ -211,11 +211,11 @@ module _ (all : List Placed) (ps : List Prepared) (known : Known) where
           definitions = d j;
         }
 
-    module _ (new : done g.results p.number ≡ false) (xs : List FormOrKept) (forms : map form_of xs ≡ forms_over (Written p.number) p.number 0 (forms_at_work p)) (kept : UnitKept known enough_turns xs s) where
+    module _ (new : done g.results p.number ≡ false) (xs : List FormOrKept) (forms : map form_of xs ≡ forms_over (Written p.number) p.number 0 (forms_at_work p)) where
       abbrev w : Era
       w = coming g.results p.number
 
-      between : Between w known t []
+      pub between : Between w known t []
       between =
           let imports = unit_entries all g.results p in
           record {
@@ -226,32 +226,33 @@ module _ (all : List Placed) (ps : List Prepared) (known : Known) where
             stood = tt;
           }
 
-      held : AllOf (λ (x : FormOrKept). TreeAll (UnitLeaf w known t) x.tree) xs
+      pub held : AllOf (λ (x : FormOrKept). TreeAll (UnitLeaf w known t) x.tree) xs
       held =
           let imports = unit_entries all g.results p in
           held_forms w t xs (subst (AllOf (FormHeld w known t)) (sym forms) (forms_held known g b p new imports (unit_entries_fit NoLocal (λ x. tt) all g.results b.exports p)))
 
-      distinct : Distinct of_form xs
+      pub distinct : Distinct of_form xs
       distinct = distinct_forms xs (subst (Distinct number_of) (sym forms) (forms_distinct (Written p.number) p.number (forms_at_work p) 0))
 
-      pub same_unit : SameWork (unit_keeping known enough_turns xs s) (scoped_unit_over known p t)
-      same_unit =
-          subst (λ (ts : List (ℕ × Tree Ident)). SameWork (unit_keeping known enough_turns xs s) (unit (counted known) enough_turns [] ts t)) forms
-          (unit_like w known enough_turns xs s t starts_alike between held distinct (new_all s (λ f. refl) xs) kept)
+      module _ (kept : UnitKept known enough_turns xs s) where
+        pub same_unit : SameWork (unit_keeping known enough_turns xs s) (scoped_unit_over known p t)
+        same_unit =
+            subst (λ (ts : List (ℕ × Tree Ident)). SameWork (unit_keeping known enough_turns xs s) (unit (counted known) enough_turns [] ts t)) forms
+            (unit_like w known enough_turns xs s t starts_alike between held distinct (new_all s (λ f. refl) xs) kept)
 
-      pub forms_begin : UnitBegins known enough_turns xs s
-      forms_begin = unit_begins w known enough_turns xs s t starts_alike between held distinct (new_all s (λ f. refl) xs) kept
+        pub forms_begin : UnitBegins known enough_turns xs s
+        forms_begin = unit_begins w known enough_turns xs s t starts_alike between held distinct (new_all s (λ f. refl) xs) kept
 
-      -- ---- the uses that are worked
+        -- ---- the uses that are worked
 
-      uses_alike : (scoped_unit_over known p t).1.uses ≡ (unit_keeping known enough_turns xs s).1.uses
-      uses_alike = ap (λ (z : ScopedState). z.uses) same_unit.state
+        uses_alike : (scoped_unit_over known p t).1.uses ≡ (unit_keeping known enough_turns xs s).1.uses
+        uses_alike = ap (λ (z : ScopedState). z.uses) same_unit.state
 
-      pub uses_worked : unit_worked known enough_turns xs s ≡ uses_not_kept xs (scoped_unit_over known p t).1
-      uses_worked = worked_law known enough_turns xs s distinct (zero_all s (λ f. refl) xs) ∙ sym (not_kept_same xs (unit_keeping known enough_turns xs s).1 (scoped_unit_over known p t).1 uses_alike)
+        pub uses_worked : unit_worked known enough_turns xs s ≡ uses_not_kept xs (scoped_unit_over known p t).1
+        uses_worked = worked_law known enough_turns xs s distinct (zero_all s (λ f. refl) xs) ∙ sym (not_kept_same xs (unit_keeping known enough_turns xs s).1 (scoped_unit_over known p t).1 uses_alike)
 
-      pub uses_told : Onwards (λ rs u. UsesTold rs u) (scoped_unit_over known p t)
-      uses_told = told_same (unit_keeping known enough_turns xs s) (scoped_unit_over known p t) same_unit.result uses_alike (told_law known enough_turns xs s distinct (zero_all s (λ f. refl) xs))
+        pub uses_told : Onwards (λ rs u. UsesTold rs u) (scoped_unit_over known p t)
+        uses_told = told_same (unit_keeping known enough_turns xs s) (scoped_unit_over known p t) same_unit.result uses_alike (told_law known enough_turns xs s distinct (zero_all s (λ f. refl) xs))
 
   -- ---- after so many units
 

@@ -37,7 +37,7 @@ module _ (all : List Placed) (ps : List Prepared) (known : Known) (keep : Keepin
       record { table = alike.table; macros = alike.macros; places = alike.places; definitions = alike.definitions; entry = alike.entry; results = ap (λ rs. broken_result p f ∷ rs) alike.results }
   fault_alike g h b placed alike p ready None k = unit_after g h alike p (same_unit all ps known g h b placed alike p (new_unit all ps known g p ready) (keep p.number) k.0 k.1)
 
-  worked_alike : (g h : ScopedProgress) → BetweenUnits g → PlacesDone g → SameProgress h g → (o : Option Prepared) → OrReady all ps known (is_ready all ps g.results) o → WorkKeeps all ps known keep o h
+  pub worked_alike : (g h : ScopedProgress) → BetweenUnits g → PlacesDone g → SameProgress h g → (o : Option Prepared) → OrReady all ps known (is_ready all ps g.results) o → WorkKeeps all ps known keep o h
       → SameProgress (kept_worked all ps known keep o h) (scoped_worked all ps known o g)
   worked_alike g h b placed alike None r k = alike
   worked_alike g h b placed alike (Some p) r k = fault_alike g h b placed alike p r (fault_before all ps p) k

@@ -5,7 +5,6 @@ use crate::{
     Contents, Fetch, Files, Got, MemFiles, MemSink, MemSource, Pieces, Plan, Put, Sink, Source,
     StdFiles, StdSink, StdSource, SureFiles, SureSink, SureSource,
 };
-use ls_base::Mem;
 use std::alloc::{AllocError, Global};
 use std::collections::{BTreeMap, VecDeque};
 use std::io::{ErrorKind, Read, Write};
@@ -64,8 +63,8 @@ impl Write for Broken {
 }
 
 /// The pieces `abc` and `d`.
-fn two_pieces(alloc: Global) -> Mem<Pieces> {
-    Pieces::cut(alloc, b"abcd", 3)
+fn two_pieces(alloc: Global) -> Result<Pieces, AllocError> {
+    Pieces::cut(alloc, b"abcd", 3).map_err(|_| AllocError)
 }
 
 /// The files `short`, of 3 bytes, and `long`, of 5.
@@ -103,7 +102,7 @@ fn a_source_in_memory_gives_pieces_and_fails_as_planned(rt: HostRuntime) -> Resu
 #[test]
 fn a_sink_in_memory_keeps_bytes_and_fails_as_planned_or_full(rt: HostRuntime) -> Result<(), Fail> {
     let plan = Plan::new(vec![in rt.alloc(); 2]?);
-    let mut sink = MemSink::new(rt.alloc(), 4, 3, plan)?;
+    let mut sink = MemSink::new(rt.alloc(), 4, 3, plan).map_err(|_| AllocError)?;
     for (bytes, put) in [
         (b"ab".as_slice(), Put::Some(2)),
         (b"cd".as_slice(), Put::Failed),

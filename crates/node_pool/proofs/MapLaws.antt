@@ -133,6 +133,14 @@ module _ {A B : Type 0} (f : A → B) where
       let from : n + 0 ≡ n = omega arith in
       get-from_entries nat_cmp_total (entries_from f 0 xs) n ∙ ap (λ (m : ℕ). map.find nat_cmp m (entries_from f 0 xs)) (sym from) ∙ find_at 0 n xs
 
+  -- something is at a number where its slot holds a value
+  pub some_mapped : (xs : List (Option A)) (n : ℕ) → is_some (map.get (map_of f xs) n) ≡ is_some (at xs n)
+  some_mapped xs n = ap (λ (o : Option B). is_some o) (get_map xs n) ∙ by_value (at xs n)
+    where
+      by_value : (o : Option A) → is_some (option_map f o) ≡ is_some o
+      by_value None = refl
+      by_value (Some x) = refl
+
   count_from : (i : ℕ) (xs : List (Option A)) → map.len (map.from_entries {R = nat_cmp} (entries_from f i xs)) ≡ count_by is_some xs
   count_from i [] = map.len-empty nat_cmp B
   count_from i (None ∷ xs) = omega (arith, count_from (suc i) xs, sum_by-cons (λ o. cond (is_some o) 1 0) None xs)

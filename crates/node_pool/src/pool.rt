@@ -1,5 +1,5 @@
 //! The pool: nodes by ids, in regions that go back to a mark and end.
-ghost use Rattle.std.specs.Prelude.{◌≡◌, ◌≢◌, ℕ, ◌+◌, ◌-◌, ◌^◌, ◌<◌, ◌≤◌, ◌↔◌, Err, Some, None, IsSome, IsOk, IfOk, OnOk, OnErr};
+ghost use Rattle.std.specs.Prelude.{◌≡◌, ◌≢◌, ℕ, ◌+◌, ◌-◌, ◌^◌, ◌<◌, ◌≤◌, ◌↔◌, Err, Some, None, is_some, IsSome, IsOk, IfOk, OnOk, OnErr};
 ghost use Rattle.std.specs.FinMap as map;
 ghost use Rattle.node_pool.specs.NodePool.{Lived, Nodes, IsPut, back_to};
 ghost use Rattle.node_pool.specs.Pools.{live_count, node_at, IsLive, IsOpened, count_in, lived_in, Keeps, Reaches, HasRanks, OnlyAdds};
@@ -181,6 +181,46 @@ impl<N: Drop> Pool<N> {
     {
         let held = self.nodes.get(id.number as usize);
         &held.node
+    }
+
+    /// The ids of the nodes that live have lower numbers. It takes no memory.
+    pub fn end(&self) -> u32
+        ensures below { (id : ℕ) → IsSome (map.get self.now.nodes id) → id < result }
+        ensures few { result ≤ 2 ^ 31 }
+    {
+        self.nodes.len() as u32
+    }
+
+    /// Whether a node lives under an id. It takes no memory.
+    pub fn lives(&self, id: NodeId) -> bool
+        ensures { result ≡ is_some (map.get self.now.nodes id.number) }
+    {
+        self.nodes.holds(id.number as usize)
+    }
+
+    /// Puts another node in place of one that lives, with its id, region and rank, and gives that one back. It takes no memory.
+    pub fn replace(&mut self, id: NodeId, node: N) -> N
+        requires { IsLive self.old id }
+        ensures was { node_at self.old id ≡ Some result }
+        ensures nodes { (l : Lived N) → map.get self.old.nodes id.number ≡ Some l →
+            self.new.nodes ≡ map.insert self.old.nodes id.number (record l { node = node }) }
+        ensures regions { self.new.regions ≡ self.old.regions }
+        ensures identity { self.new.identity ≡ self.old.identity }
+        ensures spare { self.new.spare ≡ self.old.spare }
+    {
+        let number = id.number as usize;
+        let held = self.nodes.get(number);
+        let (region, rank, before) = (held.region, held.rank, held.before);
+        let held = self.nodes.replace(
+            number,
+            Held {
+                node,
+                region,
+                rank,
+                before,
+            },
+        );
+        held.node
     }
 
     /// How many nodes live. It takes no memory.

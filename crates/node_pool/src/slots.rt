@@ -1,5 +1,5 @@
 //! A vector of slots, each of which holds a value or is vacant. The vacant ones are linked, and are filled before the vector grows.
-ghost use Rattle.std.specs.Prelude.{◌≡◌, ◌+◌, ◌≤◌, [], count_by, is_some, slice_set, IsSome, IsOk, Some, IfOk, OnOk, OnErr};
+ghost use Rattle.std.specs.Prelude.{◌≡◌, ◌+◌, ◌≤◌, [], length, count_by, is_some, slice_set, IsSome, IsOk, Some, IfOk, OnOk, OnErr};
 ghost use Rattle.node_pool.specs.SlotLists.{at, IsFilled};
 
 use crate::faults::Mem;
@@ -49,6 +49,13 @@ impl<T: Drop> Slots<T> {
             live: 0,
             next: 0,
         }
+    }
+
+    /// How many slots there are.
+    pub(crate) fn len(&self) -> usize
+        ensures { result ≡ length self.now.slots }
+    {
+        self.entries.len()
     }
 
     /// How many slots hold a value.
@@ -110,6 +117,30 @@ impl<T: Drop> Slots<T> {
                 value
             }
             Entry::Vacant(_) => unreachable!(),
+        }
+    }
+
+    /// Writes another value into a slot that holds one, and gives that back.
+    pub(crate) fn replace(&mut self, number: usize, value: T) -> T
+        requires { IsSome (at self.old.slots number) }
+        ensures value { at self.old.slots number ≡ Some result }
+        ensures slots { self.new.slots ≡ slice_set self.old.slots number (Some value) }
+        ensures spare { self.new.spare ≡ self.old.spare }
+    {
+        match mem::replace(&mut self.entries[number], Entry::Occupied(value)) {
+            Entry::Occupied(value) => value,
+            Entry::Vacant(_) => unreachable!(),
+        }
+    }
+
+    /// Whether a slot holds a value.
+    pub(crate) fn holds(&self, number: usize) -> bool
+        ensures { result ≡ is_some (at self.now.slots number) }
+    {
+        match self.entries.get(number) {
+            Some(Entry::Occupied(_)) => true,
+            Some(Entry::Vacant(_)) => false,
+            None => false,
         }
     }
 

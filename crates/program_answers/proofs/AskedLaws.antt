@@ -14,7 +14,7 @@ use Rattle.scheme_model.specs.Spelling.{class_of, standard_origins, is_joined}
 use Rattle.arrow_index.specs.Classes.{AreStandard}
 use Rattle.std.specs.Cmp.Lexicographic.{slice_cmp}
 use Rattle.std.specs.Ordering.{nat_cmp}
-use Rattle.document_units.specs.Listed.{range_of}
+use Rattle.read_documents.specs.Listed.{range_of}
 use Rattle.program_answers.specs.ToldAnswers.{answer_told, query_of, text_of, written_at}
 use Rattle.program_answers.specs.declared.bytes.Bytes as code_bytes
 use Rattle.program_answers.specs.declared.bytes.Lit as code_lit

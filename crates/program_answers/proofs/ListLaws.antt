@@ -9,10 +9,10 @@ use Rattle.ls_base.specs.declared.encoding.Encoding.{Encoding}
 use Rattle.ls_base.specs.declared.answers.Diagnostic as told
 use Rattle.scheme_model.specs.Diagnostics.{Diagnostic}
 use Rattle.document_store.specs.Texts.{Document, Texts, text_at}
-use Rattle.document_units.specs.declared.documents.Document as code
-use Rattle.document_units.specs.Readings.{Read, AreReadAs, AreDocuments}
-use Rattle.document_units.specs.Findings.{kept}
-use Rattle.document_units.specs.Listed.{found_told, told_in, lists_told, found_of, AreFoundOf, lists_from, lists_of}
+use Rattle.read_documents.specs.declared.documents.Document as code
+use Rattle.read_documents.specs.Readings.{Read, AreReadAs, AreDocuments}
+use Rattle.read_documents.specs.Findings.{kept}
+use Rattle.read_documents.specs.Listed.{found_told, told_in, lists_told, found_of, AreFoundOf, lists_from, lists_of}
 use Rattle.program_answers.specs.Updates.{entries_shown}
 use Rattle.program_answers.proofs.TextLaws.{document_at, in_store}
 

@@ -3,8 +3,8 @@ use Rattle.std.proofs.Common.{◌≡◌, ℕ, zero, suc, ◌+◌, ◌<◌, List,
 use Rattle.std.specs.Option.{option_map}
 use Rattle.std.specs.Str.{bytes_eq}
 use Rattle.document_store.specs.Texts.{Document}
-use Rattle.document_units.specs.declared.documents.Document as code
-use Rattle.document_units.specs.Readings.{AreDocuments, IsDocument}
+use Rattle.read_documents.specs.declared.documents.Document as code
+use Rattle.read_documents.specs.Readings.{AreDocuments, IsDocument}
 use Rattle.program_answers.specs.ToldAnswers.{document_at, number_of}
 
 pub document_is : (ds : List (List ℕ × Document)) (cs : List code.Document) → AreDocuments ds cs → (n : ℕ) (c : code.Document) → slice_get cs n ≡ Some c → IsDocument (document_at ds n) c

@@ -14,9 +14,9 @@ use Rattle.std.proofs.lemmas.Option.{slice_get-map}
 use Rattle.std.proofs.lemmas.Slice.Eq.{bytes_eq-Decides}
 use Rattle.ls_base.specs.declared.answers.Diagnostic as told
 use Rattle.document_store.specs.Texts.{Document, Texts, is_open, version_at}
-use Rattle.document_units.specs.declared.documents.Document as code
+use Rattle.read_documents.specs.declared.documents.Document as code
 use Rattle.program_answers.specs.declared.publications.Published.{Published}
-use Rattle.document_units.specs.Readings.{AreDocuments}
+use Rattle.read_documents.specs.Readings.{AreDocuments}
 use Rattle.program_answers.specs.Updates.{IsNews, OthersStay, IsPublished, ArePublished}
 
 -- ---- the versions of documents

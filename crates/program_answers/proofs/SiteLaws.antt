@@ -3,10 +3,10 @@ use Rattle.std.proofs.Common.{◌≡◌, ℕ, zero, suc, ◌+◌, ◌==◌, List
 use Rattle.scheme_model.specs.declared.Occ.{Occ}
 use Rattle.scheme_model.specs.Program.{UnitResult}
 use Rattle.program_answers.specs.Named.{names_in_heads}
-use Rattle.document_units.specs.Places.{AreHeads}
-use Rattle.document_units.specs.Readings.{Read}
+use Rattle.read_documents.specs.Places.{AreHeads}
+use Rattle.read_documents.specs.Readings.{Read}
 use Rattle.scheme_model.specs.Sites.{first_where, names_in_document, or_else}
-use Rattle.document_units.specs.declared.listing.Head.{Head}
+use Rattle.read_documents.specs.declared.heads.Head.{Head}
 
 -- ---- the first that passes
 

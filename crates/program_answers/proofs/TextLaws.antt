@@ -10,15 +10,15 @@ use Rattle.ls_base.specs.declared.places.Place as told
 use Rattle.ls_base.specs.declared.places.Range.{Range}
 use Rattle.text_positions.specs.Lines.{AreLinesOf}
 use Rattle.document_store.specs.Texts.{Document, Texts, text_at}
-use Rattle.document_units.specs.declared.documents.Document as code
-use Rattle.document_units.specs.declared.findings.At.{At}
-use Rattle.document_units.specs.Readings.{Read, AreReadAs, IsDocument, AreDocuments}
-use Rattle.document_units.specs.Listed.{range_of}
+use Rattle.read_documents.specs.declared.documents.Document as code
+use Rattle.read_documents.specs.declared.findings.At.{At}
+use Rattle.read_documents.specs.Readings.{Read, AreReadAs, IsDocument, AreDocuments}
+use Rattle.read_documents.specs.Listed.{range_of}
 use Rattle.program_answers.specs.Placed.{IsPlace}
-use Rattle.document_units.specs.declared.listing.Head.{Head}
-use Rattle.document_units.specs.Belongs.{Belongs, AreErrorsIn, AreUnitsIn}
-use Rattle.document_units.specs.Places.{AreHeadsIn, bytes_at}
-use Rattle.document_units.proofs.Nths.{get_nth}
+use Rattle.read_documents.specs.declared.heads.Head.{Head}
+use Rattle.read_documents.specs.Belongs.{Belongs, AreErrorsIn, AreUnitsIn}
+use Rattle.read_documents.specs.Places.{AreHeadsIn, bytes_at}
+use Rattle.read_documents.proofs.Nths.{get_nth}
 
 pub document_at : (ds : List (List ℕ × Document)) (cs : List code.Document) → AreDocuments ds cs → (n : ℕ) (c : code.Document) → slice_get cs n ≡ Some c →
     (d : List ℕ × Document) × (slice_get ds n ≡ Some d) × IsDocument d c

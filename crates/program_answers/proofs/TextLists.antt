@@ -9,8 +9,8 @@ use Rattle.datum_reader.proofs.ReadLaws.{one_reading}
 use Rattle.datum_reader.proofs.TokensSeen.{text_once}
 use Rattle.datum_reader.proofs.Stops.{every_text, never_reads_and_stops, one_stop}
 use Rattle.document_store.specs.Texts.{Document, Texts}
-use Rattle.document_units.specs.Readings.{Read, Reads, Stops, uri_of, IsReadAs, AreReadAs, span_of}
-use Rattle.document_units.specs.Listed.{lists_from, lists_of}
+use Rattle.read_documents.specs.Readings.{Read, Reads, Stops, uri_of, IsReadAs, AreReadAs, span_of}
+use Rattle.read_documents.specs.Listed.{lists_from, lists_of}
 use Rattle.program_answers.specs.Updates.{AreListsOfTexts, Lists}
 
 -- ---- readings

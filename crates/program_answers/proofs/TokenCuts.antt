@@ -15,10 +15,10 @@ use Rattle.scheme_model.specs.Program.{UnitResult, result_at}
 use Rattle.datum_reader.specs.Texts.{token_seen}
 use Rattle.document_store.specs.Texts.{Document}
 use Rattle.program_answers.specs.Named.{CanCut}
-use Rattle.document_units.specs.Places.{spans_of}
-use Rattle.document_units.specs.Readings.{AreReadAs, IsReadAs, Read, Reads, Stops, span_of, spans_in}
+use Rattle.read_documents.specs.Places.{spans_of}
+use Rattle.read_documents.specs.Readings.{AreReadAs, IsReadAs, Read, Reads, Stops, span_of, spans_in}
 use Rattle.program_answers.specs.ToldAnswers.{text_of}
-use Rattle.document_units.proofs.DocumentLaws.{spelled}
+use Rattle.read_documents.proofs.DocumentLaws.{spelled}
 
 -- ---- in characters
 

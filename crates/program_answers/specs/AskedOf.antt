@@ -8,7 +8,7 @@ use Rattle.scheme_model.specs.Program.{units_of}
 use Rattle.arrow_index.specs.declared.classes.ClassPart.{ClassPart}
 use Rattle.arrow_index.specs.Index.{IsIndexOf}
 use Rattle.arrow_index.specs.declared.index.Index.{Index}
-use Rattle.document_units.specs.Readings.{Read, AreReadAs, documents_in, program_in}
+use Rattle.read_documents.specs.Readings.{Read, AreReadAs, documents_in, program_in}
 
 -- documents that are read so, and the index of their program
 pub record IsSource (texts : Texts) (rs : List Read) (i : Index) : Type 0 where

@@ -4,7 +4,7 @@ use Rattle.std.specs.Str.{IsCharBoundary}
 use Rattle.scheme_model.specs.declared.Occ.{Occ}
 use Rattle.scheme_model.specs.Diagnostics.{Span}
 use Rattle.scheme_model.specs.Sites.{begins_at, touches}
-use Rattle.document_units.specs.declared.listing.Head.{Head}
+use Rattle.read_documents.specs.declared.heads.Head.{Head}
 use Rattle.program_answers.specs.declared.sites.Standing.{Standing}
 use Rattle.program_answers.specs.declared.sites.Standing.TheVariants.{Begins, Touches}
 

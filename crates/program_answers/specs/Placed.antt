@@ -6,9 +6,9 @@ use Rattle.ls_base.specs.declared.places.Place as told
 use Rattle.scheme_model.specs.Diagnostics.{Bytes, Span}
 use Rattle.scheme_model.specs.Program.{UnitResult, result_at}
 use Rattle.document_store.specs.Texts.{Document}
-use Rattle.document_units.specs.declared.findings.At.{At}
-use Rattle.document_units.specs.declared.places.PlacedError.{PlacedError}
-use Rattle.document_units.specs.Places.{bytes_at, form_or_start}
+use Rattle.read_documents.specs.declared.findings.At.{At}
+use Rattle.read_documents.specs.declared.places.PlacedError.{PlacedError}
+use Rattle.read_documents.specs.Places.{bytes_at, form_or_start}
 
 -- bytes of a document at its positions
 abbrev pub IsPlace : Encoding → List (List ℕ × Document) → Bytes → told.Place → Type 0

@@ -18,9 +18,9 @@ use Rattle.scheme_model.specs.Program.{units_of}
 use Rattle.scheme_model.specs.Session.{Query, Definition, References, Highlights, Prepare, Arrows}
 use Rattle.document_store.specs.Texts.{Document}
 use Rattle.scheme_model.specs.Answers.{Answer, Nothing, Places, Lit, Prepared, Drawn, Facts, facts_of, answer_in, no_answer}
-use Rattle.document_units.specs.Listed.{range_of}
-use Rattle.document_units.specs.Places.{spans_of}
-use Rattle.document_units.specs.Readings.{Read, documents_in, program_in}
+use Rattle.read_documents.specs.Listed.{range_of}
+use Rattle.read_documents.specs.Places.{spans_of}
+use Rattle.read_documents.specs.Readings.{Read, documents_in, program_in}
 use Rattle.scheme_model.specs.Sites.{name_at}
 
 -- ---- documents

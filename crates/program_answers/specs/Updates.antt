@@ -10,8 +10,8 @@ use Rattle.ls_base.specs.declared.encoding.Encoding.{Encoding}
 use Rattle.ls_base.specs.declared.answers.Diagnostic as told
 use Rattle.document_store.specs.Texts.{Texts, is_open, version_at}
 use Rattle.program_answers.specs.declared.publications.Published.{Published}
-use Rattle.document_units.specs.Readings.{Read, AreReadAs}
-use Rattle.document_units.specs.Listed.{lists_of}
+use Rattle.read_documents.specs.Readings.{Read, AreReadAs}
+use Rattle.read_documents.specs.Listed.{lists_of}
 use Rattle.program_answers.specs.Listings.{or_none}
 
 -- diagnostics of documents by their uris, and what a document has, of which one that isn't open has none

@@ -13,7 +13,7 @@ ghost use Rattle.program_leaves.specs.Members.{IsIn};
 ghost use Rattle.scheme_model.specs.Answers as told;
 ghost use Rattle.program_answers.specs.AskedOf.{IsSource};
 ghost use Rattle.program_answers.specs.BytesKept.{AreDrawnInside, AreInside, AreLitInside, HaveTokens, bytes_seen, drawn_seen, has_end, lit_seen, pair_bytes};
-ghost use Rattle.document_units.specs.Readings.{Read};
+ghost use Rattle.read_documents.specs.Readings.{Read};
 ghost use Rattle.program_answers.specs.ToldAnswers.{answer_of, answer_told, arrow_told, facts_in, highlight_told, place_told, query_of};
 
 use crate::asked::Asked;

@@ -2,10 +2,10 @@
 ghost use Rattle.std.specs.Prelude.{◌≡◌, map, IfOk};
 ghost use Rattle.scheme_model.specs.Answers.{bytes_before, drawn_before, lit_before, ordered_by};
 ghost use Rattle.program_answers.specs.BytesKept.{bytes_seen, drawn_seen, has_end, lit_seen};
-ghost use Rattle.document_units.specs.Places.{bytes_at};
+ghost use Rattle.read_documents.specs.Places.{bytes_at};
 
-use document_units::findings::At;
 use ls_base::{Items, Mem, Span};
+use read_documents::findings::At;
 
 /// Bytes of a document, by its place.
 #[derive(Clone, Copy, PartialEq, Eq, PartialOrd, Ord)]

@@ -6,7 +6,7 @@ ghost use Rattle.std.specs.List.{All};
 ghost use Rattle.scheme_model.specs.Entries.{same_occ};
 ghost use Rattle.scheme_model.specs.Spelling.{is_joined};
 ghost use Rattle.program_answers.specs.AskedOf.{IsSource, own_prefixes};
-ghost use Rattle.document_units.specs.Readings.{Read};
+ghost use Rattle.read_documents.specs.Readings.{Read};
 ghost use Rattle.program_answers.specs.Classed.{IsClassAt, IsClassOf, IsLongest, bare_part, head_of, prefix_cmp, standard_for};
 ghost use Rattle.program_answers.specs.ToldAnswers.{facts_in, has_bars, name_there};
 

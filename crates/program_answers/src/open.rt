@@ -7,24 +7,24 @@ ghost use Rattle.document_store.specs.Texts.{Document as Entry, text_at};
 ghost use Rattle.scheme_model.specs.Diagnostics.{bytes_of};
 ghost use Rattle.scheme_model.specs.declared.Occ as occ;
 ghost use Rattle.ls_base.specs.Positions.{offset_of};
-ghost use Rattle.document_units.specs.Belongs.{AreErrorsIn, Belongs, error_in};
-ghost use Rattle.document_units.specs.Listed.{range_of};
+ghost use Rattle.read_documents.specs.Belongs.{AreErrorsIn, Belongs, error_in};
+ghost use Rattle.read_documents.specs.Listed.{range_of};
 ghost use Rattle.program_answers.specs.Named.{CanCut};
-ghost use Rattle.document_units.specs.Readings.{Read, AreReadAs, AreDocuments, IsDocument, first_unread, program_in, span_seen};
+ghost use Rattle.read_documents.specs.Readings.{Read, AreReadAs, AreDocuments, IsDocument, first_unread, program_in, span_seen};
 ghost use Rattle.program_answers.specs.Placed.{IsErrorAt, IsIn, IsPlace, form_bytes};
-ghost use Rattle.document_units.specs.Places.{ArePlaces, CanPlace, bytes_at, spans_of};
+ghost use Rattle.read_documents.specs.Places.{ArePlaces, CanPlace, bytes_at, spans_of};
 ghost use Rattle.scheme_model.specs.Sites as sites;
 ghost use Rattle.program_answers.specs.ToldAnswers as told;
-ghost use Rattle.document_units.specs.UnitFindings.{first_error_at};
+ghost use Rattle.read_documents.specs.UnitFindings.{first_error_at};
 
 use crate::lists::{range, text_in};
 use crate::sites::name_at;
 use document_store::Store;
-use document_units::documents::{Document, first_unread};
-use document_units::findings::At;
-use document_units::listing::Head;
-use document_units::places::{PlacedError, Places};
 use ls_base::{Encoding, Mem, Place, Pos, Range, Span, Text};
+use read_documents::documents::{Document, first_unread};
+use read_documents::findings::At;
+use read_documents::heads::Head;
+use read_documents::places::{PlacedError, Places};
 use scheme_model::Occ;
 use std::alloc::Global;
 use std::marker::Model;
@@ -42,7 +42,7 @@ pub struct Open {
 impl Model for Open {
     ghost use Rattle.document_store.specs.Texts.{Texts};
     ghost use Rattle.document_store.specs.Docs.{coded_texts};
-    ghost use Rattle.document_units.specs.Belongs.{Belongs};
+    ghost use Rattle.read_documents.specs.Belongs.{Belongs};
 
     ghost Value = { Texts };
 

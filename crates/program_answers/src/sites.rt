@@ -3,13 +3,13 @@ ghost use Rattle.std.specs.Prelude.{◌≡◌, ◌==◌, [], List, if◌then◌e
 ghost use Rattle.scheme_model.specs.Diagnostics.{bytes_of};
 ghost use Rattle.scheme_model.specs.Program.{UnitResult};
 ghost use Rattle.program_answers.specs.Named.{names_in_heads, stands};
-ghost use Rattle.document_units.specs.Places.{ArePlaces, CanPlace, spans_of};
-ghost use Rattle.document_units.specs.Readings.{Read, span_seen};
+ghost use Rattle.read_documents.specs.Places.{ArePlaces, CanPlace, spans_of};
+ghost use Rattle.read_documents.specs.Readings.{Read, span_seen};
 ghost use Rattle.scheme_model.specs.Sites as sites;
 
-use document_units::listing::Head;
-use document_units::places::Places;
 use ls_base::Span;
+use read_documents::heads::Head;
+use read_documents::places::Places;
 use scheme_model::Occ;
 
 /// How an identifier stands at an offset: it begins there, or the offset is inside of it or at one of its ends.

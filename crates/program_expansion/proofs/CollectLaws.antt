@@ -24,15 +24,16 @@ use Rattle.core_tree.specs.declared.units.Unit as code
 use Rattle.unit_sources.specs.UnitsRead.{form_of, forms_of}
 use Rattle.unit_sources.specs.declared.units.UnitSource.{UnitSource}
 use Rattle.program_expansion.specs.UnitResults.{CameTo, ComesTo, HaveCome}
-use Rattle.document_units.specs.UnitSources.{AreSourcesOf}
+use Rattle.read_documents.specs.UnitSources.{AreSourcesOf}
 use Rattle.unit_imports.specs.Collected.{IsCollected, AreCollected, IsHeadOf, AreHeadsOf}
-use Rattle.document_units.specs.UnitFindings.{HaveErrors}
+use Rattle.read_documents.specs.UnitFindings.{HaveErrors}
 use Rattle.document_units.specs.Turned.{turns, scoped_at}
 use Rattle.unit_imports.specs.declared.expanded.Expanded.{Expanded}
-use Rattle.document_units.specs.declared.listing.Head.{Head}
+use Rattle.read_documents.specs.declared.heads.Head.{Head}
 use Rattle.program_expansion.proofs.ProgramOf.{comes_last, defined_whole, defined_broken, unit_prepared, units_stand}
 use Rattle.document_units.proofs.TurnGraph.{as_many}
 use Rattle.program_expansion.proofs.TurnResults.{scoped_units}
+use Rattle.unit_results.proofs.ReadingLaws.{get}
 use Rattle.unit_imports.proofs.Collecting.{blank_stand}
 
 pub blank_define : (form : ℕ) (cs : List core.UnitForm) → All IsBlank cs → definitions_from form cs ≡ []
@@ -49,12 +50,6 @@ seconds_whole r h = ap (λ (f : Option WholeFault). unless_broken f (flat_map (�
 
 seconds_broken : (r : UnitResult) (f : WholeFault) → r.fault ≡ Some f → seconds_of r ≡ []
 seconds_broken r f h = ap (λ (o : Option WholeFault). unless_broken o (flat_map (λ s. second_places s.set) r.unit.specs)) h
-
--- an item of a list that is long enough
-pub get : {A : Type 0} (xs : List A) (n : ℕ) → n < length xs → (x : A) × (slice_get xs n ≡ Some x)
-get [] n lt = absurd (omega arith)
-get (x ∷ xs) zero lt = (x, refl)
-get (x ∷ xs) (suc n) lt = get xs n (omega arith)
 
 module _ (text : LibraryName → List ℕ) (uris : List (List ℕ)) (us : List Placed) (known : Known) (work : Work) where
   abbrev whole : Program

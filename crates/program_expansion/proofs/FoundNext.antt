@@ -11,13 +11,13 @@ use Rattle.scheme_model.specs.ScopedProgram.{ScopedProgress, after_unit}
 use Rattle.scheme_model.specs.UnitExpansion.{Formed}
 use Rattle.expansion_laws.proofs.OtherForms.{none_in_front}
 use Rattle.program_expansion.specs.UnitResults.{IsCome, IsUpTo, expanded_after, so_far, with_unit}
-use Rattle.document_units.specs.Readings.{Read}
+use Rattle.read_documents.specs.Readings.{Read}
 use Rattle.document_units.specs.Turned.{turns, scoped_at}
-use Rattle.program_expansion.specs.UnitsFound.{in_the_end, HaveFound}
-use Rattle.document_units.specs.UnitFindings.{IsFoundOf}
+use Rattle.unit_results.specs.UnitsFound.{in_the_end, HaveFound}
+use Rattle.read_documents.specs.UnitFindings.{IsFoundOf}
 use Rattle.unit_imports.specs.declared.expanded.Expanded.{Expanded}
 use Rattle.form_expansion.specs.declared.forms.Bench.{Bench}
-use Rattle.document_units.specs.declared.listing.Head.{Head}
+use Rattle.read_documents.specs.declared.heads.Head.{Head}
 use Rattle.document_units.specs.declared.listing.Units.{Units}
 use Rattle.program_expansion.proofs.TurnCited.{TurnOf, turn_of, turn_broken}
 use Rattle.program_expansion.proofs.UnitGoes.{IsOfUnit}

@@ -7,10 +7,10 @@ use Rattle.scheme_model.specs.Includes.{Document}
 use Rattle.scheme_model.specs.IncludedUnits.{Placed}
 use Rattle.scheme_tokens.specs.LibraryNames.{library_text}
 use Rattle.core_tree.specs.Units.{kind_as, text_of}
-use Rattle.document_units.specs.declared.listing.Head.{Head}
-use Rattle.document_units.specs.Broken.{AreJudged}
+use Rattle.read_documents.specs.declared.heads.Head.{Head}
+use Rattle.read_documents.specs.Broken.{AreJudged}
 use Rattle.unit_imports.specs.Collected.{AreHeadsOf}
-use Rattle.document_units.specs.Places.{HeadsStay, NamesKept}
+use Rattle.read_documents.specs.Places.{HeadsStay, NamesKept}
 use Rattle.document_units.specs.UnitsListed.{IsToldBy}
 
 as_text : (o : Option LibraryName) → option_map library_text o ≡ text_of library_text o

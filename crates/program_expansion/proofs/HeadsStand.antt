@@ -8,11 +8,11 @@ use Rattle.scheme_model.specs.Program.{Prepared, UnitResult, known_in, units_of}
 use Rattle.scheme_model.specs.ScopedProgram.{scoped_program_of}
 use Rattle.core_tree.specs.Units.{ranges_from}
 use Rattle.document_store.specs.Texts.{Document}
-use Rattle.document_units.specs.Places.{AreHeads, IsHead, spans_of}
-use Rattle.document_units.specs.Readings.{AreReadAs, Read, documents_in}
+use Rattle.read_documents.specs.Places.{AreHeads, IsHead, spans_of}
+use Rattle.read_documents.specs.Readings.{AreReadAs, Read, documents_in}
 use Rattle.scheme_model.specs.Sites.{names_in_forms}
 use Rattle.document_units.specs.UnitsListed.{IsToldBy}
-use Rattle.document_units.specs.declared.listing.Head.{Head}
+use Rattle.read_documents.specs.declared.heads.Head.{Head}
 use Rattle.program_expansion.proofs.ProgramOf.{unit_prepared}
 use Rattle.document_units.proofs.TurnGraph.{as_many}
 use Rattle.program_expansion.proofs.TurnResults.{scoped_units}

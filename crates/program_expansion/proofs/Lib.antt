@@ -1,7 +1,5 @@
 pub mod Turns  -- Places that stand once each
 pub mod ImportedNames  -- What a unit imports, by the entries that it is given
-pub mod ReadingLaws  -- The program of documents, one unit more
-pub mod SoundKept  -- Units stay sound while their heads and their sources stay
 pub mod UnitLaws  -- A unit that is begun on a bench, and what its forms tell once they are expanded
 pub mod KnownLaws  -- Which libraries there are, by the texts of their names that are listed
 pub mod TurnSteps  -- One turn more
@@ -16,11 +14,9 @@ pub mod NamesStay  -- What a unit defines, and what it names in its imports and 
 pub mod UpTo  -- One turn more
 pub mod UpToNext  -- The unit whose turn it is, broken or expanded
 pub mod ProgramOf  -- The program of all units, each at its place
-pub mod UnitsTurns  -- Units in turn
 pub mod CollectLaws  -- Units that are put together by what they came to are those of the definition's program
 pub mod ReadUnits  -- Units that were judged, as they are handed on to be expanded
 pub mod UnitsFoundLaws  -- What is found of a unit is what the definition has of it, part by part, and later units change nothing of it
-pub mod NoImport  -- A program without an import, told by what was read and by the definition
 pub mod FoundNext  -- The unit whose turn it is, broken or expanded
 pub mod TokensAlike  -- The tokens of documents are those of each reading of their texts
 pub mod ToldProgram  -- The units of the whole program, by what came of them, what is found in them and what breaks them
@@ -29,7 +25,5 @@ pub mod HeadsOf  -- The heads of units have what the units do, as these were lis
 pub mod WorkedForms  -- The forms of a unit that are worked on are those of its source, unless it is a part; what comes of them stands for the unit's forms
 pub mod LostStand  -- Strings of units that mean no text stand in one of the documents
 pub mod UnitNumbers  -- The forms that a unit comes to have the numbers of those that are expanded (R7RS 5.1)
-pub mod NamesKept  -- Definitions and names stand for the same once names are added
-pub mod CameKept  -- What units came to stands for the same in a work that has only grown
 pub mod ProgramKept  -- The units of a program stand for the same in a work that has grown
 pub mod WorkKept  -- What stood in a work still stands once a region is opened, the prelude is added and units are expanded

@@ -13,7 +13,7 @@ use Rattle.core_tree.specs.declared.units.Unit as code_unit
 use Rattle.expansion_laws.proofs.PartsStay.{forms_on}
 use Rattle.program_leaves.specs.Formed.{AreFormedIn}
 use Rattle.unit_imports.proofs.MeaningLaws.{entries_kept}
-use Rattle.program_expansion.proofs.NamesKept.{definitions_kept, names_kept}
+use Rattle.unit_results.proofs.NamesKept.{definitions_kept, names_kept}
 
 module _ (old new : Work) (trees : KeepsTrees old new) (names : KeepsNames old.symbols new.symbols) where
   unit_kept : (text : LibraryName → List ℕ) (uris : List (List ℕ)) (all : List Placed) (p : Program) (place : ℕ) (c : code_unit.Unit) (r : UnitResult) →

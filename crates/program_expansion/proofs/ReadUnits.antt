@@ -7,11 +7,11 @@ use Rattle.scheme_model.specs.IncludedUnits.{Placed}
 use Rattle.scheme_model.specs.Program.{Prepared, prepared, prepare, fault_before}
 use Rattle.scheme_model.specs.ScopedProgram.{scoped_before}
 use Rattle.unit_sources.specs.declared.units.UnitSource.{UnitSource}
-use Rattle.document_units.specs.Broken.{told, AreJudged, without_if, Forgets}
+use Rattle.read_documents.specs.Broken.{told, AreJudged, without_if, Forgets}
 use Rattle.program_expansion.specs.UnitResults.{HeadsBy}
-use Rattle.document_units.specs.UnitSources.{IsSourceOf, AreSourcesOf, AreReadOf}
-use Rattle.document_units.specs.declared.listing.WholeFault.{WholeFault}
-use Rattle.document_units.specs.declared.listing.Head.{Head}
+use Rattle.read_documents.specs.UnitSources.{IsSourceOf, AreSourcesOf, AreReadOf}
+use Rattle.read_documents.specs.declared.heads.WholeFault.{WholeFault}
+use Rattle.read_documents.specs.declared.heads.Head.{Head}
 
 -- before any is expanded they are broken as they were judged
 pub judged_heads : (us : List Placed) (old new : List Head) → AreJudged us old new → HeadsBy us scoped_before new

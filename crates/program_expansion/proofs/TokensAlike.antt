@@ -4,9 +4,9 @@ use Rattle.scheme_model.specs.Kinds.{Token}
 use Rattle.datum_reader.proofs.Stops.{never_reads_and_stops}
 use Rattle.datum_reader.proofs.TokensSeen.{text_once}
 use Rattle.document_store.specs.Texts.{Document}
-use Rattle.document_units.specs.declared.documents.Document as code
-use Rattle.document_units.specs.Readings.{Read, Reads, Stops, IsReadAs, AreReadAs, IsReadSo, AreDocuments, span_of, span_seen, spans_in}
-use Rattle.document_units.specs.Places.{HaveTokens}
+use Rattle.read_documents.specs.declared.documents.Document as code
+use Rattle.read_documents.specs.Readings.{Read, Reads, Stops, IsReadAs, AreReadAs, IsReadSo, AreDocuments, span_of, span_seen, spans_in}
+use Rattle.read_documents.specs.Places.{HaveTokens}
 use Rattle.ls_base.specs.declared.places.Span as code_span
 
 module _ (text : List ℕ) (c : code.Document) where

@@ -14,15 +14,15 @@ use Rattle.std.specs.Prelude.{◌==◌}
 use Rattle.syntax_tree.specs.declared.trees.Work.{Work}
 use Rattle.core_tree.specs.Units.{defined_by}
 use Rattle.unit_imports.specs.declared.expanded.Expanded.{Expanded}
-use Rattle.document_units.specs.declared.listing.Head.{Head}
-use Rattle.document_units.specs.Broken.{told}
+use Rattle.read_documents.specs.declared.heads.Head.{Head}
+use Rattle.read_documents.specs.Broken.{told}
 use Rattle.program_expansion.specs.UnitResults.{HaveCome, HeadsBy, IsCome, fault_by, so_far}
-use Rattle.document_units.specs.Places.{AreHeads}
-use Rattle.document_units.specs.Readings.{Read}
+use Rattle.read_documents.specs.Places.{AreHeads}
+use Rattle.read_documents.specs.Readings.{Read}
 use Rattle.document_units.specs.Turned.{turns, scoped_at}
-use Rattle.program_expansion.specs.UnitsFound.{AreResultsOf, AreTold, HaveFound, IsTold}
-use Rattle.document_units.specs.UnitFindings.{IsFoundOf}
-use Rattle.program_expansion.proofs.CollectLaws.{get}
+use Rattle.unit_results.specs.UnitsFound.{AreResultsOf, AreTold, HaveFound, IsTold}
+use Rattle.read_documents.specs.UnitFindings.{IsFoundOf}
+use Rattle.unit_results.proofs.ReadingLaws.{get}
 use Rattle.program_expansion.proofs.ProgramOf.{comes_last, low, program_at, table_is, unit_prepared}
 use Rattle.document_units.proofs.TurnGraph.{as_many}
 use Rattle.program_expansion.proofs.TurnResults.{scoped_left, scoped_result, scoped_units}

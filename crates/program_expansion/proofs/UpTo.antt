@@ -22,7 +22,7 @@ use Rattle.unit_scopes.specs.Others.{InFront}
 use Rattle.program_expansion.specs.UnitResults.{CameTo, ComesTo, IsCome, HaveCome, so_far}
 use Rattle.document_units.specs.Turned.{turns, scoped_at}
 use Rattle.unit_imports.specs.declared.expanded.Expanded.{Expanded}
-use Rattle.document_units.proofs.ChangedLaws.{set_cases}
+use Rattle.read_documents.proofs.ChangedLaws.{set_cases}
 use Rattle.program_expansion.proofs.NamesStay.{KeepResults, others_in, unit_names_same, externals_same}
 use Rattle.program_expansion.proofs.TurnCited.{TurnOf, turn_of}
 use Rattle.program_expansion.proofs.UnitGoes.{IsOfUnit, others_define}

@@ -22,21 +22,21 @@ use Rattle.unit_scopes.specs.Others.{InFront}
 use Rattle.unit_scopes.specs.Searched.{searched_unit_over}
 use Rattle.expansion_laws.proofs.OtherForms.{none_in_front}
 use Rattle.expansion_laws.proofs.SearchedPrograms.{unit_law}
-use Rattle.document_units.specs.Broken.{told, or_fault, broken_if}
+use Rattle.read_documents.specs.Broken.{told, or_fault, broken_if}
 use Rattle.program_expansion.specs.UnitResults.{FindsLibraries, ComesTo, IsCome, HaveCome, so_far, with_unit, fault_by, HeadsBy, GoesOn, expanded_after, Expands, IsUpTo}
-use Rattle.document_units.specs.UnitSources.{AreSourcesOf}
+use Rattle.read_documents.specs.UnitSources.{AreSourcesOf}
 use Rattle.unit_imports.specs.SetsGiven.{AreEntriesIf, AreLibraries, exports_of}
 use Rattle.unit_imports.specs.declared.entries.Libraries.{Libraries}
 use Rattle.document_units.specs.Turned.{turns, scoped_at}
-use Rattle.document_units.specs.declared.listing.WholeFault.{WholeFault}
-use Rattle.document_units.specs.declared.listing.WholeFault.TheVariants as fault
+use Rattle.read_documents.specs.declared.heads.WholeFault.{WholeFault}
+use Rattle.read_documents.specs.declared.heads.WholeFault.TheVariants as fault
 use Rattle.unit_imports.specs.declared.expanded.Expanded.{Expanded}
 use Rattle.form_expansion.specs.declared.forms.Bench.{Bench}
-use Rattle.document_units.specs.declared.listing.Head.{Head}
+use Rattle.read_documents.specs.declared.heads.Head.{Head}
 use Rattle.document_units.specs.declared.listing.Units.{Units}
 use Rattle.program_expansion.specs.UsesInTurn.{uses_at}
 use Rattle.program_expansion.proofs.TurnUses.{uses_push}
-use Rattle.document_units.proofs.ChangedLaws.{set_cases}
+use Rattle.read_documents.proofs.ChangedLaws.{set_cases}
 use Rattle.program_expansion.proofs.TurnCited.{TurnOf, turn_of, turn_broken, turn_expanded}
 use Rattle.program_expansion.proofs.UnitGoes.{IsOfUnit, searched_goes}
 use Rattle.program_expansion.proofs.UpTo.{test, other_result, own_result, imports_done, done_at, AreDone, come_none, come_set, comes_own}

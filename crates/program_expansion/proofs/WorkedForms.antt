@@ -11,7 +11,7 @@ use Rattle.core_tree.specs.declared.units.UnitForm as core
 use Rattle.unit_sources.specs.UnitsRead.{forms_of}
 use Rattle.unit_sources.specs.declared.units.UnitForm as code
 use Rattle.unit_sources.specs.declared.units.UnitSource.{UnitSource}
-use Rattle.document_units.specs.WereRead.{WereRead}
+use Rattle.read_documents.specs.WereRead.{WereRead}
 use Rattle.form_expansion.specs.Forms.{AreFormed}
 use Rattle.unit_imports.proofs.Collecting.{blank_stand}
 use Rattle.program_expansion.specs.AtWork.{worked_forms}

@@ -22,14 +22,15 @@ use Rattle.base_library.specs.Texts.{SpellsStandard}
 use Rattle.feature_requirements.specs.Judged.{Knows}
 use Rattle.unit_scopes.specs.Preluded.{Continues}
 use Rattle.unit_scopes.specs.Searched.{searched_unit_over}
-use Rattle.document_units.specs.Broken.{told}
+use Rattle.read_documents.specs.Broken.{told}
 use Rattle.form_expansion.specs.Forms.{StandsAt}
 use Rattle.document_units.specs.Turned.{scoped_at}
 use Rattle.unit_imports.specs.declared.expanded.Expanded.{Expanded}
+pub use Rattle.unit_results.specs.Came.{CameTo, ComesTo, IsCome, so_far, HaveCome}
 use Rattle.form_expansion.specs.declared.forms.Bench.{Bench}
-use Rattle.document_units.specs.declared.listing.Head.{Head}
+use Rattle.read_documents.specs.declared.heads.Head.{Head}
 use Rattle.document_units.specs.declared.listing.Units.{Units}
-use Rattle.document_units.specs.UnitSources.{AreSourcesOf}
+use Rattle.read_documents.specs.UnitSources.{AreSourcesOf}
 
 -- ---- sources
 
@@ -37,36 +38,6 @@ use Rattle.document_units.specs.UnitSources.{AreSourcesOf}
 pub record FindsLibraries (spelled : LibraryName → List ℕ) (all : List Placed) (firsts : BTreeMap (String Global) ℕ) : Type 0 where
   pub spells : SpellsStandard spelled
   pub units : (n : LibraryName) → get_by_text firsts (spelled n) ≡ unit_named n 0 all
-
--- ---- what units came to
-
--- what a unit came to is what the definition has of it, where the program so far is this
-pub record CameTo (all : List Placed) (p : Program) (work : Work) (c : Expanded) (r : UnitResult) : Type 0 where
-  pub whole : r.fault ≡ None
-  pub entries : AreEntries work.symbols c.entries.items r.entries
-  pub forms : FormsStand work r.unit.number 0 c.forms r.forms
-  pub count : length c.forms ≡ length r.unit.forms
-  pub definitions : AreDefinitions work.symbols (reverse (definitions_from 0 c.forms)) (defined_by r.unit.number p.table)
-  pub names : AreNames work.symbols r.unit.number c.names (unit_names all p r) (externals p.table r)
-  pub seconds : c.seconds ≡ flat_map (λ s. second_places s.set) r.unit.specs
-  pub exports : AreEntries work.symbols c.exports r.exports
-
--- nothing came of a unit that is broken
-abbrev pub ComesTo : List Placed → Program → Work → Option Expanded → UnitResult → Type 0
-ComesTo all p work None r = (f : WholeFault) × (r ≡ broken_result r.unit f)
-ComesTo all p work (Some c) r = CameTo all p work c r
-
--- nothing yet, or what the definition has of the unit by now
-abbrev pub IsCome : List Placed → Program → Work → Option Expanded → Option UnitResult → Type 0
-IsCome all p work o None = o ≡ None
-IsCome all p work o (Some r) = ComesTo all p work o r
-
--- the program as far as it is expanded
-abbrev pub so_far : ScopedProgress → Program
-so_far g = record { units = g.results; table = g.table; entry = g.entry }
-
-abbrev pub HaveCome : List Placed → ScopedProgress → Work → List (Option Expanded) → Type 0
-HaveCome all g work es = (n : ℕ) (o : Option Expanded) → slice_get es n ≡ Some o → IsCome all (so_far g) work o (result_at g.results n)
 
 -- ---- what breaks units by now
 

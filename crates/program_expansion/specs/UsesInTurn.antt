@@ -7,7 +7,7 @@ use Rattle.scheme_model.specs.Program.{Prepared, prepare}
 use Rattle.scheme_model.specs.ScopedProgram.{ScopedProgress, scoped_worked, scoped_before}
 use Rattle.macro_uses.specs.MacroUses.{program_uses}
 use Rattle.macro_uses.specs.ScopedUses.{scoped_worked_uses}
-use Rattle.document_units.specs.Readings.{Read, documents_in}
+use Rattle.read_documents.specs.Readings.{Read, documents_in}
 
 -- what is expanded so far, and the macro uses that were counted
 abbrev pub counted_worked : List Placed → Known → Option Prepared → ScopedProgress × ℕ → ScopedProgress × ℕ

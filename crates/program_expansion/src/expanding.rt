@@ -1,11 +1,9 @@
 //! Units one after another (R7RS 5.6), each after what it imports.
-ghost use Rattle.std.specs.Prelude.{◌≡◌, ℕ, ◌+◌, ◌<◌, List, [], ◌∷◌, ◌++◌, All, length, replicate, map, reverse, vec_len, Some, None, IfOk, OnOk, IfSome, true, ◌&&◌, ◌==◌, if◌then◌else◌};
+ghost use Rattle.std.specs.Prelude.{◌≡◌, ℕ, ◌+◌, ◌<◌, List, [], ◌∷◌, ◌++◌, length, replicate, map, vec_len, Some, None, IfOk, OnOk, IfSome, true, ◌==◌, if◌then◌else◌};
 ghost use Rattle.scheme_model.specs.Entries.{Entry as ModelEntry};
 ghost use Rattle.scheme_model.specs.Declarations.{is_part_kind};
-ghost use Rattle.scheme_model.specs.Diagnostics.{bytes_of, unbound_diagnostics};
-ghost use Rattle.scheme_model.specs.Live.{unit_leaves};
 ghost use Rattle.scheme_model.specs.IncludedUnits.{Placed};
-ghost use Rattle.scheme_model.specs.Program.{Prepared, Program, SetResult, UnitResult, WholeFault as Whole, is_in, form_trees, forms_at_work, unit_result, result_at, with_refused};
+ghost use Rattle.scheme_model.specs.Program.{Prepared, SetResult, UnitResult, is_in, form_trees, unit_result, result_at, with_refused};
 ghost use Rattle.scheme_model.specs.Requirements.{Known, LibraryName};
 ghost use Rattle.scheme_model.specs.ScopedProgram.{ScopedProgress, scoped_before};
 ghost use Rattle.scheme_model.specs.UnitExpansion.{Formed};
@@ -14,7 +12,7 @@ ghost use Rattle.syntax_tree.specs.Names.{KeepsNames};
 ghost use Rattle.syntax_tree.specs.Works.{KeepsTrees};
 ghost use Rattle.syntax_tree.specs.declared.trees.Work.{Work as AnyWork};
 ghost use Rattle.core_tree.specs.Names.{AllMatch};
-ghost use Rattle.core_tree.specs.Units.{IsBlank, FormsStand, AreDefinitions, definitions_from, defined_by, kind_as};
+ghost use Rattle.core_tree.specs.Units.{FormsStand, definitions_from, kind_as};
 ghost use Rattle.unit_sources.specs.Orders.{ArePlaces};
 ghost use Rattle.unit_sources.specs.UnitsRead.{forms_of};
 ghost use Rattle.program_expansion.specs.AtWork.{worked_forms};
@@ -23,50 +21,43 @@ ghost use Rattle.feature_requirements.specs.Judged.{Knows};
 ghost use Rattle.unit_scopes.specs.Opened.{IsNew};
 ghost use Rattle.unit_scopes.specs.Outcomes.{Grows};
 ghost use Rattle.form_expansion.specs.Begun.{IsImport};
-ghost use Rattle.document_units.specs.Broken.{told};
-ghost use Rattle.program_expansion.specs.UnitResults.{CameTo, Expands, FindsLibraries, GoesOn, HeadsBy, IsUpTo, expanded_after, with_unit};
-ghost use Rattle.document_units.specs.UnitSources.{AreSourcesOf, IsSourceOf};
+ghost use Rattle.program_expansion.specs.UnitResults.{Expands, FindsLibraries, GoesOn, HeadsBy, IsUpTo, expanded_after, with_unit};
+ghost use Rattle.read_documents.specs.UnitSources.{AreSourcesOf, IsSourceOf};
 ghost use Rattle.program_leaves.specs.Formed.{IsFormed};
-ghost use Rattle.program_expansion.specs.Formed.{CameFormed};
+ghost use Rattle.unit_results.specs.Formed.{CameFormed};
 ghost use Rattle.form_expansion.specs.Forms.{IsBench, AreFormed};
-ghost use Rattle.document_units.specs.Libraries.{FindsBelow};
+ghost use Rattle.read_documents.specs.Libraries.{FindsBelow};
 ghost use Rattle.unit_imports.specs.EntriesMeant.{HaveMeaning, EachOnce, ExportsMean};
-ghost use Rattle.document_units.specs.Findings.{Adds};
-ghost use Rattle.document_units.specs.Places.{AreFoundIn, AreHeads, ArePlaces as ArePlacesOf, CanPlace, HeadsStay, NamesKept, spans_of, HaveTokens};
-ghost use Rattle.document_units.specs.Readings.{Read};
+ghost use Rattle.read_documents.specs.Places.{AreFoundIn, AreHeads, ArePlaces as ArePlacesOf, CanPlace, HeadsStay, NamesKept, HaveTokens};
+ghost use Rattle.read_documents.specs.Readings.{Read};
 ghost use Rattle.document_units.specs.Sound.{IsSound};
-ghost use Rattle.unit_imports.specs.SetsGiven.{AreLibraries, ImportsAs};
-ghost use Rattle.program_findings.specs.StandIn.{StandIn};
+ghost use Rattle.unit_imports.specs.SetsGiven.{AreLibraries};
 ghost use Rattle.document_units.specs.Turned.{scoped_at, turns};
-ghost use Rattle.program_expansion.specs.UnitsExpanded.{AreAllFound};
+ghost use Rattle.unit_results.specs.UnitsExpanded.{AreAllFound};
 ghost use Rattle.program_expansion.specs.UsesInTurn.{uses_at};
-ghost use Rattle.program_expansion.specs.UnitsFound.{AreResultsOf, AreSetsFound, AreLostIn, HaveFound, LostIn, in_the_end, no_import_diagnostics};
-ghost use Rattle.document_units.specs.UnitFindings.{IsFoundOf};
-ghost use Rattle.document_units.specs.WereRead.{WereRead};
+ghost use Rattle.unit_results.specs.UnitsFound.{AreResultsOf, AreSetsFound, AreLostIn, HaveFound, LostIn, in_the_end};
+ghost use Rattle.read_documents.specs.UnitFindings.{IsFoundOf};
+ghost use Rattle.read_documents.specs.WereRead.{WereRead};
 
 use core_tree::units::UnitForm;
-use document_units::breaking::{Firsts, break_if};
-use document_units::documents::Document;
-use document_units::findings::{Finding, none_placed};
-use document_units::listing::{Units, WholeFault};
-use document_units::places::Places;
+use document_units::breaking::break_if;
+use document_units::listing::Units;
 use expander::Imported;
-use form_expansion::forms::{Bench, blank_trace, expand_forms};
+use form_expansion::forms::{Bench, expand_forms};
 use form_expansion::refused::refuse;
 use ls_base::{Items, Mem, Steps};
-use program_findings::diagnosing::{add_faults, add_lost, add_unbound, whole_finding};
+use read_documents::documents::Document;
+use read_documents::heads::WholeFault;
+use read_documents::places::Places;
+use read_documents::sets::Firsts;
 use std::alloc::Global;
 use std::sync::ledger::Ledger;
-use syntax_tree::symbols::Symbols;
 use syntax_tree::trees::Work;
 use syntax_tree::units::{Entry, UnitKind};
-use unit_imports::defined::{add_hiding, definitions, names_of};
-use unit_imports::entries::{Given, Libraries, given_to, imports_nothing};
+use unit_imports::entries::{Given, Libraries, given_to};
 use unit_imports::expanded::Expanded;
-use unit_imports::exported::exports_given;
-use unit_imports::names::names_used;
-use unit_imports::seconds::seconds_in;
-use unit_sources::{LostString, UnitForm as SourceForm, UnitSource};
+use unit_results::results::{blank_forms, finished};
+use unit_sources::{UnitForm as SourceForm, UnitSource};
 
 /// Expands the units that aren't broken, in an order in which each comes after what it imports. One that counts too many nodes
 /// breaks.
@@ -304,185 +295,4 @@ fn imported(alloc: Global, work: &mut Work, entries: &[Entry]) -> Mem<Vec<Import
         })?;
     }
     Ok(imports)
-}
-
-/// What a unit came to, by what it imports and what its forms expanded to. What is found wrong stands in this order: sets, strings that
-/// mean no text, exports, forms, definitions that hide, unbound names, no import.
-fn finished(
-    alloc: Global,
-    work: &mut Work,
-    places: Places<'_>,
-    libraries: Libraries<'_>,
-    unit: u32,
-    source: &UnitSource,
-    given: Given,
-    forms: Items<UnitForm>,
-) -> Mem<Expanded>
-    requires forms { AreFormed work.old unit forms }
-    requires documents { 0 < length places.documents.now }
-    requires places { CanPlace places }
-    requires exports { ExportsMean work.old.symbols libraries.expanded.now }
-    requires entries { HaveMeaning work.old.symbols given.joined.entries.items }
-    requires findings { AreFoundIn (length places.documents.now) given.findings.items }
-    ensures trees { work.new.trees ≡ work.old.trees }
-    ensures names { KeepsNames work.old.symbols work.new.symbols }
-    ensures forms { IfOk result (λ came. came.forms ≡ forms) }
-    ensures findings { IfOk result (λ came. AreFoundIn (length places.entry.documents.now) came.findings.items) }
-    ensures exports { IfOk result (λ came. HaveMeaning work.new.symbols came.exports) }
-    // They are what the definition has of the unit, where forms stand for what it has of them.
-    ensures came { (spelled : LibraryName → List ℕ) (us : List Placed) (q : Program) (p : Prepared) (given_entries : List ModelEntry × List SetResult) (fs : List Formed) → p.number ≡ unit → IsSourceOf spelled p None source.now →
-        AreLibraries work.old.symbols libraries.entry spelled us q.units → AreEntries work.old.symbols given.joined.entries.items given_entries.0 →
-        length forms ≡ length p.forms → FormsStand work.old unit 0 forms (with_refused p.number 0 (forms_at_work p) fs) → AreDefinitions work.old.symbols (reverse (definitions_from 0 forms)) (defined_by unit q.table) →
-        IfOk result (λ came. CameTo us q work.new came (unit_result p given_entries q.table (Some fs))) }
-    // What is found is what the definition has of the unit, where the program comes to have these units.
-    ensures finds { (spelled : LibraryName → List ℕ) (q : Program) (p : Prepared) (given_entries : List ModelEntry × List SetResult) (fs : List Formed) → p.number ≡ unit → IsSourceOf spelled p None source.now →
-        AreEntries work.old.symbols given.joined.entries.items given_entries.0 → FormsStand work.old unit 0 forms (with_refused p.number 0 (forms_at_work p) fs) → AreDefinitions work.old.symbols (reverse (definitions_from 0 forms)) (defined_by unit q.table) →
-        (reads : List Read) (ends : List UnitResult) (r : UnitResult) → ArePlacesOf places.entry reads ends → result_at ends unit ≡ Some r → r.unit ≡ p → AreSetsFound reads ends p given_entries.1 given.findings.items →
-        LostIn (length places.entry.documents.now) p.placed.source.lost →
-        IfOk result (λ came. IsFoundOf reads (in_the_end ends q) (unit_result p given_entries q.table (Some fs)) came.findings.items) }
-{
-    let Given {
-        joined,
-        mut findings,
-    } = given;
-    let slice = forms.as_slice();
-    let sets_are_good = none_placed(findings.as_slice());
-    let defined = definitions(alloc, slice)?;
-    let names = names_of(alloc, &work.symbols, unit, defined.as_slice(), &joined)?;
-    let used = names_used(alloc, work, libraries, unit, source, names.as_slice())?;
-    let seconds = seconds_in(alloc, source.imports.as_slice())?;
-    let symbols = &work.symbols;
-    add_lost(alloc, places, source.lost.as_slice(), &mut findings)?;
-    let exports = exports_given(alloc, places, unit, source, names.as_slice(), &mut findings)?;
-    add_faults(
-        alloc,
-        symbols,
-        places,
-        unit,
-        source.forms.as_slice(),
-        slice,
-        &mut findings,
-    )?;
-    add_hiding(
-        alloc,
-        symbols,
-        places,
-        unit,
-        slice,
-        defined.as_slice(),
-        &joined,
-        &mut findings,
-    )?;
-    let are_found = are_told(sets_are_good, source.lost.as_slice());
-    add_unbound_if(alloc, symbols, places, slice, are_found, &mut findings)?;
-    add_no_import(alloc, places, unit, source, &mut findings)?;
-    Ok(Expanded {
-        entries: joined.entries,
-        forms,
-        names: used,
-        seconds,
-        exports,
-        findings,
-    })
-}
-
-/// Whether unbound names are told: only where no set of the unit is wrong, and each string that includes means a text.
-fn are_told(sets_are_good: bool, lost: &[LostString]) -> bool
-    ensures { result ≡ (sets_are_good && (length lost.now == 0)) }
-{
-    sets_are_good && lost.is_empty()
-}
-
-/// Adds the references and assignments of forms that mean nothing, if they are to be found.
-fn add_unbound_if(
-    alloc: Global,
-    symbols: &Symbols,
-    places: Places<'_>,
-    forms: &[UnitForm],
-    are_found: bool,
-    findings: &mut Vec<Finding>,
-) -> Mem<()>
-    requires forms { StandIn symbols.now forms.now }
-    requires documents { 0 < length places.documents.now }
-    requires places { CanPlace places }
-    ensures inside { AreFoundIn (length places.entry.documents.now) findings.old.items → OnOk result (AreFoundIn (length places.entry.documents.now) findings.new.items) }
-    ensures exact { (rs : List Read) (us : List UnitResult) (work : AnyWork) (unit : ℕ) (fs : List Formed) → ArePlacesOf places.entry rs us → KeepsNames work.symbols symbols.now → FormsStand work unit 0 forms.now fs →
-        OnOk result (Adds findings.old.items findings.new.items (if are_found then unbound_diagnostics (bytes_of (spans_of rs) us) (unit_leaves fs) else []) []) }
-{
-    if are_found {
-        add_unbound(alloc, symbols, places, forms, findings)?;
-    }
-    Ok(())
-}
-
-/// Adds that a unit imports nothing, if it does.
-fn add_no_import(
-    alloc: Global,
-    places: Places<'_>,
-    unit: u32,
-    source: &UnitSource,
-    findings: &mut Vec<Finding>,
-) -> Mem<()>
-    requires documents { 0 < length places.documents.now }
-    requires places { CanPlace places }
-    ensures inside { AreFoundIn (length places.entry.documents.now) findings.old.items → OnOk result (AreFoundIn (length places.entry.documents.now) findings.new.items) }
-    ensures exact { (spelled : LibraryName → List ℕ) (rs : List Read) (us : List UnitResult) (r : UnitResult) → ArePlacesOf places.entry rs us → result_at us unit ≡ Some r → ImportsAs spelled source.now r.unit →
-        OnOk result (Adds findings.old.items findings.new.items (no_import_diagnostics (spans_of rs) r.unit) []) }
-{
-    if imports_nothing(source) {
-        let start = places.start(unit);
-        let finding = Finding::new(alloc, Some(start), 0, 104, "")?;
-        findings.push(finding)?;
-    }
-    Ok(())
-}
-
-/// What a unit comes to that is broken as a whole.
-pub fn broken(
-    alloc: Global,
-    places: Places<'_>,
-    unit: u32,
-    fault: WholeFault,
-    count: usize,
-) -> Mem<Expanded>
-    requires documents { 0 < length places.documents.now }
-    requires places { CanPlace places }
-    ensures forms { IfOk result (λ came. All IsBlank came.forms) }
-    ensures formed { (work : AnyWork) → IfOk result (λ came. IsFormed work unit came.forms) }
-    ensures count { IfOk result (λ came. length came.forms ≡ count) }
-    ensures names { IfOk result (λ came. came.names ≡ []) }
-    ensures seconds { IfOk result (λ came. came.seconds ≡ []) }
-    ensures entries { IfOk result (λ came. came.entries.items ≡ []) }
-    ensures exports { IfOk result (λ came. came.exports ≡ []) }
-    ensures findings { IfOk result (λ came. AreFoundIn (length places.entry.documents.now) came.findings.items) }
-    ensures finds { (rs : List Read) (p : Program) (r : UnitResult) (f : Whole) → ArePlacesOf places.entry rs p.units → result_at p.units unit ≡ Some r → r.fault ≡ Some f → fault ≡ told f →
-        IfOk result (λ came. IsFoundOf rs p r came.findings.items) }
-{
-    let mut findings = Vec::new(alloc);
-    let finding = whole_finding(alloc, places, unit, fault)?;
-    findings.push(finding)?;
-    Ok(Expanded {
-        entries: Vec::new(alloc),
-        forms: blank_forms(alloc, count)?,
-        names: Items::new(alloc),
-        seconds: Items::new(alloc),
-        exports: Items::new(alloc),
-        findings,
-    })
-}
-
-/// Forms that aren't expanded.
-fn blank_forms(alloc: Global, count: usize) -> Mem<Items<UnitForm>>
-    ensures blank { IfOk result (λ forms. All IsBlank forms) }
-    ensures count { IfOk result (λ forms. length forms ≡ count) }
-{
-    let mut forms = Items::new(alloc);
-    for _place in 0..count {
-        forms.push(UnitForm {
-            items: Items::new(alloc),
-            trace: blank_trace(alloc),
-            fault: None,
-        })?;
-    }
-    Ok(forms)
 }

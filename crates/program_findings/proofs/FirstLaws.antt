@@ -2,12 +2,12 @@
 use Rattle.std.proofs.Common.{◌≡◌, ℕ, Bool, true, false, cond, not, List, [], ◌∷◌, ◌++◌, append-nil, filter, Option, Some, None, Ordering, Less, Equal, Greater, is_lt, Bor, refl, sym, ap, ◌∙◌, subst}
 use Rattle.std.specs.Ordering.{match_ordering, ordering_reverse}
 use Rattle.scheme_model.specs.Diagnostics.{Diagnostic, sorted, is_before}
-use Rattle.document_units.specs.declared.findings.At.{At}
-use Rattle.document_units.specs.declared.findings.Finding.{Finding}
-use Rattle.document_units.specs.Findings.{diagnostic, told_at, all_told, is_error, error_place, first_of, first_error_in, IsFirst, stands_first}
-use Rattle.document_units.proofs.PutLaws.{over}
-use Rattle.document_units.proofs.SortedLaws.{cmp, cmp_total, before, filter_push, same_code}
-use Rattle.document_units.proofs.KeptLaws.{told_push}
+use Rattle.read_documents.specs.declared.findings.At.{At}
+use Rattle.read_documents.specs.declared.findings.Finding.{Finding}
+use Rattle.read_documents.specs.Findings.{diagnostic, told_at, all_told, is_error, error_place, first_of, first_error_in, IsFirst, stands_first}
+use Rattle.read_documents.proofs.PutLaws.{over}
+use Rattle.read_documents.proofs.SortedLaws.{cmp, cmp_total, before, filter_push, same_code}
+use Rattle.read_documents.proofs.KeptLaws.{told_push}
 
 abbrev First : Type 0
 First = Option (At × Bor Finding)

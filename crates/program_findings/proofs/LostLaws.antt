@@ -8,10 +8,10 @@ use Rattle.scheme_model.specs.Included.{LostString}
 use Rattle.unit_sources.specs.UnitsRead.{lost_as}
 use Rattle.unit_sources.specs.declared.units.LostString as code
 use Rattle.scheme_model.specs.DiagnosticTexts.{worded}
-use Rattle.document_units.specs.declared.findings.At.{At}
-use Rattle.document_units.specs.declared.findings.Finding.{Finding}
-use Rattle.document_units.specs.Findings.{all_told, errors_in, Adds}
-use Rattle.document_units.proofs.DiagnosedLaws.{adds_more}
+use Rattle.read_documents.specs.declared.findings.At.{At}
+use Rattle.read_documents.specs.declared.findings.Finding.{Finding}
+use Rattle.read_documents.specs.Findings.{all_told, errors_in, Adds}
+use Rattle.read_documents.proofs.DiagnosedLaws.{adds_more}
 use Rattle.program_findings.specs.LostFound.{lost_found}
 
 lost_told : (ls : List LostString) → all_told (map lost_found ls) ≡ lost_diagnostics ls

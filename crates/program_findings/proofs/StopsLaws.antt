@@ -5,15 +5,15 @@ use Rattle.scheme_model.specs.Faults.{Stop}
 use Rattle.scheme_model.specs.Diagnostics.{sorted, all_diagnostics}
 use Rattle.datum_reader.proofs.Stops.{one_stop, never_reads_and_stops}
 use Rattle.document_store.specs.Texts.{Document}
-use Rattle.document_units.specs.declared.documents.Document as code
-use Rattle.document_units.specs.declared.documents.Unread.{Unread}
-use Rattle.document_units.specs.Changed.{Changes}
-use Rattle.document_units.specs.Readings.{Read, Reads, Stops, IsReadAs, AreReadAs, IsReadSo, IsUnread, IsDocument, AreDocuments, program_in, spans_in}
+use Rattle.read_documents.specs.declared.documents.Document as code
+use Rattle.read_documents.specs.declared.documents.Unread.{Unread}
+use Rattle.read_documents.specs.Changed.{Changes}
+use Rattle.read_documents.specs.Readings.{Read, Reads, Stops, IsReadAs, AreReadAs, IsReadSo, IsUnread, IsDocument, AreDocuments, program_in, spans_in}
 use Rattle.scheme_model.specs.DiagnosticTexts.{worded}
-use Rattle.document_units.specs.Findings.{in_document, kept, AreKept}
-use Rattle.document_units.specs.Listed.{found_of, AreFoundOf}
-use Rattle.document_units.specs.Diagnosed.{TellsStop, TellsStopOf}
-use Rattle.document_units.proofs.ChangedLaws.{changes_itself, changes_set}
+use Rattle.read_documents.specs.Findings.{in_document, kept, AreKept}
+use Rattle.read_documents.specs.Listed.{found_of, AreFoundOf}
+use Rattle.read_documents.specs.Diagnosed.{TellsStop, TellsStopOf}
+use Rattle.read_documents.proofs.ChangedLaws.{changes_itself, changes_set}
 
 abbrev Map : Type 0
 Map = BTreeMap (ℕ × ℕ × List ℕ) ℕ

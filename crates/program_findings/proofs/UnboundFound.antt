@@ -15,14 +15,14 @@ use Rattle.syntax_tree.specs.declared.meaning.Meaning as code_meaning
 use Rattle.syntax_tree.specs.declared.meaning.Meaning.TheVariants as code
 use Rattle.core_tree.specs.Names.{AllMatch}
 use Rattle.core_tree.specs.declared.cores.Target as code_target
-use Rattle.document_units.specs.declared.findings.At.{At}
-use Rattle.document_units.specs.declared.findings.Finding.{Finding}
-use Rattle.document_units.specs.Places.{bytes_at}
+use Rattle.read_documents.specs.declared.findings.At.{At}
+use Rattle.read_documents.specs.declared.findings.Finding.{Finding}
+use Rattle.read_documents.specs.Places.{bytes_at}
 use Rattle.scheme_model.specs.DiagnosticTexts.{worded}
 use Rattle.program_findings.specs.Unbound.{IsUnbound, unbound_as, unbound_in}
-use Rattle.document_units.specs.Findings.{all_told, errors_in, Adds, at_of}
-use Rattle.document_units.specs.Diagnosed.{free_found, unbound_found}
-use Rattle.document_units.proofs.DiagnosedLaws.{told_both, errors_both, adds_more}
+use Rattle.read_documents.specs.Findings.{all_told, errors_in, Adds, at_of}
+use Rattle.read_documents.specs.Diagnosed.{free_found, unbound_found}
+use Rattle.read_documents.proofs.DiagnosedLaws.{told_both, errors_both, adds_more}
 
 -- ---- one use
 

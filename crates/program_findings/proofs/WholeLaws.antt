@@ -5,18 +5,18 @@ use Rattle.scheme_model.specs.Program as model
 use Rattle.scheme_model.specs.Program.{Prepared, whole_code, result_at}
 use Rattle.scheme_model.specs.Diagnostics.{Span, Bytes, Diagnostic, document_of, at_bytes, unit_diagnostics, unit_start, whole_bytes, whole_fault}
 use Rattle.core_tree.specs.Units.{unit_errors}
-use Rattle.document_units.specs.declared.listing.WholeFault.{WholeFault}
-use Rattle.document_units.specs.declared.listing.WholeFault.TheVariants as code
-use Rattle.document_units.specs.declared.findings.At.{At}
-use Rattle.document_units.specs.declared.findings.Finding.{Finding}
-use Rattle.document_units.specs.Broken.{told as told_of}
-use Rattle.document_units.specs.Places.{bytes_at, spans_of, start_of}
-use Rattle.document_units.proofs.PlaceLaws.{start_document}
-use Rattle.document_units.specs.Readings.{Read}
-use Rattle.document_units.specs.UnitFindings.{IsFoundOf}
+use Rattle.read_documents.specs.declared.heads.WholeFault.{WholeFault}
+use Rattle.read_documents.specs.declared.heads.WholeFault.TheVariants as code
+use Rattle.read_documents.specs.declared.findings.At.{At}
+use Rattle.read_documents.specs.declared.findings.Finding.{Finding}
+use Rattle.read_documents.specs.Broken.{told as told_of}
+use Rattle.read_documents.specs.Places.{bytes_at, spans_of, start_of}
+use Rattle.read_documents.proofs.PlaceLaws.{start_document}
+use Rattle.read_documents.specs.Readings.{Read}
+use Rattle.read_documents.specs.UnitFindings.{IsFoundOf}
 use Rattle.scheme_model.specs.DiagnosticTexts.{worded}
-use Rattle.document_units.specs.Findings.{diagnostic, told, all_told, is_error, errors_in, Adds}
-use Rattle.document_units.specs.Diagnosed.{DeclaredAt, IsWhole, bad_declaration, declaration_found, text_unit, whole_at, whole_number}
+use Rattle.read_documents.specs.Findings.{diagnostic, told, all_told, is_error, errors_in, Adds}
+use Rattle.read_documents.specs.Diagnosed.{DeclaredAt, IsWhole, bad_declaration, declaration_found, text_unit, whole_at, whole_number}
 
 -- where a bad declaration stands
 abbrev bytes_of_declaration : (document : ℕ → ℕ) → DeclaredAt → Bytes

@@ -3,7 +3,7 @@ use Rattle.std.specs.Prelude.{Some}
 use Rattle.scheme_model.specs.DiagnosticTexts.{worded}
 use Rattle.scheme_model.specs.Included.{LostString}
 use Rattle.datum_reader.specs.FirstTokens.{span_of}
-use Rattle.document_units.specs.declared.findings.Finding.{Finding}
+use Rattle.read_documents.specs.declared.findings.Finding.{Finding}
 
 -- the finding of a string, where it is written
 abbrev pub lost_found : LostString → Finding

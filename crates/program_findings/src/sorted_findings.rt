@@ -1,12 +1,12 @@
 //! Of each document its findings in order, each once, and the first Error among findings.
 ghost use Rattle.std.specs.Prelude.{◌≡◌, ◌<◌, ◌++◌, ℕ, List, [], vec_len, IfOk, IfSome, OnOk};
 ghost use Rattle.scheme_model.specs.Diagnostics.{Diagnostic};
-ghost use Rattle.document_units.specs.Findings.{AreKept, all_told, told, first_error_in, diagnostic, stands_first};
-ghost use Rattle.document_units.specs.Places.{AreFoundIn, IsAtIn};
+ghost use Rattle.read_documents.specs.Findings.{AreKept, all_told, told, first_error_in, diagnostic, stands_first};
+ghost use Rattle.read_documents.specs.Places.{AreFoundIn, IsAtIn};
 
-use document_units::findings::{At, Finding, Sorted};
-use document_units::wording::message;
 use ls_base::Mem;
+use read_documents::findings::{At, Finding, Sorted};
+use read_documents::wording::message;
 use std::alloc::Global;
 use std::collections::BTreeMap;
 

@@ -7,7 +7,7 @@ use Rattle.syntax_tree.specs.declared.trees.Work.{Work}
 use Rattle.core_tree.specs.Units.{ProgramStands}
 use Rattle.core_tree.specs.declared.units.Program.{Program}
 use Rattle.document_store.specs.Texts.{Texts}
-use Rattle.document_units.specs.Readings.{documents_in, program_in}
+use Rattle.read_documents.specs.Readings.{documents_in, program_in}
 use Rattle.program_answers.proofs.TextLists.{some_row}
 use Rattle.program_differences.specs.Both.{AreComparable}
 use Rattle.rename_laws.proofs.GivenLaws.{exports_are_given}

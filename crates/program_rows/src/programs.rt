@@ -8,7 +8,7 @@ use core_tree::units::Program;
 use document_store::{Store, StoreFault};
 use ls_base::Steps;
 use ls_base::limits::MAX_DOCUMENTS;
-use program_expansion::program::{Reading, read_program};
+use program_expansion::program::read_program;
 use row_values::argument::{item, list, made, made_bytes, text};
 use row_values::fault::{Row, RowFault};
 use serde_json::Value;
@@ -16,6 +16,7 @@ use std::alloc::Global;
 use std::sync::ledger::Ledger;
 use syntax_tree::texts::same_text;
 use syntax_tree::trees::Work;
+use unit_results::collecting::Reading;
 
 /// Two programs of documents with the same uris, and the trees and names that both are over.
 #[derive(Drop)]

@@ -214,7 +214,7 @@ module _ (known : Known) where
         go t (Err e) a = (λ h. h, λ u i e. e, refl)
         go t (Ok p) a = then_going t (items_parts ops fs (item_part (expand ops turns) ops max_depth []) is t) (λ r. with_part p r) a
 
-    form_later : (fs : List ℕ) (r : Result (Left Ident) Broken) (s : ScopedState) → Later s (form_parts ops (expand ops turns) [] fs r s).1
+    pub form_later : (fs : List ℕ) (r : Result (Left Ident) Broken) (s : ScopedState) → Later s (form_parts ops (expand ops turns) [] fs r s).1
     form_later fs (Err e) s = (λ h. h, λ u i d. d, refl)
     form_later fs (Ok l) s =
         let m = meet_all ops [] l.uses s in

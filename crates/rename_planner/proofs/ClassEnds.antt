@@ -15,7 +15,7 @@ use Rattle.datum_reader.specs.Texts.{IsReading, token_seen}
 use Rattle.datum_reader.specs.WellFormed.{WasRead}
 use Rattle.datum_reader.proofs.ReadParts.{datum_was_read}
 use Rattle.included_documents.specs.Meant.{meant}
-use Rattle.document_units.specs.Readings.{Read, Reads, Stops, IsReadAs, data_in, documents_from, documents_in, program_in, spans_in, span_of, uri_of}
+use Rattle.read_documents.specs.Readings.{Read, Reads, Stops, IsReadAs, data_in, documents_from, documents_in, program_in, spans_in, span_of, uri_of}
 use Rattle.document_units.proofs.RisingParts.{Inner, read_rises}
 use Rattle.program_laws.specs.Turns.{Each}
 use Rattle.text_edits.specs.Edits.{Edit}

@@ -9,7 +9,7 @@ use Rattle.syntax_tree.specs.declared.trees.Work.{Work}
 use Rattle.core_tree.specs.Units.{ProgramStands}
 use Rattle.core_tree.specs.declared.units.Program.{Program}
 use Rattle.document_store.specs.Texts.{Document, Texts}
-use Rattle.document_units.specs.Readings.{Read, AreReadAs, documents_in, program_in}
+use Rattle.read_documents.specs.Readings.{Read, AreReadAs, documents_in, program_in}
 use Rattle.program_answers.proofs.TextLists.{some_row}
 use Rattle.program_differences.specs.Both.{AreComparable}
 use Rattle.program_differences.specs.Differences.{AreOne}
@@ -17,9 +17,9 @@ use Rattle.program_differences.specs.declared.plan.Difference as code
 use Rattle.rename_model.specs.Difference.{Difference}
 use Rattle.rename_laws.proofs.GivenLaws.{exports_are_given}
 use Rattle.rename_conditions.specs.Renames.{Differs, unless}
-use Rattle.workspace_state.specs.Edited.{edited_documents, edited_texts}
+use Rattle.document_changes.specs.Edited.{edited_documents, edited_texts}
 use Rattle.workspace_state.specs.ProgramOfTexts.{IsProgramOfTexts}
-use Rattle.workspace_state.proofs.EditedLaws.{edited_entries}
+use Rattle.document_changes.proofs.EditedLaws.{edited_entries}
 use Rattle.rename_planner.specs.Planning.{ComesTo, Holds}
 use Rattle.rename_planner.specs.ToldRenames.{uris_of}
 use Rattle.rename_planner.specs.declared.faults.RenameFault.TheVariants as faults

@@ -16,8 +16,8 @@ use Rattle.program_leaves.proofs.KeyLaws.{one_occ}
 use Rattle.program_leaves.specs.Members.{IsIn}
 use Rattle.arrow_index.proofs.ClassParts.{prefixes_have}
 use Rattle.document_store.specs.Texts.{Document}
-use Rattle.document_units.specs.Readings as read
-use Rattle.document_units.specs.Readings.{Read, Reads, Stops, AreReadAs}
+use Rattle.read_documents.specs.Readings as read
+use Rattle.read_documents.specs.Readings.{Read, Reads, Stops, AreReadAs}
 use Rattle.program_answers.specs.ToldAnswers.{document_at}
 use Rattle.text_edits.specs.Edits.{edited}
 use Rattle.text_edits.specs.Members.{is_part, class_edits}

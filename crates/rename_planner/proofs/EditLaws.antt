@@ -4,7 +4,7 @@ use Rattle.ls_base.specs.declared.answers.DocEdits as told
 use Rattle.ls_base.specs.declared.encoding.Encoding.{Encoding}
 use Rattle.scheme_model.specs.declared.Occ.{Occ}
 use Rattle.document_store.specs.Texts.{Document}
-use Rattle.document_units.specs.Readings.{Read, Reads, Stops, AreReadAs}
+use Rattle.read_documents.specs.Readings.{Read, Reads, Stops, AreReadAs}
 use Rattle.program_answers.specs.ToldAnswers.{document_at, text_of}
 use Rattle.text_edits.specs.Edits.{Edit, edited}
 use Rattle.text_edits.specs.Members.{class_edits}

@@ -14,11 +14,11 @@ use Rattle.syntax_tree.specs.declared.trees.Work.{Work}
 use Rattle.core_tree.specs.Units.{UnitsStand}
 use Rattle.core_tree.specs.declared.units.Unit.{Unit as CodeUnit}
 use Rattle.document_store.specs.Texts.{Document}
-use Rattle.document_units.specs.Findings as findings
-use Rattle.document_units.specs.Places.{spans_of}
-use Rattle.document_units.specs.Readings.{Read, program_in}
-use Rattle.document_units.specs.UnitFindings.{first_error_at}
-use Rattle.document_units.specs.declared.places.PlacedError.{PlacedError}
+use Rattle.read_documents.specs.Findings as findings
+use Rattle.read_documents.specs.Places.{spans_of}
+use Rattle.read_documents.specs.Readings.{Read, program_in}
+use Rattle.read_documents.specs.UnitFindings.{first_error_at}
+use Rattle.read_documents.specs.declared.places.PlacedError.{PlacedError}
 use Rattle.program_answers.specs.Placed.{IsErrorAt}
 use Rattle.program_answers.specs.ToldAnswers.{place_told}
 use Rattle.rename_conditions.specs.Opened.{Opened, spans_read}

@@ -5,7 +5,7 @@ use Rattle.ls_base.specs.declared.encoding.Encoding.{Encoding}
 use Rattle.scheme_model.specs.declared.Occ.{Occ}
 use Rattle.scheme_model.specs.Spelling.{Link, is_joined}
 use Rattle.document_store.specs.Texts.{Document}
-use Rattle.document_units.specs.Readings.{Read}
+use Rattle.read_documents.specs.Readings.{Read}
 use Rattle.program_answers.specs.Classed.{IsClassOf}
 use Rattle.program_answers.specs.ToldAnswers.{facts_in}
 use Rattle.program_answers.specs.declared.classes.Class.{Class}

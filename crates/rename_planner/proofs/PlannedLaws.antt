@@ -3,7 +3,7 @@ use Rattle.std.proofs.Common.{◌≡◌, ℕ, List, Option, Result, Ok, Err, ref
 use Rattle.ls_base.specs.declared.encoding.Encoding.{Encoding}
 use Rattle.scheme_model.specs.declared.Occ.{Occ}
 use Rattle.document_store.specs.Texts.{Document}
-use Rattle.document_units.specs.Readings.{Read}
+use Rattle.read_documents.specs.Readings.{Read}
 use Rattle.program_answers.specs.Classed.{IsClassOf}
 use Rattle.program_answers.specs.ToldAnswers.{facts_in}
 use Rattle.rename_conditions.specs.Opened.{Opened, edited_in}

@@ -17,8 +17,8 @@ use Rattle.scheme_model.specs.Session.{Prepare}
 use Rattle.scheme_model.specs.Sites.{name_at}
 use Rattle.scheme_model.specs.Spelling.{class_of, is_joined, standard_origins}
 use Rattle.document_store.specs.Texts.{Document, Texts}
-use Rattle.document_units.specs.Places.{spans_of}
-use Rattle.document_units.specs.Readings.{Read, AreReadAs, program_in}
+use Rattle.read_documents.specs.Places.{spans_of}
+use Rattle.read_documents.specs.Readings.{Read, AreReadAs, program_in}
 use Rattle.program_answers.specs.ToldAnswers.{answer_by, answer_of, answer_told, facts_in, name_by, name_there, number_of, text_of}
 use Rattle.rename_conditions.specs.Readers.{Reader, IsReader}
 use Rattle.rename_conditions.specs.Opened.{Opened, DocEdits, edited_in, edits_in, told_edits}

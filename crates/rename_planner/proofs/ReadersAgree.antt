@@ -10,7 +10,7 @@ use Rattle.datum_reader.proofs.Stops.{never_reads_and_stops}
 use Rattle.datum_reader.proofs.TokensSeen.{text_once}
 use Rattle.document_store.specs.Texts as store
 use Rattle.included_documents.specs.Meant.{meant}
-use Rattle.document_units.specs.Readings.{Read, Reads, Stops, IsReadAs, AreReadAs, uri_of, data_in as read_data, documents_from as read_from, documents_in, program_in, span_of}
+use Rattle.read_documents.specs.Readings.{Read, Reads, Stops, IsReadAs, AreReadAs, uri_of, data_in as read_data, documents_from as read_from, documents_in, program_in, span_of}
 use Rattle.rename_conditions.specs.Opened.{Opened, documents_from, documents_read, opened, program_read}
 use Rattle.rename_conditions.specs.Readers.{Reading, Reader, ReadsAs, IsReader, data_in}
 use Rattle.rename_planner.specs.ReadDocuments.{reading_of, read_as}

@@ -1,8 +1,8 @@
 -- The bytes of tokens and the macro uses of documents that are read so.
 use Rattle.std.proofs.Common.{◌≡◌, ℕ, List, [], ◌∷◌, map, refl, sym, ap, ◌∙◌}
 use Rattle.document_store.specs.Texts.{Document}
-use Rattle.document_units.specs.Places.{spans_of}
-use Rattle.document_units.specs.Readings.{Read, Reads, Stops, AreReadAs, data_in, spans_in as read_spans}
+use Rattle.read_documents.specs.Places.{spans_of}
+use Rattle.read_documents.specs.Readings.{Read, Reads, Stops, AreReadAs, data_in, spans_in as read_spans}
 use Rattle.macro_uses.specs.MacroUses.{program_uses}
 use Rattle.program_expansion.specs.UsesInTurn.{uses_in}
 use Rattle.rename_conditions.specs.Readers.{Reader, IsReader, spans_in}

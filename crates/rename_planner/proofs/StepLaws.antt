@@ -11,8 +11,8 @@ use Rattle.scheme_model.specs.Entries.{is_below}
 use Rattle.scheme_model.specs.Sites.{name_at}
 use Rattle.scheme_model.specs.Spelling.{class_of, is_joined, standard_origins}
 use Rattle.document_store.specs.Texts.{Document}
-use Rattle.document_units.specs.Places.{spans_of}
-use Rattle.document_units.specs.Readings.{Read, AreReadAs, program_in}
+use Rattle.read_documents.specs.Places.{spans_of}
+use Rattle.read_documents.specs.Readings.{Read, AreReadAs, program_in}
 use Rattle.program_answers.specs.Classed.{IsClassAt, IsClassOf, head_of, standard_for}
 use Rattle.program_answers.specs.ToldAnswers.{document_at, facts_in, name_by, name_there, number_of, text_of}
 use Rattle.program_answers.specs.declared.classes.Class.{Class}

@@ -17,14 +17,14 @@ use Rattle.scheme_model.specs.declared.Occ.{Occ}
 use Rattle.scheme_model.specs.Program.{UnitResult}
 use Rattle.scheme_model.specs.Spelling.{Link}
 use Rattle.document_store.specs.Texts.{Document, Texts}
-use Rattle.document_units.specs.Readings.{Read, AreReadAs, IsReadAs, program_in, spans_in}
+use Rattle.read_documents.specs.Readings.{Read, AreReadAs, IsReadAs, program_in, spans_in}
 use Rattle.program_answers.specs.ToldAnswers.{facts_in}
 use Rattle.text_edits.specs.Edits.{Edit, edited}
 use Rattle.text_edits.specs.Members.{class_edits, identifiers_of, members_of, name_at, name_of}
 use Rattle.text_edits.specs.Views.{AreCuts, edit_of, edit_told}
 use Rattle.text_edits.specs.declared.edits.Edit as code
 use Rattle.class_edits.specs.DocumentEdits.{CanEditAll, all_edited, edits_from, edits_of_class, seen, told, told_of, too_long}
-use Rattle.workspace_state.specs.Edited.{CanEdit, edit_in, edited_documents, edits_for, edits_in}
+use Rattle.document_changes.specs.Edited.{CanEdit, edit_in, edited_documents, edits_for, edits_in}
 use Rattle.rename_planner.specs.ToldRenames.{texts_of}
 use Rattle.rename_planner.proofs.DistinctLaws.{uris_distinct}
 use Rattle.rename_planner.proofs.ClassEnds.{class_back, told_back}

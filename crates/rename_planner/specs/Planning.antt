@@ -11,14 +11,14 @@ use Rattle.scheme_model.specs.Program.{result_at}
 use Rattle.scheme_model.specs.Spelling.{is_member}
 use Rattle.rename_model.specs.SameProgram.{Plan}
 use Rattle.document_store.specs.Texts.{Document}
-use Rattle.document_units.specs.Readings.{Read}
+use Rattle.read_documents.specs.Readings.{Read}
 use Rattle.program_answers.specs.Classed.{IsClassOf}
 use Rattle.program_answers.specs.ToldAnswers.{facts_in}
 use Rattle.text_edits.specs.Members.{prefix_of, stem_of}
 use Rattle.rename_conditions.specs.Opened.{Opened, DocEdits, spans_read, edits_in, edited_in, plan_in, told_edits}
 use Rattle.rename_conditions.specs.Renames as model
 use Rattle.rename_conditions.specs.Renames.{Refusal, ◌>>=◌, unless, first_of}
-use Rattle.workspace_state.specs.Edited.{edited_documents}
+use Rattle.document_changes.specs.Edited.{edited_documents}
 use Rattle.rename_planner.specs.ToldRenames.{document_told, texts_of}
 use Rattle.rename_planner.specs.RenameOutcomes.{RefusesAs}
 use Rattle.rename_planner.specs.declared.faults.RenameFault.{RenameFault}

@@ -3,7 +3,7 @@ use Rattle.std.specs.Prelude.{ℕ, List, map, Option, Some, None}
 use Rattle.scheme_model.specs.Program.{units_of}
 use Rattle.scheme_model.specs.Spelling.{links_of}
 use Rattle.document_store.specs.Texts.{Document}
-use Rattle.document_units.specs.Readings.{Read, Reads, Stops, documents_in, program_in}
+use Rattle.read_documents.specs.Readings.{Read, Reads, Stops, documents_in, program_in}
 use Rattle.rename_conditions.specs.Opened.{Opened}
 use Rattle.rename_conditions.specs.Readers.{Reading}
 use Rattle.rename_planner.specs.ToldRenames.{texts_of, uris_of}

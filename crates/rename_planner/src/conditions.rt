@@ -6,7 +6,7 @@ ghost use Rattle.std.specs.Option.{ok_or, option_map};
 ghost use Rattle.ls_base.specs.declared.encoding.Encoding.{Encoding as AnyEncoding};
 ghost use Rattle.scheme_model.specs.declared.Occ.{Occ as AnyOcc};
 ghost use Rattle.document_store.specs.Texts.{Document};
-ghost use Rattle.document_units.specs.Readings.{Read, AreReadAs};
+ghost use Rattle.read_documents.specs.Readings.{Read, AreReadAs};
 ghost use Rattle.program_answers.specs.Classed.{IsClassOf};
 ghost use Rattle.program_answers.specs.ToldAnswers.{facts_in, name_there};
 ghost use Rattle.text_edits.specs.Members as members;

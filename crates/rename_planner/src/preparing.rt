@@ -2,7 +2,7 @@
 ghost use Rattle.std.specs.Prelude.{◌≡◌, ◌↔◌, ℕ, List, None, IfOk};
 ghost use Rattle.std.specs.FinMap.{entries};
 ghost use Rattle.scheme_model.specs.Session as session;
-ghost use Rattle.document_units.specs.Readings.{Read, AreReadAs};
+ghost use Rattle.read_documents.specs.Readings.{Read, AreReadAs};
 ghost use Rattle.program_answers.specs.ToldAnswers.{answer_of};
 ghost use Rattle.rename_conditions.specs.Readers.{Reader, IsReader};
 ghost use Rattle.rename_planner.specs.Preparing.{IsUnnamed, prepared_told};

@@ -4,7 +4,7 @@ use Rattle.std.specs.FinMap.{entries}
 use Rattle.ls_base.specs.Limits.{max_text}
 use Rattle.ls_base.specs.declared.places.Pos.{Pos}
 use Rattle.ls_outside.specs.Sources.{AreCuts}
-use Rattle.document_units.specs.Readings.{Read, AreReadAs}
+use Rattle.read_documents.specs.Readings.{Read, AreReadAs}
 use Rattle.program_expansion.specs.UsesInTurn.{uses_in}
 use Rattle.rename_conditions.specs.Readers.{Reader, IsReader}
 use Rattle.file_fetching.specs.FilesSeen.{FilesSeen}

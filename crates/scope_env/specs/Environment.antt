@@ -1,6 +1,6 @@
 -- The scopes of all units, as contracts see them (R7RS 3.1). A scope's number is its place in the list of scopes, and what it
 -- binds are identifiers by their numbers.
-use Rattle.std.specs.Prelude.{◌≡◌, ℕ, zero, suc, ◌<◌, List, [], ◌∷◌, ◌++◌, length, slice_get, Option, Some, None}
+use Rattle.std.specs.Prelude.{◌≡◌, ℕ, zero, suc, ◌<◌, List, [], ◌∷◌, ◌++◌, length, take, slice_get, Option, Some, None}
 use Rattle.std.specs.declared.cmp.Ordering.{Ordering}
 use Rattle.std.specs.Ordering.{nat_cmp, ordering_then}
 use Rattle.std.specs.FinMap.{FinMap, empty, get, insert}
@@ -61,6 +61,12 @@ with_bound env scope ident meaning = record env { scopes = changed_at (bound_in 
 abbrev pub with_added : Environment → Option Bound → Environment
 with_added env None = env
 with_added env (Some b) = with_bound env b.scope b.ident b.meaning
+
+-- ---- what calls forget
+
+-- without the scopes from a number on, and where the macros of uses were defined
+abbrev pub without_locals : Environment → ℕ → Environment
+without_locals env n = record env { scopes = take n env.scopes; uses = empty }
 
 -- ---- what holds of every environment
 

@@ -6,7 +6,7 @@ ghost use Rattle.scheme_model.specs.Scopes.{Chain, Uses, Own, means};
 ghost use Rattle.syntax_tree.specs.Macros.{IsIdent};
 ghost use Rattle.syntax_tree.specs.Meant.{IsMeaning};
 ghost use Rattle.syntax_tree.specs.Numbered.{number_of};
-ghost use Rattle.scope_env.specs.Environment.{no_scopes, with_root, with_child, with_bound, with_added, with_use, IsSound};
+ghost use Rattle.scope_env.specs.Environment.{no_scopes, with_root, with_child, with_bound, with_added, with_use, without_locals, IsSound};
 ghost use Rattle.scope_env.specs.Resolved.{local, own, bound_at, resolved, reached};
 ghost use Rattle.scope_env.specs.Standing.{EnvFor, StandsFor};
 ghost use Rattle.scope_env.specs.Marks.{marked, marked_for};
@@ -169,6 +169,15 @@ impl Env {
     {
         self.uses.insert(number, scope)?;
         Ok(())
+    }
+
+    /// Forgets the scopes from a number on, none of which is a unit's own, and where the macros of uses were defined. It takes no memory.
+    pub fn forget_from(&mut self, from: ScopeNo)
+        requires { (u n : ℕ) → get self.old.roots u ≡ Some n → n < from }
+        ensures { self.new ≡ without_locals self.old from }
+    {
+        self.scopes.truncate(from);
+        self.uses = BTreeMap::new(self.alloc);
     }
 
     /// What holds of every environment: a scope is newer than the one around it, scopes that uses and units have are there, and

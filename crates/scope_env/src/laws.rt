@@ -12,7 +12,7 @@ ghost use Rattle.syntax_tree.specs.Macros.{IsIdent};
 ghost use Rattle.syntax_tree.specs.Meant.{IsGivenMeaning};
 ghost use Rattle.syntax_tree.specs.declared.meaning.Meaning as code_meaning;
 ghost use Rattle.syntax_tree.specs.declared.meaning.Meaning.TheVariants as code;
-ghost use Rattle.scope_env.specs.Environment.{Environment, IsSound, with_root, with_child, with_bound, with_use};
+ghost use Rattle.scope_env.specs.Environment.{Environment, IsSound, with_root, with_child, with_bound, with_use, without_locals};
 ghost use Rattle.scope_env.specs.Standing.{EnvFor, StandsFor, IsGiven, AreLocalsOf, AreOf, AreUsesOf};
 ghost use Rattle.scope_env.specs.Moved.{parent_of, is_around, with_use_under, with_binder, with_given, has_use, AreNamed, AreGivenNamed};
 
@@ -65,6 +65,16 @@ pub fn definitions_stand()
         (given : Own) (uses : Uses) → IsSound old → AreToldApart names.idents → IsIdent names ident i → IsGivenMeaning names m d →
         get old.roots unit ≡ Some scope → EnvFor names old given uses →
         EnvFor names (with_bound old scope ident m) (with_given given unit i d) uses }
+{}
+
+/// Where the scopes from a number on are forgotten, those before stand for what they did, and so does what units give; no binders are around the
+/// macros of uses.
+pub fn locals_are_forgotten()
+    ensures sound { (old : Environment) (from : ℕ) → IsSound old → ((u n : ℕ) → get old.roots u ≡ Some n → n < from) → IsSound (without_locals old from) }
+    ensures scopes { (names : Names) (old : Environment) (from : ℕ) (c : Chain) (n : ℕ) → IsSound old → ((u m : ℕ) → get old.roots u ≡ Some m → m < from) →
+        n < from → n < length old.scopes → StandsFor names old (Some n) c → StandsFor names (without_locals old from) (Some n) c }
+    ensures env { (names : Names) (old : Environment) (from : ℕ) (given : Own) (uses : Uses) → IsSound old → ((u n : ℕ) → get old.roots u ≡ Some n → n < from) →
+        EnvFor names old given uses → EnvFor names (without_locals old from) given (λ k. []) }
 {}
 
 /// A use more: its scope has around it what the scope that was noted has. An identifier that this use hasn't inserted means what

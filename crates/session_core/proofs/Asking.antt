@@ -6,7 +6,7 @@ use Rattle.ls_base.specs.declared.encoding.Encoding.{Encoding}
 use Rattle.ls_base.specs.declared.places.Pos.{Pos}
 use Rattle.scheme_model.specs.Session as session
 use Rattle.scheme_model.specs.Session.{Query, State, stays}
-use Rattle.document_units.specs.Readings.{Read, AreReadAs}
+use Rattle.read_documents.specs.Readings.{Read, AreReadAs}
 use Rattle.workspace_state.specs.State as workspace
 use Rattle.program_answers.specs.ToldAnswers.{answer_of}
 use Rattle.program_answers.proofs.TextLists.{some_row}

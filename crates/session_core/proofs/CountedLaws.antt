@@ -8,8 +8,8 @@ use Rattle.scheme_model.specs.Session as session
 use Rattle.scheme_model.specs.Session.{Reply, Id, Call, Note, Initialize, Shutdown, Ask, Rename, State, evented, evented_to, logged, published, uri_of}
 use Rattle.scheme_model.specs.Texts as texts
 use Rattle.scheme_model.specs.Texts.{Texts, after}
-use Rattle.workspace_state.specs.Events.{leaves}
-use Rattle.document_units.specs.Readings.{Read, AreReadAs}
+use Rattle.document_changes.specs.Events.{leaves}
+use Rattle.read_documents.specs.Readings.{Read, AreReadAs}
 use Rattle.program_answers.proofs.TextLists.{some_row, one_row}
 use Rattle.program_expansion.specs.UsesInTurn.{uses_in}
 use Rattle.session_core.specs.Agreement.{said_event, said_after, said_refusal}

@@ -11,10 +11,10 @@ use Rattle.scheme_model.specs.Session as session
 use Rattle.scheme_model.specs.Session.{evented, evented_to, logged, published, uri_of}
 use Rattle.scheme_model.specs.Texts as texts
 use Rattle.scheme_model.specs.Texts.{Texts, after}
-use Rattle.workspace_state.specs.Events as workspace
-use Rattle.workspace_state.specs.Events.{event_of, fault_of, leaves}
-use Rattle.workspace_state.specs.declared.events.DocEvent.{DocEvent}
-use Rattle.workspace_state.specs.declared.events.DocEvent.TheVariants as doc
+use Rattle.document_changes.specs.Events as workspace
+use Rattle.document_changes.specs.Events.{event_of, fault_of, leaves}
+use Rattle.document_changes.specs.declared.events.DocEvent.{DocEvent}
+use Rattle.document_changes.specs.declared.events.DocEvent.TheVariants as doc
 use Rattle.program_answers.specs.Updates.{IsNewsOf, Publishes}
 use Rattle.program_answers.specs.declared.publications.Published.{Published}
 use Rattle.session_core.specs.declared.out.Out.{Out}

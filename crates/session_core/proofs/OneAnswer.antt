@@ -4,7 +4,7 @@ use Rattle.std.specs.FinMap.{entries}
 use Rattle.ls_base.specs.declared.answers.Answer.{Answer}
 use Rattle.scheme_model.specs.Session as session
 use Rattle.session_core.specs.FromWire.{encoding_of, pos_of}
-use Rattle.document_units.specs.Readings.{Read}
+use Rattle.read_documents.specs.Readings.{Read}
 use Rattle.program_answers.specs.ToldAnswers.{answer_of}
 use Rattle.program_answers.specs.declared.publications.Published.{Published}
 use Rattle.program_answers.proofs.NewsLaws.{one_news}

@@ -6,7 +6,7 @@ use Rattle.ls_base.specs.declared.answers.Answer.{Answer}
 use Rattle.ls_base.specs.declared.answers.Answer.TheVariants as answers
 use Rattle.scheme_model.specs.Session.{Answers, Query}
 use Rattle.scheme_model.specs.Texts.{Position, Encoding, Texts}
-use Rattle.document_units.specs.Readings.{Read, AreReadAs}
+use Rattle.read_documents.specs.Readings.{Read, AreReadAs}
 use Rattle.program_answers.specs.ToldAnswers.{answer_of}
 use Rattle.program_answers.specs.Updates.{IsNewsOf}
 use Rattle.program_answers.specs.declared.publications.Published.{Published}

@@ -1,6 +1,6 @@
 //! Documents are opened, changed and closed; refusals are logged, and diagnostics published (LSP 3.17, text synchronisation).
 ghost use Rattle.std.specs.Prelude.{◌≡◌, ◌+◌, ◌≤◌, ◌++◌, length, map, vec_len, vec_capacity, None, IfOk, OnOk, OnErr};
-ghost use Rattle.workspace_state.specs.Events.{event_of};
+ghost use Rattle.document_changes.specs.Events.{event_of};
 ghost use Rattle.scheme_model.specs.Session.{evented};
 ghost use Rattle.session_core.specs.Agreement.{said_event};
 ghost use Rattle.session_core.specs.Asked.{questions};

@@ -5,7 +5,7 @@ ghost use Rattle.std.specs.Option.{option_map};
 ghost use Rattle.lookahead.specs.Ahead.{cancelled_step, step_ahead};
 ghost use Rattle.scheme_model.specs.Session.{begin, evented, step};
 ghost use Rattle.scheme_model.specs.Session as spec;
-ghost use Rattle.workspace_state.specs.Events.{event_of};
+ghost use Rattle.document_changes.specs.Events.{event_of};
 ghost use Rattle.session_core.specs.Agreement.{said_event};
 ghost use Rattle.session_core.specs.Asked.{questions};
 ghost use Rattle.lsp_messages.specs.Messages.{message_of};

@@ -1,8 +1,9 @@
 //! Symbols and identifiers by number. A number is a place in a table, so equal symbols have one number, and so do
 //! equal identifiers (R7RS 4.3).
-ghost use Rattle.std.specs.Prelude.{◌≡◌, ◌<◌, [], length, slice_get, Some, IfOk, OnOk, OnErr};
+ghost use Rattle.std.specs.Prelude.{◌≡◌, ◌<◌, ℕ, [], length, slice_get, Some, IfOk, OnOk, OnErr};
 ghost use Rattle.std.specs.Option.{option_map};
-ghost use Rattle.scheme_model.specs.Ident.{Ident as Identifier, symbol_of};
+ghost use Rattle.scheme_model.specs.Identifiers.{Number};
+ghost use Rattle.scheme_model.specs.Ident.{Ident as Identifier, Inserted, symbol_of};
 ghost use Rattle.syntax_tree.specs.Names.{Names, AreToldApart, KeepsNames, with_symbol, with_ident};
 ghost use Rattle.syntax_tree.specs.Numbered.{ident_of, IsPlaced};
 ghost use Rattle.syntax_tree.specs.Hashed.{half, written_code, inserted_code};
@@ -130,6 +131,20 @@ impl Symbols {
         Ok(number)
     }
 
+    /// How many symbols there are. It takes no memory.
+    pub fn symbol_count(&self) -> usize
+        ensures { result ≡ length self.now.symbols }
+    {
+        self.names.len()
+    }
+
+    /// How many identifiers there are. It takes no memory.
+    pub fn ident_count(&self) -> usize
+        ensures { result ≡ length self.now.idents }
+    {
+        self.idents.len()
+    }
+
     /// The characters of a symbol. It takes no memory.
     #[inline(always)]
     pub fn name(&self, symbol: SymNo) -> &str
@@ -180,6 +195,14 @@ impl Symbols {
         ensures idents { AreToldApart self.now.idents }
     {
         let _names = &self.names;
+    }
+
+    /// An identifier that a macro use inserted stands behind what it inserted.
+    pub fn in_order(&self)
+        ensures { (n : ℕ) (i : Identifier) (k : Number) → slice_get self.now.idents n ≡ Some (Inserted i k) →
+            (m : ℕ) × (m < n) × (slice_get self.now.idents m ≡ Some i) }
+    {
+        let _idents = &self.idents;
     }
 
     /// The symbol innermost in an identifier that may be new.

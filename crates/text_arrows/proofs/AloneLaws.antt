@@ -18,10 +18,10 @@ use Rattle.ls_base.specs.declared.encoding.Encoding.TheVariants.{Utf16}
 use Rattle.ls_base.specs.declared.places.Pos.{Pos}
 use Rattle.scheme_model.specs.Session.{Arrows}
 use Rattle.document_store.specs.Texts.{Added, Document, Refusal, Texts, after, has_room, is_long, is_open}
-use Rattle.workspace_state.specs.Events.{leaves}
-use Rattle.document_units.specs.Listed.{found_of, lists_of, of_stop, told_in}
+use Rattle.document_changes.specs.Events.{leaves}
+use Rattle.read_documents.specs.Listed.{found_of, lists_of, of_stop, told_in}
 use Rattle.program_answers.specs.Listings.{or_none}
-use Rattle.document_units.specs.Readings.{Read, Reads, Stops, AreReadAs, first_unread}
+use Rattle.read_documents.specs.Readings.{Read, Reads, Stops, AreReadAs, first_unread}
 use Rattle.workspace_state.specs.State as workspace
 use Rattle.program_answers.specs.ToldAnswers.{answer_of}
 use Rattle.program_answers.specs.Updates.{AreListsOfTexts, ArePublished, IsNewsOf, IsPublished, Lists, Publishes, listed_in}

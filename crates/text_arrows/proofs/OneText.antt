@@ -4,8 +4,8 @@ use Rattle.std.specs.Str.{IsUtf8, is_utf8}
 use Rattle.std.proofs.lemmas.Str.{IsUtf8-from_is_utf8, is_utf8-from_IsUtf8}
 use Rattle.ls_base.specs.declared.encoding.Encoding.TheVariants.{Utf16}
 use Rattle.scheme_model.specs.Faults as faults
-use Rattle.document_units.specs.Listed.{of_stop, told_in}
-use Rattle.document_units.specs.Readings.{Read, Reads, Stops}
+use Rattle.read_documents.specs.Listed.{of_stop, told_in}
+use Rattle.read_documents.specs.Readings.{Read, Reads, Stops}
 use Rattle.program_answers.proofs.TextLists.{one_row}
 use Rattle.command_lines.specs.Diagnostics.{diagnostic_line}
 use Rattle.text_arrows.specs.CountedText.{CountsAlone}

@@ -7,8 +7,8 @@ use Rattle.ls_base.specs.declared.answers.Answer.{Answer}
 use Rattle.ls_base.specs.declared.answers.Answer.TheVariants as answers
 use Rattle.ls_base.specs.declared.answers.Arrow as drawn
 use Rattle.ls_base.specs.declared.encoding.Encoding.TheVariants.{Utf16}
-use Rattle.document_units.specs.Listed.{found_of, told_in}
-use Rattle.document_units.specs.Readings.{Read}
+use Rattle.read_documents.specs.Listed.{found_of, told_in}
+use Rattle.read_documents.specs.Readings.{Read}
 use Rattle.workspace_state.specs.State as workspace
 use Rattle.program_answers.specs.declared.publications.Published.{Published}
 use Rattle.text_arrows.specs.Printed.{AreLines, IsReadAlone, IsStopLine, alone, input_name}

@@ -8,8 +8,8 @@ use Rattle.scheme_model.specs.Diagnostics.{Span}
 use Rattle.scheme_model.specs.Faults as faults
 use Rattle.document_store.specs.Texts.{Document}
 use Rattle.scheme_model.specs.Answers.{drawn_in}
-use Rattle.document_units.specs.Listed.{of_stop, told_in}
-use Rattle.document_units.specs.Readings.{Read, Reads, Stops, IsReadAs, uri_of}
+use Rattle.read_documents.specs.Listed.{of_stop, told_in}
+use Rattle.read_documents.specs.Readings.{Read, Reads, Stops, IsReadAs, uri_of}
 use Rattle.program_answers.specs.ToldAnswers.{arrow_told, facts_in}
 use Rattle.program_answers.specs.declared.publications.Published.{Published}
 use Rattle.command_lines.specs.Diagnostics.{diagnostic_line, diagnostic_lines}

@@ -9,7 +9,7 @@ use Rattle.core_tree.specs.declared.units.Unit as code
 use Rattle.unit_sources.specs.declared.units.UnitSource.{UnitSource}
 use Rattle.unit_imports.specs.Collected.{Has, IsNothing, HasCome, IsCollected}
 use Rattle.unit_imports.specs.declared.expanded.Expanded.{Expanded}
-use Rattle.document_units.specs.declared.listing.Head.{Head}
+use Rattle.read_documents.specs.declared.heads.Head.{Head}
 
 -- each unit so far by its head and what it came to
 abbrev pub AreCollectedSo : List (List ℕ) → List Head → List UnitSource → List (Option Expanded) → List code.Unit → Type 0

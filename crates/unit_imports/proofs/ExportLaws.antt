@@ -10,9 +10,9 @@ use Rattle.unit_sources.specs.Exports.{IsFault, AreFaults}
 use Rattle.unit_sources.specs.Sources.{IsExport, AreExports}
 use Rattle.unit_sources.specs.declared.exporting.ExportFault as code_fault
 use Rattle.unit_sources.specs.declared.units.ExportSpec as code_export
-use Rattle.document_units.specs.declared.findings.At.{At}
-use Rattle.document_units.specs.Findings.{told_at}
-use Rattle.document_units.specs.Places.{bytes_at}
+use Rattle.read_documents.specs.declared.findings.At.{At}
+use Rattle.read_documents.specs.Findings.{told_at}
+use Rattle.read_documents.specs.Places.{bytes_at}
 use Rattle.scheme_model.specs.DiagnosticTexts.{worded}
 use Rattle.unit_imports.proofs.GivenLaws.{drop_at}
 

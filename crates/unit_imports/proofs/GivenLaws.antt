@@ -31,15 +31,15 @@ use Rattle.unit_sources.specs.declared.units.UnitSource as code_source
 use Rattle.unit_imports.specs.declared.entries.Libraries as code
 use Rattle.unit_imports.specs.declared.entries.SetGives.{SetGives}
 use Rattle.unit_imports.specs.declared.entries.SetGives.TheVariants as gives
-use Rattle.document_units.specs.declared.findings.At.{At}
-use Rattle.document_units.specs.declared.places.Places as code_places
-use Rattle.document_units.specs.Findings.{diagnostic, told_at}
-use Rattle.document_units.specs.Libraries.{library_of}
-use Rattle.document_units.specs.Places.{ArePlaces, bytes_at, number_at, spans_of}
-use Rattle.document_units.specs.Readings.{Read, span_seen}
+use Rattle.read_documents.specs.declared.findings.At.{At}
+use Rattle.read_documents.specs.declared.places.Places as code_places
+use Rattle.read_documents.specs.Findings.{diagnostic, told_at}
+use Rattle.read_documents.specs.Libraries.{library_of}
+use Rattle.read_documents.specs.Places.{ArePlaces, bytes_at, number_at, spans_of}
+use Rattle.read_documents.specs.Readings.{Read, span_seen}
 use Rattle.unit_imports.specs.Joining.{GatheredAs, GroupsStand}
 use Rattle.unit_imports.specs.SetsGiven.{AreEntriesIf, AreLibraries, ComesTo, ImportsAs, exports_at, set_exports, with_set}
-use Rattle.document_units.specs.UnitSources.{IsSpec}
+use Rattle.read_documents.specs.UnitSources.{IsSpec}
 use Rattle.scheme_model.specs.DiagnosticTexts.{worded}
 use Rattle.unit_imports.proofs.MeaningLaws.{entries_kept}
 use Rattle.unit_imports.proofs.SetErrors.{no_set_errors, number_is, set_error_next}

@@ -18,15 +18,15 @@ use Rattle.core_tree.specs.declared.units.UnitForm.{UnitForm}
 use Rattle.syntax_tree.specs.declared.trees.Work.{Work}
 use Rattle.core_tree.specs.declared.cores.Binder.{Binder}
 use Rattle.import_sets.specs.Given.{has_name}
-use Rattle.document_units.specs.declared.findings.At.{At}
-use Rattle.document_units.specs.declared.findings.Finding.{Finding}
+use Rattle.read_documents.specs.declared.findings.At.{At}
+use Rattle.read_documents.specs.declared.findings.Finding.{Finding}
 use Rattle.unit_imports.specs.Defined.{hidden_in, hidden_at, written_symbol}
-use Rattle.document_units.specs.Findings.{all_told, errors_in, Adds, at_of}
-use Rattle.document_units.specs.Places.{bytes_at}
+use Rattle.read_documents.specs.Findings.{all_told, errors_in, Adds, at_of}
+use Rattle.read_documents.specs.Places.{bytes_at}
 use Rattle.scheme_model.specs.DiagnosticTexts.{worded}
 use Rattle.unit_imports.proofs.BrokenForms.{broken_same}
 use Rattle.unit_imports.specs.Hiding.{has_fault, hidden_found, unless_broken}
-use Rattle.document_units.proofs.DiagnosedLaws.{told_both, errors_both, adds_more}
+use Rattle.read_documents.proofs.DiagnosedLaws.{told_both, errors_both, adds_more}
 
 -- ---- the definition, of the definitions of one unit
 

@@ -10,7 +10,7 @@ use Rattle.scheme_model.specs.Program.{ImportSpec, SetResult, Unknown, Faulty, G
 use Rattle.core_tree.specs.Units.{set_errors, set_forms}
 use Rattle.datum_reader.specs.Views.{data_of}
 use Rattle.datum_reader.specs.declared.datum.Datum as code
-use Rattle.document_units.specs.Places.{number_at}
+use Rattle.read_documents.specs.Places.{number_at}
 
 -- ---- forms of sets
 

@@ -7,10 +7,10 @@ use Rattle.std.proofs.lemmas.Option.{same_Some}
 use Rattle.scheme_model.specs.Program.{ExportFault, NotDefined, SameExport}
 use Rattle.core_tree.specs.Units.{export_errors}
 use Rattle.scheme_model.specs.Diagnostics.{Diagnostic, Bytes, at_bytes, clash_diagnostics}
-use Rattle.document_units.specs.declared.findings.At.{At}
-use Rattle.document_units.specs.declared.findings.Finding.{Finding}
-use Rattle.document_units.specs.Findings.{told, told_at, all_told, errors_in, error_by, is_error}
-use Rattle.document_units.proofs.DiagnosedLaws.{errors_both}
+use Rattle.read_documents.specs.declared.findings.At.{At}
+use Rattle.read_documents.specs.declared.findings.Finding.{Finding}
+use Rattle.read_documents.specs.Findings.{told, told_at, all_told, errors_in, error_by, is_error}
+use Rattle.read_documents.proofs.DiagnosedLaws.{errors_both}
 
 -- one more
 pub told_more : (fs new : List Finding) (f : Finding) (at : Option At) (code : ℕ) (text : List ℕ) → new ≡ fs ++ f ∷ [] → f.at ≡ at → f.code ≡ code → f.message ≡ text →

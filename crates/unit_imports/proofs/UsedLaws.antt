@@ -41,7 +41,7 @@ use Rattle.unit_sources.specs.declared.units.ExportSpec as code_export
 use Rattle.unit_imports.specs.declared.names.Identifiers as code
 use Rattle.unit_imports.specs.Defined.{FindsNames}
 use Rattle.unit_imports.specs.NamesUsed.{AddsName, AddsNames, own_use, inner_use, external_adds, external_use, external_uses, unless_fault}
-use Rattle.document_units.specs.UnitSources.{HaveOneIfSame}
+use Rattle.read_documents.specs.UnitSources.{HaveOneIfSame}
 use Rattle.unit_imports.proofs.MeaningLaws.{entry_kept, entries_kept, meaning_kept}
 use Rattle.unit_imports.specs.SetsGiven.{set_exports}
 use Rattle.unit_imports.proofs.GivenLaws.{drop_at}

@@ -7,7 +7,7 @@ use Rattle.core_tree.specs.Units.{IsBlank, imports_of, kind_as, ranges_from, tex
 use Rattle.core_tree.specs.declared.units.Unit as code
 use Rattle.unit_sources.specs.declared.units.UnitSource.{UnitSource}
 use Rattle.unit_imports.specs.declared.expanded.Expanded.{Expanded}
-use Rattle.document_units.specs.declared.listing.Head.{Head}
+use Rattle.read_documents.specs.declared.heads.Head.{Head}
 
 -- a unit has what it came to
 pub record Has (c : code.Unit) (e : Expanded) : Type 0 where

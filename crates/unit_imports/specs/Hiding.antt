@@ -4,9 +4,9 @@ use Rattle.std.specs.Option.{is_some}
 use Rattle.scheme_model.specs.declared.Occ.{Occ}
 use Rattle.scheme_model.specs.Diagnostics.{Bytes, or_start}
 use Rattle.core_tree.specs.declared.units.UnitForm.{UnitForm}
-use Rattle.document_units.specs.declared.findings.Finding.{Finding}
+use Rattle.read_documents.specs.declared.findings.Finding.{Finding}
 use Rattle.scheme_model.specs.DiagnosticTexts.{worded}
-use Rattle.document_units.specs.Findings.{at_of}
+use Rattle.read_documents.specs.Findings.{at_of}
 
 -- the finding of a definition that hides this name, where it hides one
 abbrev pub hidden_found : (Occ → Bytes) → (unit form : ℕ) → Option Occ → Option (List ℕ) → List Finding

@@ -22,7 +22,7 @@ use Rattle.unit_imports.specs.declared.expanded.Expanded.{Expanded}
 use Rattle.unit_imports.specs.declared.entries.Libraries as code
 use Rattle.unit_imports.specs.declared.entries.SetGives.{SetGives}
 use Rattle.unit_imports.specs.declared.entries.SetGives.TheVariants as gives
-use Rattle.document_units.specs.UnitSources.{IsSpec}
+use Rattle.read_documents.specs.UnitSources.{IsSpec}
 
 -- ---- libraries
 

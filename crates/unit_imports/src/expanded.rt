@@ -1,8 +1,8 @@
 //! What units come to.
 
 use core_tree::units::{NameUse, UnitForm};
-use document_units::findings::Finding;
 use ls_base::Items;
+use read_documents::findings::Finding;
 use scheme_model::Occ;
 use syntax_tree::units::Entry;
 

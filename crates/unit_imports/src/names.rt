@@ -22,7 +22,7 @@ ghost use Rattle.unit_sources.specs.Sources.{AreExports, IsExport};
 ghost use Rattle.unit_imports.specs.Defined.{FindsNames};
 ghost use Rattle.unit_imports.specs.EntriesMeant.{ExportsMean};
 ghost use Rattle.unit_imports.specs.SetsGiven.{AreLibraries};
-ghost use Rattle.document_units.specs.UnitSources.{IsSpec, HaveOneIfSame};
+ghost use Rattle.read_documents.specs.UnitSources.{IsSpec, HaveOneIfSame};
 ghost use Rattle.unit_imports.specs.NamesUsed.{AddsName, AddsNames, external_adds, external_use, external_uses, inner_use, own_use, unless_fault};
 
 use crate::entries::{Libraries, library_entries};

@@ -5,7 +5,7 @@ ghost use Rattle.scheme_model.specs.Requirements.{LibraryName};
 ghost use Rattle.scheme_model.specs.Program as program;
 ghost use Rattle.scheme_model.specs.Spelling.{second_places};
 ghost use Rattle.core_tree.specs.Names.{AllMatch};
-ghost use Rattle.document_units.specs.UnitSources.{IsSpec};
+ghost use Rattle.read_documents.specs.UnitSources.{IsSpec};
 
 use import_sets::second_places;
 use ls_base::{Items, Mem};

@@ -11,7 +11,7 @@ use Rattle.arrow_index.specs.declared.index.Index.{Index}
 use Rattle.program_answers.specs.AskedOf.{IsSource}
 use Rattle.workspace_state.specs.Expansions.{IsIndexFor}
 use Rattle.workspace_state.specs.ProgramOfTexts.{IsProgramOfTexts}
-use Rattle.document_units.specs.Readings.{Read, AreReadAs, documents_in, program_in}
+use Rattle.read_documents.specs.Readings.{Read, AreReadAs, documents_in, program_in}
 use Rattle.program_answers.proofs.TextLists.{some_row}
 
 -- documents are read somehow, so units stand for those of a program

@@ -9,7 +9,7 @@ use Rattle.ls_base.specs.declared.answers.Diagnostic as told
 use Rattle.document_store.specs.Texts.{Document, Texts}
 use Rattle.program_answers.specs.declared.publications.Published.{Published}
 use Rattle.program_answers.specs.Listings.{or_none}
-use Rattle.document_units.specs.Readings.{Read, AreReadAs}
+use Rattle.read_documents.specs.Readings.{Read, AreReadAs}
 use Rattle.workspace_state.specs.State.{AreListsFor}
 use Rattle.program_answers.specs.Updates.{entries_shown, list_at, listed_in, Lists, AreListsOfTexts, ArePublished, IsNewsOf, AreKeyed}
 use Rattle.program_answers.proofs.TextLists.{some_row, lists_rise, rows_from}

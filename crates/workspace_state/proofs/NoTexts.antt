@@ -11,9 +11,9 @@ use Rattle.core_tree.specs.Units.{ProgramStands, UnitsStand}
 use Rattle.core_tree.specs.declared.units.Program.{Program}
 use Rattle.core_tree.specs.declared.units.Unit.{Unit as CodeUnit}
 use Rattle.document_store.specs.Texts.{Document, Texts}
-use Rattle.document_units.specs.Readings.{Read, AreReadAs, documents_in, program_in}
-use Rattle.document_units.specs.Listed.{lists_of}
-use Rattle.workspace_state.specs.Parts.{parts_in}
+use Rattle.read_documents.specs.Readings.{Read, AreReadAs, documents_in, program_in}
+use Rattle.read_documents.specs.Listed.{lists_of}
+use Rattle.document_changes.specs.Parts.{parts_in}
 use Rattle.workspace_state.specs.ProgramOfTexts.{IsProgramOfTexts}
 use Rattle.workspace_state.specs.State.{AreListsFor, ArePartsOf}
 use Rattle.program_answers.proofs.TextLists.{some_row}

@@ -3,7 +3,7 @@ use Rattle.std.proofs.Common.{◌≡◌, ◌<◌, ℕ, zero, suc, List, [], ◌�
 use Rattle.std.specs.Prelude.{IfSome}
 use Rattle.std.proofs.lemmas.Option.{same_Some}
 use Rattle.document_store.specs.Texts.{Document}
-use Rattle.document_units.specs.Readings.{AreReadAs, Read, documents_from, documents_in}
+use Rattle.read_documents.specs.Readings.{AreReadAs, Read, documents_from, documents_in}
 
 reads_many : (ds : List (List ℕ × Document)) (rs : List Read) → AreReadAs ds rs → length rs ≡ length ds
 reads_many [] [] are = refl

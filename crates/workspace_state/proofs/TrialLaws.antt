@@ -9,7 +9,7 @@ use Rattle.syntax_tree.specs.declared.trees.Work.{Work}
 use Rattle.core_tree.specs.Units.{ProgramStands}
 use Rattle.core_tree.specs.declared.units.Program.{Program}
 use Rattle.document_store.specs.Texts.{Texts}
-use Rattle.document_units.specs.Readings.{documents_in, program_in}
+use Rattle.read_documents.specs.Readings.{documents_in, program_in}
 use Rattle.program_expansion.proofs.ProgramKept.{program_kept}
 use Rattle.workspace_state.specs.ProgramOfTexts.{IsProgramOfTexts}
 

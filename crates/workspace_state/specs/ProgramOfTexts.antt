@@ -4,8 +4,8 @@ use Rattle.std.specs.FinMap.{entries}
 use Rattle.syntax_tree.specs.declared.trees.Work.{Work}
 use Rattle.core_tree.specs.declared.units.Program.{Program}
 use Rattle.document_store.specs.Texts.{Texts}
-use Rattle.program_expansion.specs.ReadingOf.{HasProgram}
-use Rattle.document_units.specs.Readings.{Read, AreReadAs}
+use Rattle.unit_results.specs.ReadingOf.{HasProgram}
+use Rattle.read_documents.specs.Readings.{Read, AreReadAs}
 
 -- units stand for those of the program that the texts are, however these are read
 abbrev pub IsProgramOfTexts : Texts → Work → Program → Type 0

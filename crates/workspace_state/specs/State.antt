@@ -9,9 +9,9 @@ use Rattle.ls_base.specs.contracts.encoding.Encoding as encoding
 use Rattle.document_store.specs.Docs.{coded_texts}
 use Rattle.document_store.specs.Texts.{Texts}
 use Rattle.workspace_state.specs.Expansions.{Seen, seen_code}
-use Rattle.workspace_state.specs.Parts.{parts_in}
+use Rattle.document_changes.specs.Parts.{parts_in}
 use Rattle.workspace_state.specs.ProgramOfTexts.{IsProgramOfTexts}
-use Rattle.document_units.specs.Readings.{Read, AreReadAs, documents_in}
+use Rattle.read_documents.specs.Readings.{Read, AreReadAs, documents_in}
 use Rattle.program_answers.specs.Updates.{AreListsOf}
 
 pub record State : Type 0 where

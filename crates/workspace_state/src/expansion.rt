@@ -1,7 +1,7 @@
 //! The program of the open documents, with the trees that it is over, and the index of it once that was collected.
 ghost use Rattle.std.specs.Prelude.{◌≡◌, ◌+◌, [], List, IfOk, OnOk};
 ghost use Rattle.std.specs.FinMap.{entries};
-ghost use Rattle.document_units.specs.Readings.{Read, AreReadAs};
+ghost use Rattle.read_documents.specs.Readings.{Read, AreReadAs};
 ghost use Rattle.program_leaves.specs.Formed.{AreFormedIn};
 ghost use Rattle.core_tree.specs.Units.{IsProgramOf};
 ghost use Rattle.workspace_state.specs.Expansions.{IsIndexFor};
@@ -15,11 +15,12 @@ use arrow_index::index::Index;
 use core_tree::units::Program;
 use document_store::Store;
 use ls_base::{Items, Mem, Steps};
-use program_expansion::program::{Reading, read_program};
+use program_expansion::program::read_program;
 use std::alloc::Global;
 use std::marker::Model;
 use std::sync::ledger::Ledger;
 use syntax_tree::trees::Work;
+use unit_results::collecting::Reading;
 
 /// The units of all documents, with the trees and names that they are over, and their index, if it was collected. The forms of each
 /// unit stand for something of the definitions. Contracts don't see the index.

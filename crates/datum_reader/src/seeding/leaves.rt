@@ -76,7 +76,7 @@ fn name_node(symbols: &mut Symbols, name: &str, unit: u32, occ: Option<Occ>) -> 
 }
 
 /// Texts with one space between each two.
-fn joined(alloc: Global, texts: &[Text]) -> Mem<String>
+pub fn joined(alloc: Global, texts: &[Text]) -> Mem<String>
     ensures { IfOk result (λ text. string_bytes text ≡ join_with_byte 32 (map encode_utf8_all (map chars texts.now))) }
 {
     match texts {

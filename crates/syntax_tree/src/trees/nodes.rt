@@ -1,4 +1,8 @@
 //! Nodes, whose parts are trees by number.
+ghost use Rattle.std.specs.Prelude.{◌≡◌};
+ghost use Rattle.syntax_tree.specs.NodePlaces.{place_in, placed_at};
+ghost use Rattle.syntax_tree.specs.Kept.{shape_of};
+
 use crate::symbols::{IdNo, SymNo};
 use scheme_model::Occ;
 
@@ -37,4 +41,38 @@ pub enum Node {
         items: Vec<Tree>,
         occ: Option<Occ>,
     },
+}
+
+/// Where a node stands in a text, if it was read from one.
+pub(crate) fn place_in(node: &Node) -> Option<Occ>
+    ensures { result ≡ place_in (shape_of node.now) }
+{
+    match node {
+        Node::Atom { leaf: _, occ } => *occ,
+        Node::List {
+            items: _,
+            tail: _,
+            occ,
+        } => *occ,
+        Node::Vector { items: _, occ } => *occ,
+    }
+}
+
+/// The same node at another place.
+pub(crate) fn placed_at(place: Option<Occ>, node: Node) -> Node
+    ensures { shape_of result ≡ placed_at place (shape_of node) }
+{
+    match node {
+        Node::Atom { leaf, occ: _ } => Node::Atom { leaf, occ: place },
+        Node::List {
+            items,
+            tail,
+            occ: _,
+        } => Node::List {
+            items,
+            tail,
+            occ: place,
+        },
+        Node::Vector { items, occ: _ } => Node::Vector { items, occ: place },
+    }
 }

@@ -7,7 +7,9 @@ ghost use Rattle.scheme_model.specs.Ident.{Ident as Identifier};
 ghost use Rattle.ls_base.specs.Limits.{max_tree_nodes, max_tree_depth};
 ghost use Rattle.node_pool.specs.Pools.{HasRanks};
 ghost use Rattle.syntax_tree.specs.Names.{Names};
-ghost use Rattle.syntax_tree.specs.Nodes.{IsPut, back_to, shape_at};
+ghost use Rattle.std.specs.Option.{option_map};
+ghost use Rattle.syntax_tree.specs.Nodes.{Lived, IsPut, back_to, shape_at};
+ghost use Rattle.syntax_tree.specs.NodePlaces.{place_in, placed_at};
 ghost use Rattle.syntax_tree.specs.Regions.{IsOpenIn, count_at, with_outer, OutlivesNone, CanGoBack, MayName, MayNameParts, IsClosed, ArePartsFirst};
 ghost use Rattle.syntax_tree.specs.Standing.{Stands};
 ghost use Rattle.syntax_tree.specs.Kept.{shape_of, outers_at};
@@ -15,9 +17,10 @@ ghost use Rattle.syntax_tree.specs.Added.{FitsInto};
 
 use crate::trees::faults::PoolFault;
 use crate::trees::measures::{Kept, measure};
-use crate::trees::nodes::{Node, Tree};
+use crate::trees::nodes::{self, Leaf, Node, Tree};
 use ls_base::{Mem, Memory};
 use node_pool::{Mark, NodeId, Pool};
+use scheme_model::Occ;
 use std::alloc::Global;
 use std::marker::Model;
 
@@ -198,6 +201,53 @@ impl Trees {
             number: tree.number,
         });
         kept.depth
+    }
+
+    /// The numbers of the nodes that live are lower. It takes no memory.
+    pub fn end(&self) -> u32
+        ensures below { (n : ℕ) → IsSome (map.get self.now.nodes n) → n < result }
+        ensures few { result ≤ 2 ^ 31 }
+    {
+        self.pool.end()
+    }
+
+    /// Where the node of a number stands in a text, if a node lives there. It takes no memory.
+    pub fn place_at(&self, number: u32) -> Option<Option<Occ>>
+        ensures { result ≡ option_map place_in (shape_at self.now.nodes number) }
+    {
+        let id = NodeId { number };
+        if self.pool.lives(id) {
+            let kept = self.pool.get(id);
+            return Some(nodes::place_in(&kept.node));
+        }
+        None
+    }
+
+    /// Gives the node of a number another place. It takes no memory.
+    pub fn set_place(&mut self, number: u32, place: Option<Occ>)
+        requires { IsSome (map.get self.old.nodes number) }
+        ensures nodes { (l : Lived) → map.get self.old.nodes number ≡ Some l →
+            self.new.nodes ≡ map.insert self.old.nodes number (record l { node = placed_at place l.node }) }
+        ensures identity { self.new.identity ≡ self.old.identity }
+        ensures regions { self.new.regions ≡ self.old.regions }
+        ensures counts { self.new.counts ≡ self.old.counts }
+        ensures spare { self.new.spare ≡ self.old.spare }
+    {
+        let id = NodeId { number };
+        let hole = Node::Atom {
+            leaf: Leaf::Bool(false),
+            occ: None,
+        };
+        let Kept { node, size, depth } = self.pool.replace(
+            id,
+            Kept {
+                node: hole,
+                size: 1,
+                depth: 1,
+            },
+        );
+        let node = nodes::placed_at(place, node);
+        self.pool.replace(id, Kept { node, size, depth });
     }
 
     /// How many nodes live.

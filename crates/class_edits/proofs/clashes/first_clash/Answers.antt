@@ -1,7 +1,7 @@
 use Rattle.std.proofs.Common.{Some, sym, ap, ◌∙◌}
 use Rattle.std.specs.FinMap.{entries}
 use Rattle.std.specs.Option.{option_map}
-use Rattle.document_units.specs.Places.{bytes_at}
+use Rattle.read_documents.specs.Places.{bytes_at}
 use Rattle.program_answers.specs.ToldAnswers.{facts_in, place_told}
 use Rattle.class_edits.proofs.FirstLaws.{first_clashing, none_clashing}
 use Rattle.class_edits.proofs.clashes.first_clash.Goals as goal

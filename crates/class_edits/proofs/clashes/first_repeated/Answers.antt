@@ -1,8 +1,8 @@
 use Rattle.std.proofs.Common.{◌+◌, ◌<◌, Option, Some, length, IfSome, sym, ap, ◌∙◌, subst, arith, map, drop}
 use Rattle.std.specs.FinMap.{entries}
 use Rattle.std.specs.Option.{option_map}
-use Rattle.document_units.specs.Places.{bytes_at}
-use Rattle.document_units.specs.declared.findings.At.{At}
+use Rattle.read_documents.specs.Places.{bytes_at}
+use Rattle.read_documents.specs.declared.findings.At.{At}
 use Rattle.program_answers.specs.ToldAnswers.{facts_in}
 use Rattle.class_edits.specs.FirstBytes.{earlier, first_of, repeated}
 use Rattle.class_edits.proofs.FirstLaws.{none_left, step_again, step_over}

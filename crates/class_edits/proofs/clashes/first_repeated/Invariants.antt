@@ -1,8 +1,8 @@
 use Rattle.std.proofs.Common.{◌≡◌, ◌<◌, List, map, drop, length, None, IfSome}
 use Rattle.std.specs.FinMap.{entries}
 use Rattle.std.specs.Option.{option_map}
-use Rattle.document_units.specs.Places.{bytes_at}
-use Rattle.document_units.specs.Readings.{Read, AreReadAs}
+use Rattle.read_documents.specs.Places.{bytes_at}
+use Rattle.read_documents.specs.Readings.{Read, AreReadAs}
 use Rattle.program_answers.specs.ToldAnswers.{facts_in}
 use Rattle.class_edits.specs.FirstBytes.{first_of, repeated}
 use Rattle.class_edits.proofs.clashes.first_repeated.Given as goal

@@ -4,7 +4,7 @@ use Rattle.std.specs.FinMap.{entries}
 use Rattle.std.proofs.lemmas.List.{take_all}
 use Rattle.scheme_model.specs.declared.Occ.{Occ}
 use Rattle.document_store.specs.Texts.{Document}
-use Rattle.document_units.specs.Readings.{program_in}
+use Rattle.read_documents.specs.Readings.{program_in}
 use Rattle.program_answers.proofs.TextLaws as texts
 use Rattle.text_edits.specs.Edits.{Edit}
 use Rattle.text_edits.specs.Views.{occ_cmp}

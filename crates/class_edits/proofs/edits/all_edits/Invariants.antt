@@ -1,7 +1,7 @@
 use Rattle.std.proofs.Common.{◌≡◌, ◌++◌, List, drop, take}
 use Rattle.std.specs.BTreeMap.{get}
 use Rattle.std.specs.FinMap.{entries}
-use Rattle.document_units.specs.Readings.{Read, AreReadAs, program_in}
+use Rattle.read_documents.specs.Readings.{Read, AreReadAs, program_in}
 use Rattle.text_edits.specs.Views.{occ_cmp}
 use Rattle.class_edits.specs.DocumentEdits.{CanEditAll, seen}
 use Rattle.class_edits.specs.Named.{edits_by}

@@ -1,7 +1,7 @@
 use Rattle.std.proofs.Common.{◌∙◌}
 use Rattle.std.specs.BTreeMap.{get}
 use Rattle.std.specs.FinMap.{entries}
-use Rattle.document_units.specs.Readings.{program_in}
+use Rattle.read_documents.specs.Readings.{program_in}
 use Rattle.program_answers.specs.ToldAnswers.{facts_in}
 use Rattle.text_edits.specs.Members.{members_of, name_of}
 use Rattle.text_edits.specs.Views.{occ_cmp}

@@ -4,7 +4,7 @@ use Rattle.std.specs.FinMap.{entries}
 use Rattle.std.specs.Ordering.{nat_cmp}
 use Rattle.ls_base.specs.declared.places.Span.{Span}
 use Rattle.scheme_model.specs.declared.Occ.{Occ}
-use Rattle.document_units.specs.Readings.{IsReadAs, program_in, span_seen}
+use Rattle.read_documents.specs.Readings.{IsReadAs, program_in, span_seen}
 use Rattle.text_edits.specs.Members.{Identifier, identifiers_of, name_at}
 use Rattle.text_edits.specs.NewNames.{edits_of}
 use Rattle.text_edits.specs.Views.{CanEdit, occ_cmp}

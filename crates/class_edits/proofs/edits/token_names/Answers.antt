@@ -2,7 +2,7 @@ use Rattle.std.proofs.Common.{List, ap, ◌∙◌, arith}
 use Rattle.std.specs.BTreeMap.{get}
 use Rattle.std.specs.Ordering.{nat_cmp}
 use Rattle.std.proofs.lemmas.List.{take_all}
-use Rattle.document_units.specs.declared.listing.Head.{Head}
+use Rattle.read_documents.specs.declared.heads.Head.{Head}
 use Rattle.text_edits.specs.Members.{name_at}
 use Rattle.text_edits.specs.Views.{occ_cmp}
 use Rattle.class_edits.specs.Named.{identifiers_in}

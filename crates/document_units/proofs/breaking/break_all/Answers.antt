@@ -1,7 +1,7 @@
 use Rattle.std.proofs.Common.{ℕ, List, sym, ap, ◌∙◌, vec_len, arith}
 use Rattle.std.specs.BTreeMap.{get_by_text}
 use Rattle.scheme_model.specs.Program.{is_in}
-use Rattle.document_units.specs.declared.listing.WholeFault.TheVariants as fault
+use Rattle.read_documents.specs.declared.heads.WholeFault.TheVariants as fault
 use Rattle.document_units.proofs.BrokenLaws.{heads_on, breaks_stay}
 use Rattle.document_units.proofs.BrokenSteps.{standard_stay, imports_stay}
 use Rattle.document_units.proofs.JudgedLaws.{judged}

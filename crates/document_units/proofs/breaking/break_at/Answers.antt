@@ -2,8 +2,8 @@ use Rattle.std.proofs.Common.{ℕ, List, [], ◌∷◌, ◌++◌, length, take, 
 use Rattle.std.proofs.lemmas.List.{take_more}
 use Rattle.std.proofs.lemmas.Option.{slice_get_read}
 use Rattle.import_sets.proofs.ReachLaws.{in_at}
-use Rattle.document_units.specs.declared.listing.Head.{Head}
-use Rattle.document_units.specs.Broken.{Breaks}
+use Rattle.read_documents.specs.declared.heads.Head.{Head}
+use Rattle.read_documents.specs.Broken.{Breaks}
 use Rattle.document_units.proofs.BrokenLaws.{breaks_none, breaks_more}
 use Rattle.document_units.proofs.breaking.break_at.Goals as goal
 

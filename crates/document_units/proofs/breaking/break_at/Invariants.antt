@@ -1,5 +1,5 @@
 use Rattle.std.proofs.Common.{take}
-use Rattle.document_units.specs.Broken.{Breaks}
+use Rattle.read_documents.specs.Broken.{Breaks}
 use Rattle.document_units.proofs.breaking.break_at.Given as goal
 
 abbrev pub invariant-loop-place : goal.invariant-loop-place

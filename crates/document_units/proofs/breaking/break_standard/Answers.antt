@@ -1,8 +1,8 @@
 use Rattle.std.proofs.Common.{◌<◌, length, refl, sym, ap, ◌∙◌, Bool, arith}
 use Rattle.std.proofs.lemmas.Option.{slice_get_read, same_Some}
-use Rattle.document_units.specs.declared.listing.Head.{Head}
-use Rattle.document_units.specs.declared.listing.WholeFault.TheVariants as fault
-use Rattle.document_units.specs.Broken.{broken_if, has_standard}
+use Rattle.read_documents.specs.declared.heads.Head.{Head}
+use Rattle.read_documents.specs.declared.heads.WholeFault.TheVariants as fault
+use Rattle.read_documents.specs.Broken.{broken_if, has_standard}
 use Rattle.document_units.proofs.BrokenSteps.{standard_none, standard_more, standard_all}
 use Rattle.document_units.proofs.breaking.break_standard.Goals as goal
 

@@ -1,7 +1,7 @@
 use Rattle.std.specs.Prelude.{◌≡◌, ◌&&◌, nat_lt}
-use Rattle.document_units.specs.declared.listing.WholeFault.TheVariants as fault
-use Rattle.document_units.specs.Changed.{Changes}
-use Rattle.document_units.specs.Broken.{broken_if, has_standard}
+use Rattle.read_documents.specs.declared.heads.WholeFault.TheVariants as fault
+use Rattle.read_documents.specs.Changed.{Changes}
+use Rattle.read_documents.specs.Broken.{broken_if, has_standard}
 use Rattle.document_units.proofs.breaking.break_standard.Given as goal
 
 -- the libraries so far that have a standard name are broken

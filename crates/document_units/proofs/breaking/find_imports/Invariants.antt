@@ -1,6 +1,6 @@
 use Rattle.std.proofs.Common.{take}
 use Rattle.std.specs.BTreeMap.{get_by_text}
-use Rattle.document_units.specs.Broken.{FindsImports}
+use Rattle.read_documents.specs.Broken.{FindsImports}
 use Rattle.document_units.proofs.breaking.find_imports.Given as goal
 
 -- the imports of the units so far are found

@@ -1,7 +1,7 @@
 use Rattle.std.proofs.Common.{Vec, Global, ◌<◌, ◌+◌, length, take, refl, sym, ◌∙◌, subst, arith}
 use Rattle.std.proofs.lemmas.Option.{slice_get_read}
 use Rattle.unit_sources.specs.declared.units.UnitSource.{UnitSource}
-use Rattle.document_units.specs.Broken.{Forgets}
+use Rattle.read_documents.specs.Broken.{Forgets}
 use Rattle.document_units.proofs.BrokenSteps.{forgets_none, forgets_step, forgets_over, forgets_end}
 use Rattle.document_units.proofs.breaking.forget_imports.Goals as goal
 use Rattle.document_units.proofs.breaking.forget_imports.Goals.{then-is_some, else-is_some}

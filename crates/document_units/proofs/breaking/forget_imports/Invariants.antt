@@ -1,5 +1,5 @@
 use Rattle.std.proofs.Common.{take}
-use Rattle.document_units.specs.Broken.{Forgets}
+use Rattle.read_documents.specs.Broken.{Forgets}
 use Rattle.document_units.proofs.breaking.forget_imports.Given as goal
 
 -- the broken units so far have no import sets any more

@@ -6,8 +6,8 @@ use Rattle.base_library.specs.Texts.{SpellsStandard}
 use Rattle.unit_sources.specs.declared.units.UnitSource.{UnitSource}
 use Rattle.unit_sources.specs.Named.{place_named}
 use Rattle.unit_sources.specs.Sources.{AreUnits}
-use Rattle.document_units.specs.declared.listing.Head.{Head}
-use Rattle.document_units.specs.Broken.{AreListed, AreJudged, Forgets, SourcesStay}
+use Rattle.read_documents.specs.declared.heads.Head.{Head}
+use Rattle.read_documents.specs.Broken.{AreListed, AreJudged, Forgets, SourcesStay}
 use Rattle.document_units.proofs.BrokenLaws.{few_taken, taken_within, places_wider}
 use Rattle.document_units.proofs.BrokenSteps.{forgets_stay}
 use Rattle.document_units.proofs.Handed.{handed}

@@ -1,6 +1,6 @@
 use Rattle.std.proofs.Common.{List, ℕ, refl, sym, ap, ◌∙◌, arith}
 use Rattle.std.specs.BTreeMap.{get_by_text}
-use Rattle.document_units.specs.Libraries.{places_by}
+use Rattle.read_documents.specs.Libraries.{places_by}
 use Rattle.document_units.proofs.BrokenLaws.{place_step}
 use Rattle.document_units.proofs.breaking.places_named.Goals as goal
 

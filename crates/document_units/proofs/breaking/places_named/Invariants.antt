@@ -1,6 +1,6 @@
 use Rattle.std.proofs.Common.{◌≡◌, ◌++◌, drop}
 use Rattle.std.specs.BTreeMap.{get_by_text}
-use Rattle.document_units.specs.Libraries.{places_by}
+use Rattle.read_documents.specs.Libraries.{places_by}
 use Rattle.document_units.proofs.breaking.places_named.Given as goal
 
 -- the places so far and those that are left

@@ -1,8 +1,8 @@
 use Rattle.std.proofs.Common.{◌≡◌, map, take}
 use Rattle.datum_reader.specs.Views.{data_of}
 use Rattle.text_parts.specs.declared.parts.TextPart.{TextPart}
-use Rattle.document_units.specs.DataRead.{items_in}
-use Rattle.document_units.specs.declared.documents.Document.{Document}
+use Rattle.read_documents.specs.DataRead.{items_in}
+use Rattle.read_documents.specs.declared.documents.Document.{Document}
 use Rattle.document_units.proofs.included.texts_of.Given as goal
 
 abbrev pub invariant-loop-place : goal.invariant-loop-place

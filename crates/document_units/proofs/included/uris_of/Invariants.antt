@@ -1,5 +1,5 @@
 use Rattle.std.proofs.Common.{◌≡◌, map, take}
-use Rattle.document_units.specs.declared.documents.Document.{Document}
+use Rattle.read_documents.specs.declared.documents.Document.{Document}
 use Rattle.document_units.proofs.included.uris_of.Given as goal
 
 abbrev pub invariant-loop-document : goal.invariant-loop-document

@@ -2,8 +2,8 @@ use Rattle.std.proofs.Common.{◌≡◌, map, take}
 use Rattle.std.specs.Prelude.{not}
 use Rattle.std.specs.Option.{is_some}
 use Rattle.datum_reader.specs.Views.{data_of}
-use Rattle.document_units.specs.DataRead.{items_in}
-use Rattle.document_units.specs.declared.documents.Document.{Document}
+use Rattle.read_documents.specs.DataRead.{items_in}
+use Rattle.read_documents.specs.declared.documents.Document.{Document}
 use Rattle.document_units.proofs.included.views_of.Given as goal
 
 abbrev pub invariant-loop-document : goal.invariant-loop-document

@@ -6,7 +6,7 @@ use Rattle.scheme_model.specs.StandardLibraries.{StandardLibrary, standard_libra
 use Rattle.scheme_tokens.specs.LibraryNames.{library_text}
 use Rattle.base_library.specs.Texts.{name_text}
 use Rattle.datum_reader.specs.declared.datum.Datum.{Datum}
-use Rattle.document_units.specs.declared.documents.Document.{Document}
+use Rattle.read_documents.specs.declared.documents.Document.{Document}
 use Rattle.document_units.proofs.KnownSteps.{names_at, texts_of, documents_more, names_given}
 use Rattle.document_units.proofs.known.known.Goals as goal
 

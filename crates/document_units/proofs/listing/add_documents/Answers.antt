@@ -9,11 +9,11 @@ use Rattle.scheme_model.specs.IncludedUnits.{unless_circular, libraries_in, prog
 use Rattle.datum_reader.specs.declared.datum.Datum as code
 use Rattle.datum_reader.specs.Views.{data_of}
 use Rattle.text_parts.specs.declared.parts.TextPart.{TextPart}
-use Rattle.document_units.specs.DataRead.{DataWereRead, AreReadIn, items_in}
+use Rattle.read_documents.specs.DataRead.{DataWereRead, AreReadIn, items_in}
 use Rattle.document_units.specs.Listing.{CanRead, CanReadAll, IsAt}
 use Rattle.document_units.specs.Sound.{IsSound}
 use Rattle.document_units.specs.UnitsListed.{AreSoFar, AddsRead}
-use Rattle.document_units.specs.declared.documents.Document.{Document}
+use Rattle.read_documents.specs.declared.documents.Document.{Document}
 use Rattle.document_units.specs.declared.included.Reader.{Reader}
 use Rattle.document_units.proofs.SoundLaws.{sound_none, sound_in}
 use Rattle.document_units.proofs.ListedDocuments.{none_so_far, document_added}

@@ -7,7 +7,7 @@ use Rattle.scheme_model.specs.Includes.{naming, program_data}
 use Rattle.core_tree.specs.Units.{kind_as}
 use Rattle.datum_reader.specs.Views.{datum_of, data_of}
 use Rattle.unit_sources.specs.UnitsRead.{forms_of}
-use Rattle.document_units.specs.DataRead.{AllRead}
+use Rattle.read_documents.specs.DataRead.{AllRead}
 use Rattle.document_units.specs.Listing.{IsOneOf}
 use Rattle.document_units.specs.UnitsListed.{AddsRead}
 use Rattle.document_units.proofs.ListedUnits.{nothing_added}

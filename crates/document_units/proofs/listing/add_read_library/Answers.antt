@@ -9,8 +9,8 @@ use Rattle.unit_sources.specs.UnitsRead.{forms_of}
 use Rattle.unit_sources.specs.declared.units.UnitForm.{UnitForm}
 use Rattle.unit_sources.specs.declared.units.UnitSource.{UnitSource}
 use Rattle.datum_reader.specs.Views.{datum_of}
-use Rattle.document_units.specs.DataRead.{data_at}
-use Rattle.document_units.specs.WereRead.{WereRead}
+use Rattle.read_documents.specs.DataRead.{data_at}
+use Rattle.read_documents.specs.WereRead.{WereRead}
 use Rattle.document_units.specs.UnitsListed.{IsReadFor}
 use Rattle.document_units.proofs.KnownSteps.{library_named}
 use Rattle.document_units.proofs.ReadForms.{were_read}

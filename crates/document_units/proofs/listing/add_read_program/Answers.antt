@@ -9,7 +9,7 @@ use Rattle.core_tree.specs.Units.{kind_as}
 use Rattle.included_forms.proofs.ServeLaws.{serve}
 use Rattle.unit_sources.specs.UnitsRead.{forms_of}
 use Rattle.datum_reader.specs.Views.{data_of}
-use Rattle.document_units.specs.DataRead.{AllRead, data_at}
+use Rattle.read_documents.specs.DataRead.{AllRead, data_at}
 use Rattle.document_units.specs.Listing.{IsOneOf}
 use Rattle.document_units.specs.UnitsListed.{AddsRead, IsReadFor}
 use Rattle.document_units.proofs.ReadForms.{all_read, program_data_read, were_read}

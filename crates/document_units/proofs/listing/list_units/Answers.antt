@@ -8,10 +8,10 @@ use Rattle.text_parts.specs.declared.texts.TextRead.{TextRead}
 use Rattle.included_forms.specs.declared.tables.Text.{Text}
 use Rattle.datum_reader.specs.Views.{data_of}
 use Rattle.scheme_model.specs.Program.{units_of}
-use Rattle.document_units.specs.DataRead.{items_in}
+use Rattle.read_documents.specs.DataRead.{items_in}
 use Rattle.document_units.specs.Listing.{sources_of, AreAt, CanReadAll}
 use Rattle.document_units.specs.UnitsListed.{AreSoFar, AreUnitsListed}
-use Rattle.document_units.specs.declared.documents.Document.{Document}
+use Rattle.read_documents.specs.declared.documents.Document.{Document}
 use Rattle.document_units.proofs.ListedUnits.{all_listed}
 use Rattle.document_units.proofs.ViewedDocuments.{alike_length}
 use Rattle.document_units.proofs.ReaderLaws.{can_read_all, reads_opened, parts_opened, as_many_opened}

@@ -4,8 +4,8 @@ use Rattle.std.specs.FinMap.{entries}
 use Rattle.std.specs.List.{fold, zip}
 use Rattle.ls_base.specs.declared.encoding.Encoding.TheVariants.{Utf16}
 use Rattle.document_store.specs.Texts.{Texts}
-use Rattle.document_units.specs.Listed.{lists_of}
-use Rattle.document_units.specs.Readings.{AreReadAs}
+use Rattle.read_documents.specs.Listed.{lists_of}
+use Rattle.read_documents.specs.Readings.{AreReadAs}
 use Rattle.file_commands.specs.Checking.{Listed, bytes_in, opened, printed, with_file}
 use Rattle.file_commands.proofs.checking.check_files.Goals as goal
 

@@ -3,8 +3,8 @@ use Rattle.std.proofs.Common.{◌≡◌, ◌∙◌, BTreeMap, ℕ, List, length,
 use Rattle.std.specs.FinMap.{entries}
 use Rattle.ls_base.specs.declared.encoding.Encoding.TheVariants.{Utf16}
 use Rattle.document_store.specs.Texts.{Texts}
-use Rattle.document_units.specs.Listed.{AreFoundOf}
-use Rattle.document_units.specs.Readings.{AreReadAs}
+use Rattle.read_documents.specs.Listed.{AreFoundOf}
+use Rattle.read_documents.specs.Readings.{AreReadAs}
 use Rattle.program_answers.proofs.TextLaws.{as_many}
 use Rattle.program_answers.specs.Updates.{AreListsOf, entries_shown}
 use Rattle.file_commands.proofs.checking.listed.Goals as goal

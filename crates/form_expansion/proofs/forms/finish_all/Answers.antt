@@ -5,7 +5,7 @@ use Rattle.std.proofs.lemmas.Iterator.Adapters.{YieldsList-from_vec}
 use Rattle.std.proofs.lemmas.Iterator.Consumers.{YieldsList-from_enumerate, YieldsList-turn, YieldsList-end}
 use Rattle.core_tree.specs.declared.units.UnitForm.{UnitForm}
 use Rattle.form_expansion.proofs.BenchLaws.{grows_then, stays_itself, stays_on}
-use Rattle.form_expansion.proofs.Enumerated.{next_placed, all_placed}
+use Rattle.read_documents.proofs.Enumerated.{next_placed, all_placed}
 use Rattle.form_expansion.proofs.FormsHold.{held_bench, is_few}
 use Rattle.form_expansion.proofs.FormsFinish.{Finished}
 use Rattle.form_expansion.proofs.FormsFinished.{AreFinished, AllFrom, none_finished, can_finish_at, finished_at, all_finished_formed, none_from, next_from, all_from}

@@ -3,7 +3,7 @@ use Rattle.std.specs.FinMap.{entries}
 use Rattle.command_lines.specs.Counts.{count_lines}
 use Rattle.ls_base.specs.declared.encoding.Encoding.TheVariants.{Utf16}
 use Rattle.document_store.specs.Texts.{Texts}
-use Rattle.document_units.specs.Readings.{AreReadAs}
+use Rattle.read_documents.specs.Readings.{AreReadAs}
 use Rattle.program_answers.specs.Updates.{list_at}
 use Rattle.rename_planner.specs.ToldRenames.{rename_uses}
 use Rattle.workspace_state.specs.State.{State}

@@ -2,8 +2,8 @@
 use Rattle.std.proofs.Common.{◌≤◌, ◌+◌, ℕ, List, length, subst, ap, ◌∙◌, arith}
 use Rattle.std.specs.FinMap.{entries}
 use Rattle.document_store.specs.Texts.{Texts}
-use Rattle.document_units.specs.Readings.{AreDocuments}
-use Rattle.document_units.specs.declared.documents.Document.{Document}
+use Rattle.read_documents.specs.Readings.{AreDocuments}
+use Rattle.read_documents.specs.declared.documents.Document.{Document}
 use Rattle.ls_base.specs.declared.places.Range.{Range}
 use Rattle.program_answers.specs.ToldAnswers.{answer_of}
 use Rattle.scheme_model.specs.Session as model

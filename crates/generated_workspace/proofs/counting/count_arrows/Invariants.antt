@@ -1,8 +1,8 @@
 use Rattle.std.proofs.Common.{◌≡◌, List, length, take}
 use Rattle.std.specs.FinMap.{entries}
 use Rattle.std.specs.List.{sum_by}
-use Rattle.document_units.specs.Readings.{AreReadAs, Read}
-use Rattle.document_units.specs.declared.documents.Document.{Document}
+use Rattle.read_documents.specs.Readings.{AreReadAs, Read}
+use Rattle.read_documents.specs.declared.documents.Document.{Document}
 use Rattle.program_answers.specs.ToldAnswers.{answer_of}
 use Rattle.scheme_model.specs.Session as model
 use Rattle.generated_workspace.specs.Selfrun.{arrows_to, defined_at}

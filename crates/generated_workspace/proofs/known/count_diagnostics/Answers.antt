@@ -2,7 +2,7 @@
 use Rattle.std.proofs.Common.{◌+◌, ◌≤◌, ℕ, List, length, ap, ◌∙◌, arith}
 use Rattle.ls_base.specs.declared.answers.Diagnostic.{Diagnostic}
 use Rattle.ls_base.specs.declared.places.Range.{Range}
-use Rattle.document_units.specs.declared.documents.Document.{Document}
+use Rattle.read_documents.specs.declared.documents.Document.{Document}
 use Rattle.program_answers.specs.Updates.{list_at}
 use Rattle.generated_workspace.proofs.SumLaws.{sum_more, sum_whole}
 use Rattle.generated_workspace.proofs.known.count_diagnostics.Goals as goal

@@ -1,6 +1,6 @@
 use Rattle.std.proofs.Common.{◌≡◌, length, take}
 use Rattle.std.specs.List.{sum_by}
-use Rattle.document_units.specs.declared.documents.Document.{Document}
+use Rattle.read_documents.specs.declared.documents.Document.{Document}
 use Rattle.program_answers.specs.Updates.{list_at}
 use Rattle.generated_workspace.proofs.known.count_diagnostics.Given as goal
 

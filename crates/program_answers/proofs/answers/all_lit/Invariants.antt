@@ -3,7 +3,7 @@ use Rattle.std.specs.FinMap.{entries}
 use Rattle.scheme_model.specs.Answers.{is_in, kind_of}
 use Rattle.program_answers.specs.AskedOf.{IsSource}
 use Rattle.program_answers.specs.BytesKept.{AreLitInside, lit_seen}
-use Rattle.document_units.specs.Readings.{Read}
+use Rattle.read_documents.specs.Readings.{Read}
 use Rattle.program_answers.specs.ToldAnswers.{facts_in}
 use Rattle.program_answers.proofs.answers.all_lit.Given as goal
 

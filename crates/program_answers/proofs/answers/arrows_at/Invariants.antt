@@ -2,7 +2,7 @@ use Rattle.std.proofs.Common.{◌≡◌, List, take, map}
 use Rattle.std.specs.FinMap.{entries}
 use Rattle.program_answers.specs.AskedOf.{IsSource}
 use Rattle.program_answers.specs.BytesKept.{HaveTokens, drawn_seen}
-use Rattle.document_units.specs.Readings.{Read}
+use Rattle.read_documents.specs.Readings.{Read}
 use Rattle.program_answers.specs.ToldAnswers.{arrow_told, facts_in}
 use Rattle.program_answers.proofs.answers.arrows_at.Given as goal
 

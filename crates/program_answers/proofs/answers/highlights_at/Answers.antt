@@ -3,7 +3,7 @@ use Rattle.std.specs.FinMap.{entries}
 use Rattle.ls_base.specs.declared.answers.Highlight.{Highlight}
 use Rattle.scheme_model.specs.Diagnostics.{Bytes}
 use Rattle.program_answers.specs.BytesKept.{lit_seen}
-use Rattle.document_units.specs.Listed.{range_of}
+use Rattle.read_documents.specs.Listed.{range_of}
 use Rattle.program_answers.specs.ToldAnswers.{highlight_told, text_of}
 use Rattle.program_answers.specs.declared.bytes.Lit.{Lit}
 use Rattle.program_answers.proofs.ListedLaws.{item_in, twice_all, twice_more}

@@ -1,6 +1,6 @@
 use Rattle.std.proofs.Common.{sym, ◌∙◌}
 use Rattle.std.specs.FinMap.{entries}
-use Rattle.document_units.specs.Places.{bytes_at}
+use Rattle.read_documents.specs.Places.{bytes_at}
 use Rattle.program_answers.specs.ToldAnswers.{facts_in}
 use Rattle.program_answers.proofs.AskedLaws.{prepared_law, unprepared_law}
 use Rattle.program_answers.proofs.answers.prepared.Goals as goal

@@ -2,7 +2,7 @@ use Rattle.std.proofs.Common.{◌≡◌, List, map}
 use Rattle.std.specs.FinMap.{entries}
 use Rattle.std.specs.List.{All}
 use Rattle.program_answers.specs.AskedOf.{IsSource}
-use Rattle.document_units.specs.Readings.{Read}
+use Rattle.read_documents.specs.Readings.{Read}
 use Rattle.program_answers.specs.Classed.{bare_part}
 use Rattle.program_answers.specs.ToldAnswers.{facts_in, has_bars}
 use Rattle.program_answers.proofs.classes.with_bars.Given as goal

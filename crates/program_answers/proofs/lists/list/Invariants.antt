@@ -1,5 +1,5 @@
 use Rattle.std.proofs.Common.{◌≡◌, ◌++◌, map}
-use Rattle.document_units.specs.Listed.{found_told}
+use Rattle.read_documents.specs.Listed.{found_told}
 use Rattle.program_answers.proofs.lists.list.Given as goal
 
 -- the findings gone through are told

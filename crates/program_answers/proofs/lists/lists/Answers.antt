@@ -3,9 +3,9 @@ use Rattle.std.proofs.Common.{◌≡◌, ◌<◌, ◌≤◌, ◌∙◌, ℕ, Lis
 use Rattle.std.proofs.lemmas.Option.{slice_get_read}
 use Rattle.std.specs.FinMap.{entries}
 use Rattle.document_store.specs.Texts.{Texts, text_at}
-use Rattle.document_units.specs.Listed.{lists_told}
+use Rattle.read_documents.specs.Listed.{lists_told}
 use Rattle.program_answers.specs.Updates.{entries_shown}
-use Rattle.document_units.proofs.Nths.{take_all}
+use Rattle.read_documents.proofs.Nths.{take_all}
 use Rattle.program_answers.proofs.TextLaws.{as_many, lines_in}
 use Rattle.program_answers.proofs.ListLaws.{one_listed, lists_are}
 use Rattle.program_answers.proofs.lists.lists.Goals as goal

@@ -1,6 +1,6 @@
 use Rattle.std.proofs.Common.{◌≡◌, take}
 use Rattle.std.specs.FinMap.{entries}
-use Rattle.document_units.specs.Listed.{lists_told}
+use Rattle.read_documents.specs.Listed.{lists_told}
 use Rattle.program_answers.specs.Updates.{entries_shown}
 use Rattle.program_answers.proofs.lists.lists.Given as goal
 

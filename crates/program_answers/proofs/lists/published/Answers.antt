@@ -5,10 +5,10 @@ use Rattle.std.proofs.lemmas.Int.{to_z-of_z}
 use Rattle.std.proofs.lemmas.List.{take_more}
 use Rattle.ls_base.specs.declared.answers.Diagnostic.{Diagnostic}
 use Rattle.std.specs.BTreeMap.{BTreeMap, IsOrdered, get_by_text}
-use Rattle.document_units.specs.declared.documents.Document.{Document}
+use Rattle.read_documents.specs.declared.documents.Document.{Document}
 use Rattle.program_answers.specs.declared.publications.Published.{Published}
 use Rattle.program_answers.specs.Updates.{list_at}
-use Rattle.document_units.proofs.Nths.{take_all}
+use Rattle.read_documents.proofs.Nths.{take_all}
 use Rattle.program_answers.proofs.PublishLaws.{SoFar, so_far_one, so_far_put, so_far_skip, version_among, version_push, versions_are, published_all}
 use Rattle.program_answers.proofs.lists.published.Goals as goal
 use Rattle.program_answers.proofs.lists.published.Goals.{then-is_news+in_ok-put-2, else-is_news}

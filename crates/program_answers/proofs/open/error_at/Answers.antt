@@ -1,7 +1,7 @@
 -- What stands in the list stands in a document.
 use Rattle.std.proofs.Common.{ap, sym}
-use Rattle.document_units.specs.Belongs.{error_in}
-use Rattle.document_units.proofs.Nths.{get_none, get_some}
+use Rattle.read_documents.specs.Belongs.{error_in}
+use Rattle.read_documents.proofs.Nths.{get_none, get_some}
 use Rattle.program_answers.proofs.TextLaws.{error_within}
 use Rattle.program_answers.proofs.open.error_at.Goals as goal
 

@@ -2,8 +2,8 @@ use Rattle.std.proofs.Common.{◌≡◌, List, drop}
 use Rattle.scheme_model.specs.Diagnostics.{bytes_of}
 use Rattle.scheme_model.specs.Program.{UnitResult}
 use Rattle.program_answers.specs.Named.{names_in_heads, stands}
-use Rattle.document_units.specs.Places.{ArePlaces, spans_of}
-use Rattle.document_units.specs.Readings.{Read}
+use Rattle.read_documents.specs.Places.{ArePlaces, spans_of}
+use Rattle.read_documents.specs.Readings.{Read}
 use Rattle.scheme_model.specs.Sites.{first_where}
 use Rattle.program_answers.proofs.sites.first_name.Given as goal
 

@@ -2,7 +2,7 @@
 use Rattle.std.proofs.Common.{ap, ◌∙◌}
 use Rattle.scheme_model.specs.declared.Occ.{Occ}
 use Rattle.scheme_model.specs.Diagnostics.{bytes_of}
-use Rattle.document_units.specs.Places.{spans_of}
+use Rattle.read_documents.specs.Places.{spans_of}
 use Rattle.scheme_model.specs.Sites.{begins_at, first_where, names_in_document, touches}
 use Rattle.program_answers.proofs.SiteLaws.{begun_first, heads_names, touched_then}
 use Rattle.program_answers.proofs.sites.name_at.Goals as goal

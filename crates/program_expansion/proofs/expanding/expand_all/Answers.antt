@@ -10,18 +10,18 @@ use Rattle.form_expansion.proofs.BenchLaws.{grows_behind}
 use Rattle.unit_imports.specs.declared.expanded.Expanded.{Expanded}
 use Rattle.scheme_model.specs.ScopedProgram.{scoped_before}
 use Rattle.program_expansion.specs.UnitResults.{HaveCome, IsUpTo}
-use Rattle.program_expansion.specs.Formed.{CameFormed}
+use Rattle.unit_results.specs.Formed.{CameFormed}
 use Rattle.unit_imports.specs.EntriesMeant.{ExportsMean}
 use Rattle.document_units.specs.Turned.{scoped_at}
-use Rattle.program_expansion.specs.UnitsExpanded.{AreAllFound}
+use Rattle.unit_results.specs.UnitsExpanded.{AreAllFound}
 use Rattle.program_expansion.specs.UsesInTurn.{uses_at}
-use Rattle.program_expansion.specs.UnitsFound.{HaveFound}
+use Rattle.unit_results.specs.UnitsFound.{HaveFound}
 use Rattle.document_units.proofs.BrokenLaws.{heads_itself, heads_on, names_itself, names_then}
-use Rattle.document_units.proofs.HeadsKept.{heads_kept}
-use Rattle.program_expansion.proofs.SoundKept.{sound_with}
+use Rattle.read_documents.proofs.HeadsKept.{heads_kept}
+use Rattle.unit_results.proofs.SoundKept.{sound_with}
 use Rattle.program_expansion.proofs.Turns.{in_at, later_hold}
 use Rattle.program_expansion.proofs.UpTo.{none_come}
-use Rattle.program_expansion.proofs.UnitsTurns.{none_found, none_mean, none_formed}
+use Rattle.unit_results.proofs.UnitsTurns.{none_found, none_mean, none_formed}
 use Rattle.program_expansion.proofs.expanding.expand_all.Goals as goal
 
 -- the places up to one, it, and those behind it

@@ -7,16 +7,16 @@ use Rattle.feature_requirements.specs.Judged.{Knows}
 use Rattle.unit_scopes.specs.Opened.{IsNew}
 use Rattle.unit_scopes.specs.Outcomes.{Grows}
 use Rattle.program_expansion.specs.UnitResults.{FindsLibraries, GoesOn, HeadsBy, IsUpTo}
-use Rattle.document_units.specs.UnitSources.{AreSourcesOf}
+use Rattle.read_documents.specs.UnitSources.{AreSourcesOf}
 use Rattle.document_units.specs.Turned.{scoped_at, turns}
-use Rattle.program_expansion.specs.Formed.{CameFormed}
+use Rattle.unit_results.specs.Formed.{CameFormed}
 use Rattle.form_expansion.specs.Forms.{IsBench}
 use Rattle.unit_imports.specs.EntriesMeant.{ExportsMean}
-use Rattle.document_units.specs.Places.{AreHeads, HeadsStay, NamesKept, HaveTokens}
-use Rattle.document_units.specs.Readings.{Read}
-use Rattle.program_expansion.specs.UnitsExpanded.{AreAllFound}
+use Rattle.read_documents.specs.Places.{AreHeads, HeadsStay, NamesKept, HaveTokens}
+use Rattle.read_documents.specs.Readings.{Read}
+use Rattle.unit_results.specs.UnitsExpanded.{AreAllFound}
 use Rattle.program_expansion.specs.UsesInTurn.{uses_at}
-use Rattle.program_expansion.specs.UnitsFound.{AreLostIn, AreResultsOf, HaveFound}
+use Rattle.unit_results.specs.UnitsFound.{AreLostIn, AreResultsOf, HaveFound}
 use Rattle.program_expansion.proofs.expanding.expand_all.Given as goal
 
 -- the units so far came to something, and those to come are still to be begun

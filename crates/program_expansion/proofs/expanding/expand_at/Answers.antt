@@ -5,24 +5,24 @@ use Rattle.std.specs.Option.{is_some as is_there}
 use Rattle.std.proofs.lemmas.Option.{slice_get_read, same_Some}
 use Rattle.scheme_model.specs.Program as model
 use Rattle.scheme_model.specs.Program.{prepared, unit_entries}
-use Rattle.document_units.specs.declared.listing.WholeFault.{WholeFault}
-use Rattle.document_units.specs.declared.listing.WholeFault.TheVariants as fault
+use Rattle.read_documents.specs.declared.heads.WholeFault.{WholeFault}
+use Rattle.read_documents.specs.declared.heads.WholeFault.TheVariants as fault
 use Rattle.unit_imports.specs.declared.entries.Libraries.{Libraries}
 use Rattle.unit_imports.specs.declared.expanded.Expanded.{Expanded}
-use Rattle.document_units.specs.declared.listing.Head.{Head}
-use Rattle.document_units.specs.Broken.{broken_if}
+use Rattle.read_documents.specs.declared.heads.Head.{Head}
+use Rattle.read_documents.specs.Broken.{broken_if}
 use Rattle.program_expansion.specs.UnitResults.{HaveCome}
-use Rattle.document_units.specs.UnitSources.{IsSourceOf}
+use Rattle.read_documents.specs.UnitSources.{IsSourceOf}
 use Rattle.unit_imports.specs.SetsGiven.{AreLibraries}
 use Rattle.document_units.specs.Turned.{scoped_at}
-use Rattle.program_expansion.specs.UnitsFound.{AreSetsFound}
+use Rattle.unit_results.specs.UnitsFound.{AreSetsFound}
 use Rattle.program_leaves.specs.Formed.{IsFormed}
 use Rattle.unit_imports.specs.EntriesMeant.{ExportsMean, HaveMeaning}
-use Rattle.document_units.specs.Places.{SameHead, AreHeads, AreHeadsIn, AreFoundIn, ArePlaces}
+use Rattle.read_documents.specs.Places.{SameHead, AreHeads, AreHeadsIn, AreFoundIn, ArePlaces}
 use Rattle.unit_scopes.proofs.ImportLaws.{same_trees}
 use Rattle.unit_scopes.proofs.OutcomeLaws.{grows_itself, grows_on, trees_on}
 use Rattle.form_expansion.proofs.BenchLaws.{bench_in, grows_named}
-use Rattle.program_expansion.proofs.CameKept.{have_kept, libraries_kept}
+use Rattle.unit_results.proofs.CameKept.{have_kept, libraries_kept}
 use Rattle.program_expansion.proofs.TurnCited.{turn_of}
 use Rattle.program_expansion.proofs.UnitCame.{goes_in}
 use Rattle.program_expansion.proofs.UpTo.{done_at}
@@ -30,8 +30,8 @@ use Rattle.program_expansion.proofs.UpToNext.{libraries_of, broken_next, broken_
 use Rattle.document_units.proofs.BrokenLaws.{heads_itself, head_set, head_broken, names_broken, names_itself}
 use Rattle.program_expansion.proofs.FoundNext.{broken_found, expanded_found}
 use Rattle.unit_imports.proofs.MeaningLaws.{names_on}
-use Rattle.program_expansion.proofs.SoundKept.{source_read, some_document}
-use Rattle.program_expansion.proofs.UnitsTurns.{of_some, all_mean, one_found, one_means, one_formed}
+use Rattle.unit_results.proofs.SoundKept.{source_read, some_document}
+use Rattle.unit_results.proofs.UnitsTurns.{of_some, all_mean, one_found, one_means, one_formed}
 use Rattle.program_expansion.proofs.expanding.expand_at.Goals as goal
 
 -- a head that may have broken stays otherwise

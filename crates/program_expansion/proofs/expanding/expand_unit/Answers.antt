@@ -24,18 +24,18 @@ use Rattle.program_leaves.specs.Formed.{IsFormed}
 use Rattle.program_expansion.specs.AtWork.{worked_forms}
 use Rattle.program_expansion.specs.UnitResults.{expanded_after, with_unit}
 use Rattle.form_expansion.specs.Forms.{AreFormed, Unfolds}
-use Rattle.program_expansion.specs.UnitsFound.{in_the_end}
-use Rattle.document_units.specs.UnitFindings.{IsFoundOf}
-use Rattle.document_units.specs.WereRead.{WereRead}
+use Rattle.unit_results.specs.UnitsFound.{in_the_end}
+use Rattle.read_documents.specs.UnitFindings.{IsFoundOf}
+use Rattle.read_documents.specs.WereRead.{WereRead}
 use Rattle.form_expansion.proofs.BenchLaws.{bench_in, grows_named, grows_twice}
 use Rattle.program_expansion.proofs.ImportedNames.{are_numbered}
-use Rattle.program_expansion.proofs.CameKept.{libraries_kept}
+use Rattle.unit_results.proofs.CameKept.{libraries_kept}
 use Rattle.unit_imports.proofs.MeaningLaws.{entries_kept, mean_kept, names_on}
 use Rattle.program_expansion.proofs.UnitCame.{goes_begun, none_expands, its_forms, some_expands, stands_at}
 use Rattle.program_expansion.proofs.UnitLaws.{imports_given, unit_begun}
 use Rattle.program_expansion.proofs.WorkedForms.{worked_is, worked_read}
 use Rattle.program_expansion.proofs.UnitNumbers.{own_numbers, searched_numbers, with_own}
-use Rattle.program_expansion.proofs.UnitsTurns.{all_mean, formed_on, of_some}
+use Rattle.unit_results.proofs.UnitsTurns.{all_mean, formed_on, of_some}
 use Rattle.program_expansion.proofs.expanding.expand_unit.Goals as goal
 
 pub begin_unit-requires-clause-numbered : goal.begin_unit-requires-clause-numbered

@@ -7,18 +7,18 @@ use Rattle.scheme_tokens.specs.LibraryNames.{library_text}
 use Rattle.syntax_tree.specs.declared.trees.Work.{Work}
 use Rattle.core_tree.specs.Units.{ProgramStands}
 use Rattle.base_library.proofs.StandardTexts as standard
-use Rattle.document_units.specs.Belongs.{AreErrorsIn}
-use Rattle.document_units.specs.UnitFindings.{HaveErrors}
-use Rattle.document_units.specs.DataRead.{AreOpened, AreReadIn}
-use Rattle.document_units.specs.Places.{AreHeadsIn, HaveTokens}
-use Rattle.document_units.specs.Readings.{AreDocuments, AreReadAs, Read, documents_in, program_in}
+use Rattle.read_documents.specs.Belongs.{AreErrorsIn}
+use Rattle.read_documents.specs.UnitFindings.{HaveErrors}
+use Rattle.read_documents.specs.DataRead.{AreOpened, AreReadIn}
+use Rattle.read_documents.specs.Places.{AreHeadsIn, HaveTokens}
+use Rattle.read_documents.specs.Readings.{AreDocuments, AreReadAs, Read, documents_in, program_in}
 use Rattle.document_units.specs.Sound.{IsSound}
-use Rattle.program_expansion.specs.UnitsExpanded.{AreAllFound}
-use Rattle.program_expansion.specs.UnitsFound.{AreTold}
-use Rattle.document_units.specs.declared.documents.Document.{Document}
+use Rattle.unit_results.specs.UnitsExpanded.{AreAllFound}
+use Rattle.unit_results.specs.UnitsFound.{AreTold}
+use Rattle.read_documents.specs.declared.documents.Document.{Document}
 use Rattle.program_expansion.proofs.CollectLaws.{program_stands}
-use Rattle.document_units.proofs.OpenedLaws.{documents_opened}
-use Rattle.document_units.proofs.HeadsKept.{heads_kept}
+use Rattle.read_documents.proofs.OpenedLaws.{documents_opened}
+use Rattle.read_documents.proofs.HeadsKept.{heads_kept}
 use Rattle.program_expansion.proofs.TokensAlike.{have_tokens, uris_are}
 use Rattle.macro_uses.proofs.ProgramUses.{program_counts}
 use Rattle.program_expansion.proofs.TurnUses.{uses_by_turns}

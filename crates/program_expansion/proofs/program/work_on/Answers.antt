@@ -16,21 +16,21 @@ use Rattle.unit_scopes.specs.Preluded.{prelude_state}
 use Rattle.unit_scopes.specs.declared.scope.UnitScope.{UnitScope}
 use Rattle.unit_scopes.proofs.PreludeLaws.{prelude_continues}
 use Rattle.program_expansion.specs.UnitResults.{FindsLibraries, GoesOn, HeadsBy}
-use Rattle.document_units.specs.UnitSources.{AreSourcesOf}
-use Rattle.document_units.specs.DataRead.{HaveData}
-use Rattle.document_units.specs.Libraries.{FindsBelow}
-use Rattle.document_units.specs.Places.{AreHeads}
-use Rattle.document_units.specs.Readings.{documents_in}
-use Rattle.program_expansion.specs.UnitsFound.{AreLostIn, AreTold}
+use Rattle.read_documents.specs.UnitSources.{AreSourcesOf}
+use Rattle.read_documents.specs.DataRead.{HaveData}
+use Rattle.read_documents.specs.Libraries.{FindsBelow}
+use Rattle.read_documents.specs.Places.{AreHeads}
+use Rattle.read_documents.specs.Readings.{documents_in}
+use Rattle.unit_results.specs.UnitsFound.{AreLostIn, AreTold}
 use Rattle.document_units.proofs.JudgedLaws.{unit_found}
 use Rattle.program_expansion.proofs.KnownLaws.{known_listed}
-use Rattle.document_units.specs.declared.documents.Document.{Document}
+use Rattle.read_documents.specs.declared.documents.Document.{Document}
 use Rattle.program_expansion.proofs.LostStand.{units_lost}
 use Rattle.program_expansion.proofs.ReadUnits.{judged_heads, forgotten_sources}
-use Rattle.program_expansion.proofs.SoundKept.{sound_kept, sound_with}
-use Rattle.document_units.proofs.HeadsKept.{heads_kept}
+use Rattle.unit_results.proofs.SoundKept.{sound_kept, sound_with}
+use Rattle.read_documents.proofs.HeadsKept.{heads_kept}
 use Rattle.program_expansion.proofs.HeadsStand.{heads_stand}
-use Rattle.document_units.proofs.OpenedLaws.{documents_opened}
+use Rattle.read_documents.proofs.OpenedLaws.{documents_opened}
 use Rattle.program_expansion.proofs.TokensAlike.{have_tokens}
 use Rattle.program_expansion.proofs.HeadsOf.{heads_of}
 use Rattle.program_expansion.proofs.ToldProgram.{results_are, told_program}

@@ -6,10 +6,10 @@ use Rattle.scheme_model.specs.Diagnostics.{bytes_of, or_start}
 use Rattle.unit_sources.specs.UnitsRead.{forms_of}
 use Rattle.core_tree.specs.declared.traces.FormFault.{FormFault}
 use Rattle.core_tree.specs.Traces.{IsFault}
-use Rattle.document_units.specs.Places.{spans_of}
-use Rattle.document_units.proofs.DiagnosedLaws.{fault_is_found}
-use Rattle.document_units.specs.declared.findings.Finding.{Finding}
-use Rattle.document_units.proofs.FoundLaws.{found_at}
+use Rattle.read_documents.specs.Places.{spans_of}
+use Rattle.read_documents.proofs.DiagnosedLaws.{fault_is_found}
+use Rattle.read_documents.specs.declared.findings.Finding.{Finding}
+use Rattle.read_documents.proofs.FoundLaws.{found_at}
 use Rattle.program_findings.proofs.diagnosing.add_fault.Goals as goal
 
 pub returns-clause-inside : goal.returns-clause-inside

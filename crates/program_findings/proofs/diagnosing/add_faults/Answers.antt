@@ -5,10 +5,10 @@ use Rattle.scheme_model.specs.Declarations.{forms_hold}
 use Rattle.scheme_model.specs.Diagnostics.{bytes_of}
 use Rattle.unit_sources.specs.UnitsRead.{forms_of}
 use Rattle.core_tree.specs.Traces.{IsFault}
-use Rattle.document_units.specs.Places.{spans_of}
-use Rattle.document_units.specs.Diagnosed.{fault_found}
+use Rattle.read_documents.specs.Places.{spans_of}
+use Rattle.read_documents.specs.Diagnosed.{fault_found}
 use Rattle.program_findings.proofs.StandInLaws.{fault_is_named}
-use Rattle.document_units.proofs.DiagnosedLaws.{come_more, come_all}
+use Rattle.read_documents.proofs.DiagnosedLaws.{come_more, come_all}
 use Rattle.program_findings.proofs.diagnosing.add_faults.Goals as goal
 
 pub add_fault-requires-clause-named : goal.add_fault-requires-clause-named

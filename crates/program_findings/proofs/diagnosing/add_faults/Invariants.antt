@@ -7,9 +7,9 @@ use Rattle.unit_sources.specs.UnitsRead.{forms_of}
 use Rattle.syntax_tree.specs.Names.{KeepsNames}
 use Rattle.syntax_tree.specs.declared.trees.Work.{Work}
 use Rattle.core_tree.specs.Units.{FormsStand}
-use Rattle.document_units.specs.Readings.{Read}
-use Rattle.document_units.specs.Places.{AreFoundIn, ArePlaces, spans_of}
-use Rattle.document_units.proofs.DiagnosedLaws.{ToCome}
+use Rattle.read_documents.specs.Readings.{Read}
+use Rattle.read_documents.specs.Places.{AreFoundIn, ArePlaces, spans_of}
+use Rattle.read_documents.proofs.DiagnosedLaws.{ToCome}
 use Rattle.program_findings.proofs.diagnosing.add_faults.Given as goal
 
 -- what is found so far stands in the documents, and the rest is of the forms to come

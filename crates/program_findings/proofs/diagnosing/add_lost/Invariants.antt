@@ -1,7 +1,7 @@
 use Rattle.std.proofs.Common.{◌≡◌, ◌<◌, ◌++◌, ℕ, List, length, map, take, slice_get, Some}
 use Rattle.scheme_model.specs.Included.{LostString}
 use Rattle.unit_sources.specs.UnitsRead.{lost_as}
-use Rattle.document_units.specs.Places.{AreFoundIn}
+use Rattle.read_documents.specs.Places.{AreFoundIn}
 use Rattle.program_findings.specs.LostFound.{lost_found}
 use Rattle.program_findings.proofs.diagnosing.add_lost.Given as goal
 

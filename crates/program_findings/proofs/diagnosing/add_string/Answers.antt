@@ -3,9 +3,9 @@ use Rattle.std.proofs.Common.{◌≡◌, ◌<◌, ◌≤◌, ◌++◌, ◌∷◌
 use Rattle.std.proofs.lemmas.Bool.Decides.{nat_tests}
 use Rattle.scheme_model.specs.DiagnosticTexts.{worded}
 use Rattle.unit_sources.specs.declared.units.LostString as code
-use Rattle.document_units.specs.declared.findings.At.{At}
-use Rattle.document_units.specs.declared.findings.Finding.{Finding}
-use Rattle.document_units.proofs.FoundLaws.{found_at}
+use Rattle.read_documents.specs.declared.findings.At.{At}
+use Rattle.read_documents.specs.declared.findings.Finding.{Finding}
+use Rattle.read_documents.proofs.FoundLaws.{found_at}
 use Rattle.program_findings.proofs.LostLaws.{string_found}
 use Rattle.program_findings.proofs.diagnosing.add_string.Goals as goal
 

@@ -1,9 +1,9 @@
 -- The finding stands where the use does, and is the definition's.
 use Rattle.std.proofs.Common.{◌≡◌, ◌++◌, ◌∷◌, [], ◌∙◌, length, ap, sym}
 use Rattle.scheme_model.specs.Diagnostics.{bytes_of}
-use Rattle.document_units.specs.declared.findings.Finding.{Finding}
-use Rattle.document_units.specs.Places.{spans_of}
-use Rattle.document_units.proofs.FoundLaws.{found_at}
+use Rattle.read_documents.specs.declared.findings.Finding.{Finding}
+use Rattle.read_documents.specs.Places.{spans_of}
+use Rattle.read_documents.proofs.FoundLaws.{found_at}
 use Rattle.program_findings.proofs.UnboundFound.{is_free, not_free}
 use Rattle.program_findings.proofs.diagnosing.add_target.Goals as goal
 

@@ -7,7 +7,7 @@ use Rattle.scheme_model.specs.Live.{unit_leaves}
 use Rattle.scheme_model.specs.Diagnostics.{bytes_of}
 use Rattle.core_tree.specs.Names.{AllMatch}
 use Rattle.core_tree.specs.declared.cores.Target.{Target}
-use Rattle.document_units.specs.Places.{spans_of}
+use Rattle.read_documents.specs.Places.{spans_of}
 use Rattle.program_findings.specs.Unbound.{IsUnbound, unbound_in}
 use Rattle.program_findings.proofs.StandInLaws.{free_is_named}
 use Rattle.program_findings.proofs.UnboundFound.{unbound_none, unbound_more, unbound_adds}

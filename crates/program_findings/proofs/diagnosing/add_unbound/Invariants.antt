@@ -4,8 +4,8 @@ use Rattle.scheme_model.specs.Cores.{Target}
 use Rattle.scheme_model.specs.Diagnostics.{bytes_of}
 use Rattle.syntax_tree.specs.Names.{Names, KeepsNames}
 use Rattle.core_tree.specs.Names.{AllMatch}
-use Rattle.document_units.specs.Readings.{Read}
-use Rattle.document_units.specs.Places.{AreFoundIn, ArePlaces, spans_of}
+use Rattle.read_documents.specs.Readings.{Read}
+use Rattle.read_documents.specs.Places.{AreFoundIn, ArePlaces, spans_of}
 use Rattle.program_findings.specs.Unbound.{IsUnbound}
 use Rattle.program_findings.proofs.UnboundFound.{all_unbound}
 use Rattle.program_findings.proofs.diagnosing.add_unbound.Given as goal

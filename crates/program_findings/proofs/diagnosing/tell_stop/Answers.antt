@@ -1,10 +1,10 @@
 -- What is kept is the one finding.
 use Rattle.std.proofs.Common.{◌≡◌, ℕ, List, ◌∷◌, [], Option, ap, sym, ◌∙◌, subst}
 use Rattle.std.specs.BTreeMap.{insert_entry}
-use Rattle.document_units.specs.Diagnosed.{TellsStop}
+use Rattle.read_documents.specs.Diagnosed.{TellsStop}
 use Rattle.scheme_model.specs.DiagnosticTexts.{worded}
-use Rattle.document_units.specs.declared.documents.Unread.{Unread}
-use Rattle.document_units.proofs.KeptLaws.{left_cmp}
+use Rattle.read_documents.specs.declared.documents.Unread.{Unread}
+use Rattle.read_documents.proofs.KeptLaws.{left_cmp}
 use Rattle.program_findings.proofs.diagnosing.tell_stop.Goals as goal
 
 pub returns : goal.returns

@@ -1,5 +1,5 @@
 use Rattle.std.proofs.Common.{◌≡◌, length, vec_len}
-use Rattle.document_units.specs.Changed.{Changes}
+use Rattle.read_documents.specs.Changed.{Changes}
 use Rattle.program_findings.proofs.StopsLaws.{ToldTo}
 use Rattle.program_findings.proofs.diagnosing.tell_unread.Given as goal
 

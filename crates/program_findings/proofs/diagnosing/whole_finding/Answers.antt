@@ -1,9 +1,9 @@
 use Rattle.std.proofs.Common.{◌≡◌, ℕ, ◌∙◌, Some, [], ap}
 use Rattle.scheme_model.specs.Program.{result_at}
 use Rattle.scheme_model.specs.Diagnostics.{document_of}
-use Rattle.document_units.specs.declared.findings.Finding.{Finding}
+use Rattle.read_documents.specs.declared.findings.Finding.{Finding}
 use Rattle.scheme_model.specs.DiagnosticTexts.{worded}
-use Rattle.document_units.specs.Places.{spans_of, start_of}
+use Rattle.read_documents.specs.Places.{spans_of, start_of}
 use Rattle.program_findings.proofs.WholeLaws.{start_tells, whole_adds}
 use Rattle.program_findings.proofs.diagnosing.whole_finding.Goals as goal
 

@@ -1,6 +1,6 @@
 use Rattle.std.proofs.Common.{◌++◌, ◌∙◌}
-use Rattle.document_units.specs.Findings.{all_told}
-use Rattle.document_units.proofs.KeptLaws.{kept_more}
+use Rattle.read_documents.specs.Findings.{all_told}
+use Rattle.read_documents.proofs.KeptLaws.{kept_more}
 use Rattle.program_findings.proofs.sorted_findings.add.Goals as goal
 
 pub loop-finding-preserved : goal.loop-finding-preserved

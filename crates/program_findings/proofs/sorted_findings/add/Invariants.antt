@@ -1,6 +1,6 @@
 use Rattle.std.proofs.Common.{◌≡◌, ◌++◌, List, vec_len}
 use Rattle.scheme_model.specs.Diagnostics.{Diagnostic}
-use Rattle.document_units.specs.Findings.{AreKept, all_told}
+use Rattle.read_documents.specs.Findings.{AreKept, all_told}
 use Rattle.program_findings.proofs.sorted_findings.add.Given as goal
 
 -- the documents stay as many, and what was gone through is kept behind what was there

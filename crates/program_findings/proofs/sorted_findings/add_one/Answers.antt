@@ -1,8 +1,8 @@
 use Rattle.std.proofs.Common.{◌≡◌, ◌++◌, List, [], ◌∷◌, ap, sym, subst, slice_set, length, ◌<◌, arith, refl}
 use Rattle.std.proofs.lemmas.Option.{slice_get_read}
 use Rattle.scheme_model.specs.Diagnostics.{Diagnostic}
-use Rattle.document_units.specs.Findings.{AreKept, diagnostic, told, told_at}
-use Rattle.document_units.proofs.KeptLaws.{kept_one}
+use Rattle.read_documents.specs.Findings.{AreKept, diagnostic, told, told_at}
+use Rattle.read_documents.proofs.KeptLaws.{kept_one}
 use Rattle.program_findings.proofs.sorted_findings.add_one.Goals as goal
 
 pub returns-in_ok-insert-clause-kept : goal.returns-in_ok-insert-clause-kept

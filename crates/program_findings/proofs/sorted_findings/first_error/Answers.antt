@@ -2,7 +2,7 @@
 use Rattle.std.proofs.Common.{◌≡◌, ◌<◌, ◌+◌, ◌++◌, ◌∙◌, [], ◌∷◌, take, IfSome, subst, sym, ap, refl, length}
 use Rattle.std.proofs.lemmas.List.{take_more}
 use Rattle.std.proofs.lemmas.Option.{slice_get_read}
-use Rattle.document_units.specs.declared.findings.Finding.{Finding}
+use Rattle.read_documents.specs.declared.findings.Finding.{Finding}
 use Rattle.program_findings.proofs.FirstLaws.{turn_skips, turn_leaves, turn_takes}
 use Rattle.program_findings.proofs.sorted_findings.first_error.Goals as goal
 use Rattle.program_findings.proofs.sorted_findings.first_error.Goals.{in-Some+then-stands_first, in-Some+else-stands_first, in_default}

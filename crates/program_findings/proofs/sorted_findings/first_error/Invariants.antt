@@ -1,6 +1,6 @@
 use Rattle.std.proofs.Common.{◌<◌, ℕ, IfSome, take}
-use Rattle.document_units.specs.Findings.{IsFirst}
-use Rattle.document_units.specs.Places.{AreFoundIn}
+use Rattle.read_documents.specs.Findings.{IsFirst}
+use Rattle.read_documents.specs.Places.{AreFoundIn}
 use Rattle.program_findings.proofs.FirstLaws.{errors_to}
 use Rattle.program_findings.proofs.sorted_findings.first_error.Given as goal
 

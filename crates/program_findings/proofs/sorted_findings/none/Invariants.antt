@@ -1,5 +1,5 @@
 use Rattle.std.proofs.Common.{◌≡◌, [], vec_len}
-use Rattle.document_units.specs.Findings.{AreKept}
+use Rattle.read_documents.specs.Findings.{AreKept}
 use Rattle.program_findings.proofs.sorted_findings.none.Given as goal
 
 -- as many as turns, all empty

@@ -1,6 +1,6 @@
 use Rattle.std.proofs.Common.{◌≡◌, ◌∙◌, ap, sym, is_le}
-use Rattle.document_units.specs.Findings.{diagnostic, stands_first}
-use Rattle.document_units.proofs.SortedLaws.{steps, not_behind}
+use Rattle.read_documents.specs.Findings.{diagnostic, stands_first}
+use Rattle.read_documents.proofs.SortedLaws.{steps, not_behind}
 use Rattle.program_findings.proofs.sorted_findings.stands_first.Goals as goal
 
 pub returns : goal.returns

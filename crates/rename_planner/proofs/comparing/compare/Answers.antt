@@ -2,11 +2,11 @@ use Rattle.std.proofs.Common.{sym, subst, map}
 use Rattle.std.specs.FinMap.{entries}
 use Rattle.scheme_model.specs.Program.{units_of}
 use Rattle.scheme_tokens.specs.LibraryNames.{library_text}
-use Rattle.document_units.specs.Readings.{documents_in, program_in}
+use Rattle.read_documents.specs.Readings.{documents_in, program_in}
 use Rattle.rename_model.specs.Difference as difference
 use Rattle.program_differences.specs.Differences.{AreOne, plan_as}
 use Rattle.workspace_state.specs.ProgramOfTexts.{IsProgramOfTexts}
-use Rattle.workspace_state.specs.Edited.{edited_texts}
+use Rattle.document_changes.specs.Edited.{edited_texts}
 use Rattle.rename_laws.proofs.GivenLaws.{exports_are_given}
 use Rattle.rename_planner.specs.ToldRenames.{uris_of}
 use Rattle.rename_planner.proofs.CompareLaws.{comparable, differs, new_stands, same_program}

@@ -4,8 +4,8 @@ use Rattle.std.proofs.lemmas.List.{take_all}
 use Rattle.scheme_model.specs.Diagnostics.{Diagnostic}
 use Rattle.scheme_model.specs.Program.{result_at, units_of}
 use Rattle.scheme_tokens.specs.LibraryNames.{library_text}
-use Rattle.document_units.specs.Readings.{documents_in, program_in}
-use Rattle.document_units.specs.UnitFindings.{first_error_at}
+use Rattle.read_documents.specs.Readings.{documents_in, program_in}
+use Rattle.read_documents.specs.UnitFindings.{first_error_at}
 use Rattle.program_answers.specs.Placed.{IsErrorAt}
 use Rattle.rename_conditions.specs.Renames.{broken, first_of, unless}
 use Rattle.rename_planner.specs.Planning.{ComesTo, Holds, errors_in}

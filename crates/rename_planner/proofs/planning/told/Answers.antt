@@ -7,13 +7,13 @@ use Rattle.scheme_model.specs.Program.{units_of}
 use Rattle.scheme_model.specs.Spelling.{is_member}
 use Rattle.scheme_tokens.specs.LibraryNames.{library_text}
 use Rattle.document_store.specs.Texts.{Document}
-use Rattle.document_units.specs.Readings.{documents_in, program_in}
+use Rattle.read_documents.specs.Readings.{documents_in, program_in}
 use Rattle.program_answers.specs.ToldAnswers.{facts_in}
 use Rattle.text_edits.specs.Edits.{Edit}
 use Rattle.text_edits.specs.Views.{occ_cmp}
 use Rattle.class_edits.specs.DocumentEdits as code
 use Rattle.rename_laws.proofs.GivenLaws.{exports_are_given}
-use Rattle.workspace_state.specs.Edited.{edits_in}
+use Rattle.document_changes.specs.Edited.{edits_in}
 use Rattle.rename_planner.specs.ReadDocuments.{read_as}
 use Rattle.rename_planner.proofs.ChangeLaws.{changes_same}
 use Rattle.rename_planner.proofs.EditLaws.{edited_same, told_same}

@@ -3,7 +3,7 @@ use Rattle.std.specs.FinMap.{entries}
 use Rattle.program_answers.proofs.TextLists.{some_row}
 use Rattle.program_answers.specs.ToldAnswers.{name_there}
 use Rattle.rename_conditions.proofs.ReaderLaws.{reader_is_there}
-use Rattle.workspace_state.specs.Edited.{edited_texts}
+use Rattle.document_changes.specs.Edited.{edited_texts}
 use Rattle.rename_planner.specs.ReadDocuments.{read_as}
 use Rattle.rename_planner.specs.RenameOutcomes.{AnswersAs}
 use Rattle.rename_planner.specs.ToldRenames.{rename_at, rename_uses}

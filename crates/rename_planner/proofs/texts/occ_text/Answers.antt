@@ -3,8 +3,8 @@ use Rattle.std.specs.FinMap.{entries}
 use Rattle.std.specs.Fmt.{decimal}
 use Rattle.scheme_model.specs.Diagnostics.{bytes_of}
 use Rattle.rename_model.specs.Difference as model
-use Rattle.document_units.specs.Places.{spans_of}
-use Rattle.document_units.specs.Readings.{Read, AreReadAs, program_in}
+use Rattle.read_documents.specs.Places.{spans_of}
+use Rattle.read_documents.specs.Readings.{Read, AreReadAs, program_in}
 use Rattle.program_answers.specs.Placed.{form_bytes}
 use Rattle.program_differences.specs.Differences.{IsDifference, kind_number, side_as}
 use Rattle.program_differences.specs.declared.plan.Difference.{Difference as AnyDifference}

@@ -2,7 +2,7 @@
 use Rattle.std.proofs.Common.{◌≡◌, ◌≢◌, ◌∙◌, ap, rules, Some}
 use Rattle.document_store.specs.declared.faults.StoreFault.{StoreFault}
 use Rattle.document_store.specs.declared.faults.StoreFault.TheVariants as faults
-use Rattle.workspace_state.specs.Events.{event_of}
+use Rattle.document_changes.specs.Events.{event_of}
 use Rattle.session_core.proofs.CountedLaws.{event_counted}
 use Rattle.session_core.proofs.Evented.{Updates, accepts, refuses, refuses_alone}
 use Rattle.session_core.proofs.events.on_event.Goals as goal

@@ -2,9 +2,9 @@
 use Rattle.std.proofs.Common.{◌++◌, List, length, slice_get, ap, ◌∙◌}
 use Rattle.scheme_model.specs.Diagnostics.{bytes_of}
 use Rattle.unit_imports.specs.Defined.{hidden_at}
-use Rattle.document_units.specs.Places.{spans_of}
-use Rattle.document_units.specs.declared.findings.Finding.{Finding}
-use Rattle.document_units.proofs.FoundLaws.{found_at}
+use Rattle.read_documents.specs.Places.{spans_of}
+use Rattle.read_documents.specs.declared.findings.Finding.{Finding}
+use Rattle.read_documents.proofs.FoundLaws.{found_at}
 use Rattle.unit_imports.proofs.HidingLaws.{hides_one, hides_none}
 use Rattle.unit_imports.proofs.defined.add_hidden.Goals as goal
 

@@ -4,7 +4,7 @@ use Rattle.std.proofs.lemmas.List.{map_push}
 use Rattle.std.proofs.lemmas.Iterator.Adapters.{YieldsList-from_rev_slice}
 use Rattle.std.proofs.lemmas.Iterator.Consumers.{YieldsList-turn, YieldsList-end}
 use Rattle.scheme_model.specs.Diagnostics.{bytes_of}
-use Rattle.document_units.specs.Places.{spans_of}
+use Rattle.read_documents.specs.Places.{spans_of}
 use Rattle.unit_imports.proofs.DefinedLaws.{known_reversed}
 use Rattle.unit_imports.proofs.GivenLaws.{item_at}
 use Rattle.unit_imports.specs.Defined.{hidden_at}

@@ -1,8 +1,8 @@
 use Rattle.std.proofs.Common.{◌≡◌, ◌++◌, List, length, map}
 use Rattle.scheme_model.specs.Program.{UnitResult}
 use Rattle.scheme_model.specs.Diagnostics.{bytes_of}
-use Rattle.document_units.specs.Readings.{Read}
-use Rattle.document_units.specs.Places.{AreFoundIn, ArePlaces, spans_of}
+use Rattle.read_documents.specs.Readings.{Read}
+use Rattle.read_documents.specs.Places.{AreFoundIn, ArePlaces, spans_of}
 use Rattle.unit_imports.proofs.HidingLaws.{all_hidden}
 use Rattle.unit_imports.proofs.defined.add_hiding.Given as goal
 

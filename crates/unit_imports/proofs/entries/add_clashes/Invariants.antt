@@ -1,7 +1,7 @@
 use Rattle.std.proofs.Common.{◌≡◌, ℕ, ◌<◌, ◌++◌, List, map, reverse, vec_len}
 use Rattle.scheme_model.specs.Diagnostics.{clash_diagnostics}
-use Rattle.document_units.specs.Findings.{all_told, errors_in}
-use Rattle.document_units.specs.Places.{AreFoundIn}
+use Rattle.read_documents.specs.Findings.{all_told, errors_in}
+use Rattle.read_documents.specs.Places.{AreFoundIn}
 use Rattle.unit_imports.proofs.GivenLaws.{seen_at}
 use Rattle.unit_imports.proofs.entries.add_clashes.Given as goal
 

@@ -3,11 +3,11 @@ use Rattle.scheme_model.specs.Diagnostics.{bytes_of, bytes_or}
 use Rattle.scheme_model.specs.Entries as model
 use Rattle.core_tree.specs.Units.{import_code}
 use Rattle.import_sets.specs.declared.fault.ImportFault.{ImportFault}
-use Rattle.document_units.specs.Findings.{all_told, errors_in}
-use Rattle.document_units.specs.Places.{bytes_at, spans_of}
+use Rattle.read_documents.specs.Findings.{all_told, errors_in}
+use Rattle.read_documents.specs.Places.{bytes_at, spans_of}
 use Rattle.unit_imports.specs.SetsGiven.{IsSetFault}
-use Rattle.document_units.specs.declared.findings.At.{At}
-use Rattle.document_units.proofs.FoundLaws.{at_in}
+use Rattle.read_documents.specs.declared.findings.At.{At}
+use Rattle.read_documents.proofs.FoundLaws.{at_in}
 use Rattle.unit_imports.proofs.GivenLaws.{bad_set_told, clash_fault_told, missing_told, seen_at}
 use Rattle.unit_imports.proofs.entries.add_fault.Goals as goal
 

@@ -1,8 +1,8 @@
 use Rattle.std.proofs.Common.{sym, ap, ◌∙◌, subst}
-use Rattle.document_units.specs.declared.findings.Finding.{Finding}
-use Rattle.document_units.specs.Places.{AreFoundIn}
+use Rattle.read_documents.specs.declared.findings.Finding.{Finding}
+use Rattle.read_documents.specs.Places.{AreFoundIn}
 use Rattle.scheme_model.specs.DiagnosticTexts.{worded}
-use Rattle.document_units.proofs.FoundLaws.{found_more}
+use Rattle.read_documents.proofs.FoundLaws.{found_more}
 use Rattle.unit_imports.proofs.ToldLaws.{told_more, error_more}
 use Rattle.unit_imports.proofs.entries.add_found.Goals as goal
 

@@ -1,8 +1,8 @@
 use Rattle.std.proofs.Common.{[], ◌∷◌, ◌++◌, append-nil, ap, ◌∙◌, arith}
 use Rattle.scheme_model.specs.DiagnosticTexts.{worded}
-use Rattle.document_units.specs.declared.findings.At.{At}
-use Rattle.document_units.specs.Findings.{all_told, diagnostic, errors_in}
-use Rattle.document_units.proofs.FoundLaws.{at_in}
+use Rattle.read_documents.specs.declared.findings.At.{At}
+use Rattle.read_documents.specs.Findings.{all_told, diagnostic, errors_in}
+use Rattle.read_documents.proofs.FoundLaws.{at_in}
 use Rattle.unit_imports.proofs.GivenLaws.{unknown_told}
 use Rattle.unit_imports.proofs.entries.add_unknown.Goals as goal
 

@@ -1,7 +1,7 @@
 -- The form at the place, if there is one.
 use Rattle.std.proofs.Common.{sym}
-use Rattle.document_units.proofs.Nths.{get_some, get_none}
-use Rattle.document_units.proofs.PlaceLaws.{number_there, no_number}
+use Rattle.read_documents.proofs.Nths.{get_some, get_none}
+use Rattle.read_documents.proofs.PlaceLaws.{number_there, no_number}
 use Rattle.unit_imports.proofs.entries.form_in.Goals as goal
 
 pub returns-in-Some : goal.returns-in-Some

@@ -4,8 +4,8 @@ use Rattle.scheme_model.specs.Declarations.{UnitForm}
 use Rattle.scheme_model.specs.Diagnostics.{document_of, bytes_of}
 use Rattle.scheme_model.specs.Program.{import_all, specs_from}
 use Rattle.core_tree.specs.Units.{set_errors, set_forms}
-use Rattle.document_units.specs.Findings.{all_told, errors_in}
-use Rattle.document_units.specs.Places.{spans_of}
+use Rattle.read_documents.specs.Findings.{all_told, errors_in}
+use Rattle.read_documents.specs.Places.{spans_of}
 use Rattle.unit_imports.proofs.GivenLaws.{base_errors, base_stands, base_told, sets_errors, sets_stand, sets_told}
 use Rattle.unit_imports.proofs.entries.gathered.Goals as goal
 

@@ -5,9 +5,9 @@ use Rattle.core_tree.specs.Units.{set_errors, set_forms}
 use Rattle.syntax_tree.specs.Meant.{AreEntries}
 use Rattle.syntax_tree.specs.declared.units.Entry.{Entry}
 use Rattle.scheme_model.specs.Diagnostics.{document_of, bytes_of, set_diagnostics}
-use Rattle.document_units.specs.Findings.{all_told, errors_in}
-use Rattle.document_units.specs.Places.{spans_of}
-use Rattle.document_units.specs.declared.findings.Finding.{Finding}
+use Rattle.read_documents.specs.Findings.{all_told, errors_in}
+use Rattle.read_documents.specs.Places.{spans_of}
+use Rattle.read_documents.specs.declared.findings.Finding.{Finding}
 use Rattle.unit_imports.proofs.entries.given_to.Goals as goal
 
 pub returns-clause-exact : goal.returns-clause-exact

@@ -1,6 +1,6 @@
 use Rattle.std.proofs.Common.{sym, ap, ◌∙◌, arith}
 use Rattle.scheme_model.specs.Diagnostics.{bytes_of, bytes_or}
-use Rattle.document_units.specs.Places.{bytes_at, spans_of}
+use Rattle.read_documents.specs.Places.{bytes_at, spans_of}
 use Rattle.unit_imports.proofs.entries.place_or.Goals as goal
 
 pub returns-in-None-clause-exact : goal.returns-in-None-clause-exact

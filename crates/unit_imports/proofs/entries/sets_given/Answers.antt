@@ -8,11 +8,11 @@ use Rattle.unit_sources.specs.UnitsRead.{forms_of}
 use Rattle.unit_sources.specs.declared.units.UnitForm.{UnitForm}
 use Rattle.import_sets.specs.Given.{Gathered}
 use Rattle.unit_sources.specs.declared.units.ImportSpec as code
-use Rattle.document_units.specs.Findings.{all_told, errors_in}
-use Rattle.document_units.specs.Places.{number_at, spans_of}
+use Rattle.read_documents.specs.Findings.{all_told, errors_in}
+use Rattle.read_documents.specs.Places.{number_at, spans_of}
 use Rattle.unit_imports.specs.Joining.{AreApart, GroupsMean}
 use Rattle.unit_imports.specs.SetsGiven.{with_set}
-use Rattle.document_units.specs.UnitSources.{IsSpec}
+use Rattle.read_documents.specs.UnitSources.{IsSpec}
 use Rattle.unit_imports.proofs.GivenLaws.{item_at, libraries_kept, none_left, sets_told_begin, sets_done, sets_told_next}
 use Rattle.core_tree.proofs.Matched.{matched_at}
 use Rattle.unit_imports.proofs.MeaningLaws.{names_itself, names_on}

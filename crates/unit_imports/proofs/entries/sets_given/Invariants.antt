@@ -4,11 +4,11 @@ use Rattle.scheme_model.specs.IncludedUnits.{Placed}
 use Rattle.scheme_model.specs.Program.{UnitResult, ImportSpec}
 use Rattle.syntax_tree.specs.Names.{KeepsNames}
 use Rattle.core_tree.specs.Names.{AllMatch}
-use Rattle.document_units.specs.Findings.{all_told, errors_in}
+use Rattle.read_documents.specs.Findings.{all_told, errors_in}
 use Rattle.unit_imports.specs.Joining.{AreApart, GroupsMean}
-use Rattle.document_units.specs.Places.{AreFoundIn}
+use Rattle.read_documents.specs.Places.{AreFoundIn}
 use Rattle.unit_imports.specs.SetsGiven.{AreLibraries}
-use Rattle.document_units.specs.UnitSources.{IsSpec}
+use Rattle.read_documents.specs.UnitSources.{IsSpec}
 use Rattle.unit_imports.proofs.GivenLaws.{SetsTold}
 use Rattle.unit_imports.proofs.entries.sets_given.Given as goal
 

@@ -1,6 +1,6 @@
 use Rattle.std.proofs.Common.{List, ℕ, ◌++◌, map, ap, ◌∙◌}
 use Rattle.scheme_model.specs.Diagnostics.{clash_diagnostics}
-use Rattle.document_units.specs.Findings.{all_told, errors_in}
+use Rattle.read_documents.specs.Findings.{all_told, errors_in}
 use Rattle.unit_imports.proofs.GivenLaws.{seen_at}
 use Rattle.unit_imports.proofs.entries.with_entries.Goals as goal
 

@@ -5,9 +5,9 @@ use Rattle.scheme_model.specs.Program.{SetResult, Unknown, Faulty}
 use Rattle.core_tree.specs.Units.{set_errors}
 use Rattle.import_sets.specs.Sets.{TellsApart}
 use Rattle.unit_imports.specs.declared.entries.SetGives.{SetGives}
-use Rattle.document_units.specs.Findings.{all_told, errors_in}
+use Rattle.read_documents.specs.Findings.{all_told, errors_in}
 use Rattle.unit_imports.specs.Imports.{SetMeans}
-use Rattle.document_units.specs.Places.{spans_of}
+use Rattle.read_documents.specs.Places.{spans_of}
 use Rattle.unit_imports.specs.SetsGiven.{ComesTo, with_set}
 use Rattle.unit_imports.proofs.GivenLaws.{gives_told, faulty_told, groups_after, groups_on, told_after}
 use Rattle.unit_imports.proofs.ImportLaws.{groups_kept}

@@ -1,15 +1,15 @@
 use Rattle.std.proofs.Common.{◌≡◌, ℕ, List, Option, Some, None, slice_get, [], ◌∷◌, ◌++◌, length, sym, ap, ◌∙◌, subst}
 use Rattle.std.proofs.lemmas.Option.{same_Some}
-use Rattle.document_units.proofs.Nths.{get_some, get_none}
+use Rattle.read_documents.proofs.Nths.{get_some, get_none}
 use Rattle.scheme_model.specs.Program.{NotDefined, SameExport}
 use Rattle.scheme_model.specs.Diagnostics.{bytes_of, export_diagnostics, or_start}
 use Rattle.unit_sources.specs.Exports.{IsFault}
 use Rattle.unit_sources.specs.Sources.{IsExport}
 use Rattle.unit_sources.specs.declared.units.ExportSpec.{ExportSpec}
 use Rattle.core_tree.specs.Units.{export_errors}
-use Rattle.document_units.specs.Findings.{all_told, error_by, errors_in}
-use Rattle.document_units.specs.Places.{spans_of}
-use Rattle.document_units.proofs.FoundLaws.{at_in}
+use Rattle.read_documents.specs.Findings.{all_told, error_by, errors_in}
+use Rattle.read_documents.specs.Places.{spans_of}
+use Rattle.read_documents.proofs.FoundLaws.{at_in}
 use Rattle.unit_imports.proofs.ExportLaws.{spec_at, told_again, told_undefined}
 use Rattle.unit_imports.proofs.exported.add_fault.Goals as goal
 

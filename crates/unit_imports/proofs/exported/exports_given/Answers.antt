@@ -7,8 +7,8 @@ use Rattle.unit_sources.specs.Sources.{AreExports}
 use Rattle.unit_sources.specs.declared.exporting.ExportFault as code_fault
 use Rattle.unit_sources.specs.declared.units.ExportSpec as code_export
 use Rattle.core_tree.specs.Units.{export_errors}
-use Rattle.document_units.specs.Findings.{all_told, errors_in}
-use Rattle.document_units.specs.Places.{spans_of}
+use Rattle.read_documents.specs.Findings.{all_told, errors_in}
+use Rattle.read_documents.specs.Places.{spans_of}
 use Rattle.unit_imports.proofs.ExportLaws.{any_exports, as_many_faults, fault_at, faults_done, faults_next}
 use Rattle.unit_imports.proofs.GivenLaws.{drop_past, item_at}
 use Rattle.unit_imports.proofs.ToldLaws.{export_error_next}

@@ -4,9 +4,9 @@ use Rattle.scheme_model.specs.Diagnostics.{bytes_of, export_diagnostics}
 use Rattle.unit_sources.specs.Exports.{AreFaults}
 use Rattle.unit_sources.specs.Sources.{AreExports}
 use Rattle.core_tree.specs.Units.{export_errors}
-use Rattle.document_units.specs.Findings.{all_told, errors_in}
-use Rattle.document_units.specs.Places.{AreFoundIn, ArePlaces, spans_of}
-use Rattle.document_units.specs.Readings.{Read}
+use Rattle.read_documents.specs.Findings.{all_told, errors_in}
+use Rattle.read_documents.specs.Places.{AreFoundIn, ArePlaces, spans_of}
+use Rattle.read_documents.specs.Readings.{Read}
 use Rattle.unit_imports.proofs.exported.exports_given.Given as goal
 
 -- what is told so far, and the faults that are left

@@ -7,7 +7,7 @@ use Rattle.core_tree.specs.declared.units.NameUse.{NameUse}
 use Rattle.unit_sources.specs.Sources.{AreExports}
 use Rattle.unit_sources.specs.declared.units.ExportSpec.{ExportSpec}
 use Rattle.unit_sources.specs.declared.units.ImportSpec.{ImportSpec}
-use Rattle.document_units.specs.UnitSources.{IsSpec}
+use Rattle.read_documents.specs.UnitSources.{IsSpec}
 use Rattle.unit_imports.specs.declared.names.Identifiers.{Identifiers}
 use Rattle.unit_imports.proofs.UsedLaws.{adds_then, finds_kept, names_all}
 use Rattle.unit_imports.proofs.names.names_used.Goals as goal

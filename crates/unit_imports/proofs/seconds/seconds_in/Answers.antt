@@ -1,7 +1,7 @@
 use Rattle.std.proofs.Common.{List, ◌++◌, ◌∙◌, sym, ap, arith}
 use Rattle.std.proofs.lemmas.List.{take_all}
 use Rattle.scheme_model.specs.Program.{ImportSpec}
-use Rattle.document_units.specs.UnitSources.{IsSpec}
+use Rattle.read_documents.specs.UnitSources.{IsSpec}
 use Rattle.unit_imports.proofs.GivenLaws.{item_at, set_as}
 use Rattle.core_tree.proofs.Matched.{as_many, matched_at}
 use Rattle.unit_imports.proofs.SecondLaws.{all_seconds, seconds_more}

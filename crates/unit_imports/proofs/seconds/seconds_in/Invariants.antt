@@ -2,7 +2,7 @@ use Rattle.std.proofs.Common.{◌≡◌, ℕ, List, take}
 use Rattle.scheme_model.specs.Requirements.{LibraryName}
 use Rattle.scheme_model.specs.Program.{ImportSpec}
 use Rattle.core_tree.specs.Names.{AllMatch}
-use Rattle.document_units.specs.UnitSources.{IsSpec}
+use Rattle.read_documents.specs.UnitSources.{IsSpec}
 use Rattle.unit_imports.proofs.SecondLaws.{all_seconds}
 use Rattle.unit_imports.proofs.seconds.seconds_in.Given as goal
 

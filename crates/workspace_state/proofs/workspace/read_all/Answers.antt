@@ -1,10 +1,10 @@
 -- What is read belongs to the texts.
 use Rattle.std.proofs.Common.{List, sym, ◌∙◌, subst}
 use Rattle.std.specs.FinMap.{entries}
-use Rattle.document_units.specs.DataRead.{AreOpened}
-use Rattle.document_units.specs.Readings.{documents_in}
-use Rattle.document_units.specs.declared.documents.Document.{Document}
-use Rattle.document_units.proofs.OpenedLaws.{documents_opened}
+use Rattle.read_documents.specs.DataRead.{AreOpened}
+use Rattle.read_documents.specs.Readings.{documents_in}
+use Rattle.read_documents.specs.declared.documents.Document.{Document}
+use Rattle.read_documents.proofs.OpenedLaws.{documents_opened}
 use Rattle.program_answers.proofs.TextLaws.{as_many}
 use Rattle.workspace_state.proofs.workspace.read_all.Goals as goal
 

@@ -3,7 +3,7 @@ use Rattle.std.proofs.Common.{◌<◌, length, refl, ap, subst, arith}
 use Rattle.std.proofs.lemmas.Option.{slice_get_read}
 use Rattle.std.specs.FinMap.{entries}
 use Rattle.document_store.specs.Texts.{Texts}
-use Rattle.document_units.specs.Readings.{IsDocument}
+use Rattle.read_documents.specs.Readings.{IsDocument}
 use Rattle.program_answers.specs.ToldAnswers.{document_at}
 use Rattle.program_answers.proofs.OpenLaws.{document_is}
 use Rattle.program_answers.proofs.TextLaws.{as_many}

@@ -2,14 +2,14 @@
 use Rattle.std.proofs.Common.{◌≡◌, ◌∙◌, ◌<◌, ℕ, List, Option, Some, None, length, slice_get, refl, sym, ap, subst, arith}
 use Rattle.std.specs.FinMap.{entries}
 use Rattle.document_store.specs.Texts.{Texts}
-use Rattle.document_units.specs.declared.findings.At.{At}
-use Rattle.document_units.specs.Belongs.{AreErrorsIn, error_in}
+use Rattle.read_documents.specs.declared.findings.At.{At}
+use Rattle.read_documents.specs.Belongs.{AreErrorsIn, error_in}
 use Rattle.program_answers.specs.Placed.{IsErrorAt}
-use Rattle.document_units.specs.Readings.{AreReadAs, program_in}
-use Rattle.document_units.specs.UnitFindings.{first_error_at}
-use Rattle.document_units.specs.Places.{bytes_at}
+use Rattle.read_documents.specs.Readings.{AreReadAs, program_in}
+use Rattle.read_documents.specs.UnitFindings.{first_error_at}
+use Rattle.read_documents.specs.Places.{bytes_at}
 use Rattle.program_answers.proofs.TextLaws.{as_many}
-use Rattle.document_units.proofs.ToldUnits.{first_at}
+use Rattle.read_documents.proofs.ToldUnits.{first_at}
 use Rattle.program_answers.proofs.open.Open.first_error.Goals as goal
 
 pub place-requires : goal.place-requires

@@ -5,9 +5,9 @@ use Rattle.scheme_model.specs.Diagnostics.{Bytes}
 use Rattle.scheme_model.specs.Program.{result_at}
 use Rattle.document_store.specs.Texts.{Texts}
 use Rattle.program_answers.specs.Placed.{IsPlace}
-use Rattle.document_units.specs.Places.{bytes_at, form_or_start, spans_of}
-use Rattle.document_units.specs.Readings.{AreReadAs, program_in}
-use Rattle.document_units.proofs.HeadsKept.{as_many_heads}
+use Rattle.read_documents.specs.Places.{bytes_at, form_or_start, spans_of}
+use Rattle.read_documents.specs.Readings.{AreReadAs, program_in}
+use Rattle.read_documents.proofs.HeadsKept.{as_many_heads}
 use Rattle.program_answers.proofs.open.Open.form_place.Goals as goal
 
 pub returns-clause-inside : goal.returns-clause-inside

@@ -3,8 +3,8 @@ use Rattle.std.proofs.Common.{subst}
 use Rattle.std.specs.FinMap.{entries}
 use Rattle.scheme_model.specs.Diagnostics.{Bytes}
 use Rattle.program_answers.specs.Placed.{IsPlace}
-use Rattle.document_units.specs.Places.{bytes_at}
-use Rattle.document_units.specs.Readings.{program_in}
+use Rattle.read_documents.specs.Places.{bytes_at}
+use Rattle.read_documents.specs.Readings.{program_in}
 use Rattle.program_answers.proofs.open.Open.place_of.Goals as goal
 
 pub returns-clause-inside : goal.returns-clause-inside

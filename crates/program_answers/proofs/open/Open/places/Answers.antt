@@ -2,10 +2,10 @@
 use Rattle.std.proofs.Common.{◌≡◌, ◌<◌, length, slice_get, Some, sym, ap, ◌∙◌, subst, arith, List}
 use Rattle.std.specs.FinMap.{entries}
 use Rattle.document_store.specs.Texts.{Texts}
-use Rattle.document_units.specs.declared.documents.Document.{Document}
-use Rattle.document_units.specs.declared.listing.Head.{Head}
-use Rattle.document_units.specs.Places.{AreHeads, HaveTokens}
-use Rattle.document_units.specs.Readings.{AreReadAs, program_in}
+use Rattle.read_documents.specs.declared.documents.Document.{Document}
+use Rattle.read_documents.specs.declared.heads.Head.{Head}
+use Rattle.read_documents.specs.Places.{AreHeads, HaveTokens}
+use Rattle.read_documents.specs.Readings.{AreReadAs, program_in}
 use Rattle.program_answers.proofs.TextLaws.{as_many}
 use Rattle.program_answers.proofs.open.Open.places.Goals as goal
 

@@ -2,8 +2,8 @@
 use Rattle.std.proofs.Common.{List, sym, subst}
 use Rattle.std.specs.FinMap.{entries}
 use Rattle.document_store.specs.Texts.{Texts}
-use Rattle.document_units.specs.Readings.{AreDocuments}
-use Rattle.document_units.specs.declared.documents.Document.{Document}
+use Rattle.read_documents.specs.Readings.{AreDocuments}
+use Rattle.read_documents.specs.declared.documents.Document.{Document}
 use Rattle.program_answers.proofs.open.Open.unreadable.Goals as goal
 
 pub returns : goal.returns

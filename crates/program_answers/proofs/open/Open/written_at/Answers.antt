@@ -4,8 +4,8 @@ use Rattle.std.specs.FinMap.{entries}
 use Rattle.std.specs.List.{slice_range}
 use Rattle.std.specs.Str.{IsUtf8}
 use Rattle.program_answers.specs.Named.{CanCut}
-use Rattle.document_units.specs.Places.{bytes_at}
-use Rattle.document_units.specs.Readings.{program_in, span_seen}
+use Rattle.read_documents.specs.Places.{bytes_at}
+use Rattle.read_documents.specs.Readings.{program_in, span_seen}
 use Rattle.program_answers.proofs.TokenCuts.{occ_cut}
 use Rattle.program_answers.proofs.open.Open.written_at.Goals as goal
 

@@ -1,6 +1,6 @@
 use Rattle.std.proofs.Common.{subst}
 use Rattle.scheme_model.specs.Session.{State, evented}
-use Rattle.workspace_state.specs.Events.{event_of}
+use Rattle.document_changes.specs.Events.{event_of}
 use Rattle.session_core.specs.Agreement.{said_event}
 use Rattle.session_core.specs.Asked.{questions}
 use Rattle.session_core.specs.Counted.{AreCounted}

@@ -4,7 +4,7 @@ use Rattle.scheme_model.specs.Entries.{library_in}
 use Rattle.scheme_model.specs.ProgramArrows.{import_uses, uses_in_set}
 use Rattle.scheme_model.specs.Program.{ImportSpec}
 use Rattle.unit_imports.specs.NamesUsed.{AddsNames}
-use Rattle.document_units.specs.UnitSources.{IsSpec}
+use Rattle.read_documents.specs.UnitSources.{IsSpec}
 use Rattle.unit_imports.proofs.ImportLaws.{exports_kept}
 use Rattle.unit_imports.proofs.GivenLaws.{item_at, libraries_kept}
 use Rattle.core_tree.proofs.Matched.{as_many, matched_at}

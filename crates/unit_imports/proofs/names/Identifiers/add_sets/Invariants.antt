@@ -7,7 +7,7 @@ use Rattle.syntax_tree.specs.Names.{KeepsNames}
 use Rattle.core_tree.specs.Names.{AllMatch}
 use Rattle.unit_imports.specs.NamesUsed.{AddsNames}
 use Rattle.unit_imports.specs.SetsGiven.{AreLibraries}
-use Rattle.document_units.specs.UnitSources.{IsSpec}
+use Rattle.read_documents.specs.UnitSources.{IsSpec}
 use Rattle.unit_imports.proofs.names.Identifiers.add_sets.Given as goal
 
 abbrev pub invariant-loop-spec : goal.invariant-loop-spec

@@ -5,7 +5,7 @@ use Rattle.scheme_model.specs.Program.{units_of}
 use Rattle.scheme_tokens.specs.LibraryNames.{library_text}
 use Rattle.core_tree.specs.Units.{ProgramStands}
 use Rattle.core_tree.specs.declared.units.Program.{Program}
-use Rattle.document_units.specs.Readings.{AreReadAs, documents_in, program_in}
+use Rattle.read_documents.specs.Readings.{AreReadAs, documents_in, program_in}
 use Rattle.program_differences.proofs.ReachLaws.{have_imports}
 use Rattle.workspace_state.specs.State.{State}
 use Rattle.workspace_state.proofs.workspace.Workspace.in_reach.Goals as goal

@@ -3,7 +3,7 @@ use Rattle.std.proofs.Common.{sym, subst}
 use Rattle.std.specs.FinMap.{entries}
 use Rattle.program_answers.specs.AskedOf.{IsSource}
 use Rattle.workspace_state.specs.Indexed.{index_in}
-use Rattle.document_units.specs.Readings.{AreReadAs}
+use Rattle.read_documents.specs.Readings.{AreReadAs}
 use Rattle.workspace_state.specs.State.{State}
 use Rattle.workspace_state.proofs.IndexedLaws.{some_program, source_of}
 use Rattle.workspace_state.proofs.workspace.Workspace.indexed.Goals as goal

@@ -2,11 +2,11 @@
 use Rattle.std.proofs.Common.{◌≡◌, ◌<◌, ℕ, List, Bool, Option, Some, length, sym, ap, ◌∙◌, subst, arith}
 use Rattle.std.specs.Prelude.{IfSome}
 use Rattle.std.specs.FinMap.{entries}
-use Rattle.document_units.specs.Readings.{AreReadAs, documents_in}
+use Rattle.read_documents.specs.Readings.{AreReadAs, documents_in}
 use Rattle.program_answers.specs.ToldAnswers.{number_of}
-use Rattle.workspace_state.specs.Parts.{is_part_at, mark_at, parts_in}
+use Rattle.document_changes.specs.Parts.{is_part_at, mark_at, parts_in}
 use Rattle.workspace_state.specs.State.{State}
-use Rattle.workspace_state.proofs.PartMarks.{mark_told}
+use Rattle.document_changes.proofs.PartMarks.{mark_told}
 use Rattle.workspace_state.proofs.PlaceLaws.{documents_many, some_within}
 use Rattle.workspace_state.proofs.workspace.Workspace.is_part.Goals as goal
 

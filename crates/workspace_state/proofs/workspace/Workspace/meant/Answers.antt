@@ -5,7 +5,7 @@ use Rattle.std.specs.FinMap.{entries, keys}
 use Rattle.program_answers.specs.ToldAnswers.{number_of}
 use Rattle.program_answers.proofs.TextLaws.{as_many}
 use Rattle.program_expansion.proofs.TokensAlike.{uris_are}
-use Rattle.workspace_state.specs.Parts.{meant_by}
+use Rattle.document_changes.specs.Parts.{meant_by}
 use Rattle.workspace_state.specs.State.{State}
 use Rattle.workspace_state.proofs.workspace.Workspace.meant.Goals as goal
 

@@ -6,7 +6,7 @@ use Rattle.scheme_tokens.specs.LibraryNames.{library_text}
 use Rattle.syntax_tree.specs.declared.trees.Work.{Work}
 use Rattle.core_tree.specs.Units.{ProgramStands}
 use Rattle.core_tree.specs.declared.units.Program.{Program}
-use Rattle.document_units.specs.Readings.{documents_in, program_in}
+use Rattle.read_documents.specs.Readings.{documents_in, program_in}
 use Rattle.workspace_state.specs.State.{State}
 use Rattle.program_answers.proofs.TextLists.{some_row}
 use Rattle.workspace_state.proofs.workspace.Workspace.program.Goals as goal

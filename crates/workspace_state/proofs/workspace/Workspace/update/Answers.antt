@@ -4,15 +4,15 @@ use Rattle.std.specs.Option.{option_map}
 use Rattle.std.specs.FinMap.{entries}
 use Rattle.ls_base.specs.declared.encoding.Encoding.{Encoding}
 use Rattle.document_store.specs.Texts.{Texts, after}
-use Rattle.workspace_state.specs.Events.{event_of, fault_of, uri_of}
-use Rattle.document_units.specs.Listed.{AreFoundOf}
+use Rattle.document_changes.specs.Events.{event_of, fault_of, uri_of}
+use Rattle.read_documents.specs.Listed.{AreFoundOf}
 use Rattle.workspace_state.specs.ProgramOfTexts.{IsProgramOfTexts}
-use Rattle.document_units.specs.Readings.{AreReadAs}
+use Rattle.read_documents.specs.Readings.{AreReadAs}
 use Rattle.workspace_state.specs.State.{State, AreListsFor, ArePartsOf}
 use Rattle.program_answers.specs.Updates.{ArePublished, OthersStay, Publishes, entries_shown, list_at}
-use Rattle.workspace_state.proofs.LeavesLaws.{left_texts, not_left, is_left_so}
+use Rattle.document_changes.proofs.LeavesLaws.{left_texts, not_left, is_left_so}
 use Rattle.workspace_state.proofs.NewsTold.{are_keyed, are_news}
-use Rattle.workspace_state.proofs.OthersLaws.{others_stay}
+use Rattle.document_changes.proofs.OthersLaws.{others_stay}
 use Rattle.program_answers.proofs.TextLaws.{as_many}
 use Rattle.workspace_state.proofs.workspace.Workspace.update.Goals as goal
 

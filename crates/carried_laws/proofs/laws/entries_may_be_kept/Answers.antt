@@ -1,0 +1,11 @@
+use Rattle.std.specs.Prelude.{length}
+use Rattle.scheme_model.specs.Program.{known_in, units_of, prepare}
+use Rattle.kept_forms.proofs.WholePrograms.{whole_program}
+use Rattle.carried_laws.proofs.StayingPrograms.{stays_keeps}
+use Rattle.carried_laws.proofs.laws.entries_may_be_kept.Goals as goal
+
+pub returns : goal.returns
+returns c = record {
+  keeps = λ ds keep k. let all = units_of ds in let units = prepare all 0 all in stays_keeps all units (known_in ds) keep (length units) k;
+  program = λ ds keep k. let all = units_of ds in let units = prepare all 0 all in whole_program ds keep (stays_keeps all units (known_in ds) keep (length units) k);
+}

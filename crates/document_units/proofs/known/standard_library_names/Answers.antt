@@ -1,7 +1,0 @@
-use Rattle.std.proofs.Common.{refl}
-use Rattle.scheme_model.specs.StandardLibraries.{standard_libraries}
-use Rattle.document_units.proofs.known.standard_library_names.Goals as goal
-
-pub returns : goal.returns
-unfolding standard_libraries
-returns c = refl

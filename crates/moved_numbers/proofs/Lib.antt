@@ -1,0 +1,5 @@
+pub mod Fronts  -- Lists that are changed thing by thing
+pub mod TreeLaws  -- Trees under other numbers
+pub mod LeafLaws  -- Leaves of cores stand under other numbers for what they stood for
+pub mod CoreLaws  -- Cores stand under other numbers for what they stood for
+pub mod FormLaws  -- Forms of units stand under other numbers for what they stood for

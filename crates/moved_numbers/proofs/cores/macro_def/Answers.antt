@@ -1,0 +1,7 @@
+use Rattle.std.proofs.Common.{refl}
+use Rattle.moves.specs.Numbers.{numbers_of}
+use Rattle.moved_numbers.proofs.LeafLaws.{macro_on}
+use Rattle.moved_numbers.proofs.cores.macro_def.Goals as goal
+
+pub returns : goal.returns
+returns c = macro_on (numbers_of c.args.moves.now) (λ u n. refl) c.args.it.now (record { binder = c.binder-it.result; rules = c.args.it.now.rules; leaves = c.leaves.new.all }) c.binder-it.ensures refl c.leaves.ensures

@@ -1,0 +1,2 @@
+pub mod Leaves  -- What binders, targets and other leaves of cores become under other numbers
+pub mod Standing  -- That values stand under other numbers for what they stood for

@@ -1,0 +1,6 @@
+//! What forms expand to, and what is left of them, under other numbers, changed in place.
+#![tactic(auto)]
+
+pub mod cores;
+pub mod forms;
+pub mod leaves;

@@ -1,0 +1,2 @@
+pub mod Numbers  -- The renumbering that tables of new numbers tell
+pub mod Works  -- Works under other numbers
