@@ -133,24 +133,6 @@ pub stays_then : {V B : Type 0} (Q : List Frames → V → B → Type 0) (a b c 
 unfolding moves_here
 stays_then Q a b c region u w v ls s result p m h = ends_after Q a b c region u w v ls s result p (moves_here a b region u w ls s m) h
 
--- ---- an expression that was settled
-
-module _ (known : Known) (depth turns : ℕ) (old new : Work) (region : Region) (u w : UnitScope) (ls : List Frames) (fs : Frames) (p : Result Core Broken × Noting) where
-  pub settles_then : {V : Type 0} (Q : List Frames → V → Core → Type 0) (c : Work) (v : UnitScope) (x : number.Tree × Option Occ) (result : Result V ExpandFault) → Settles known depth turns old new region u w ls fs (Ok x) p →
-      ((t : Tree Identifier) (s : Noting) (left : ℕ) → Stands new w ls s → WorksOn new region x.0 t → IsEnoughBelow depth w.form.budget.uses left → IsSettled known s fs t →
-      Ends Q new c region w v ls result (expression (expand (noting known) left) (noting known) depth x.1 fs t s)) → Ends Q old c region u v ls result p
-  settles_then Q c v x result h next =
-      let settled = h.4 in
-      let less = enough_less depth w.form.budget.uses settled.turns_left settled.enough in
-      subst (λ (q : Result Core Broken × Noting). Ends Q old c region u v ls result q) (sym settled.same)
-      (stays_then Q old new c region u w v ls h.1 result (expression (expand (noting known) settled.turns_left) (noting known) depth x.1 fs h.0 h.1) h.2
-      (next h.0 h.1 settled.turns_left h.2.stands h.3 less settled.settled))
-
-  pub settles_fail : {V : Type 0} (Q : List Frames → V → Core → Type 0) (e : ExpandFault) → Settles known depth turns old new region u w ls fs (Err e) p → Ends Q old new region u w ls (Err e) p
-  settles_fail {V} Q (fault.At e) h = here_ends (λ (x : V) (y : Core). Q ls x y) old new region u w ls (Err (fault.At e)) p h
-  settles_fail Q fault.Full h = h
-  settles_fail Q fault.Memory h = h
-
 -- ---- an expression that was read
 
 module _ (known : Known) (depth : ℕ) (here : Option Occ) (work : Work) (region : Region) (u v : UnitScope) (ls : List Frames) (fs : Frames) (step : Expanding → Result Core Broken × Noting) (f : Expanding) where

@@ -12,9 +12,9 @@ use Rattle.scheme_model.specs.Measures.{tree_size}
 use Rattle.scheme_model.specs.Cores.{LocalNumber, Binder}
 use Rattle.scheme_model.specs.Steps.{Broken, Step, ◌>>=◌, done, fails}
 use Rattle.scheme_model.specs.Order.{Here, Form, Item, Note, Pending, Renamed, Pass, Going, told, caught, put, binder_at, define_all, define_names, fields_bound, RulesParts, rules_parts, rules_at, is_rules, head_of, given, max_nodes}
-use Rattle.scheme_model.specs.Substitution.{any, unchanged}
-use Rattle.scheme_model.specs.CountedExpansion.{counted, refused_here}
-use Rattle.scheme_model.specs.ScopedExpansion.{Frames, FramedIdent, body_around, definition_added, meaning_next, is_defined}
+use Rattle.scheme_model.specs.Substitution.{unchanged}
+use Rattle.scheme_model.specs.Questions.{Outcome, Stands as Defined, Redefines, StoodBefore}
+use Rattle.scheme_model.specs.ScopedExpansion.{Frames, FramedIdent, body_around}
 use Rattle.syntax_tree.specs.declared.trees.Work.{Work}
 use Rattle.syntax_tree.specs.declared.trees.table.Region.{Region}
 use Rattle.core_forms.specs.Parts as forms
@@ -22,7 +22,6 @@ use Rattle.core_tree.specs.Names.{AllMatch, IsBinder}
 use Rattle.core_tree.specs.declared.cores.Binder as code_binder
 use Rattle.unit_scopes.specs.Binds.{with_locals}
 use Rattle.unit_scopes.specs.Stepped.{bound_binders}
-use Rattle.unit_scopes.specs.Searched.{speaks_of}
 use Rattle.unit_scopes.specs.Kept.{FormFor, PendingFor, NotesFor, KeptFor, WaitsFor, left_with}
 use Rattle.unit_scopes.specs.Outcomes.{SameForm}
 use Rattle.unit_scopes.specs.Defining.{define_each}
@@ -36,10 +35,10 @@ use Rattle.form_parts.specs.declared.items.Pending as code_pending
 use Rattle.form_parts.specs.declared.items.Spot.{Spot}
 use Rattle.form_parts.specs.declared.items.WaitingUse as code_waiting
 use Rattle.unit_scopes.specs.declared.scope.UnitScope.{UnitScope}
-use Rattle.unit_scopes.proofs.BindersStand.{fields_are}
+use Rattle.noted_steps.proofs.BindersStand.{fields_are}
 use Rattle.unit_scopes.proofs.CountingStands.{all_last}
 use Rattle.unit_scopes.proofs.OutcomeLaws.{grows_itself, leaves_itself, same_itself, same_on}
-use Rattle.noted_steps.specs.Noting.{Noting, next_number, noting}
+use Rattle.noted_steps.specs.Noting.{Noting, next_number, outcome, ended, define_by, noting}
 use Rattle.noted_steps.specs.Stepped.{taken}
 use Rattle.noted_steps.specs.Outcomes.{Stays}
 use Rattle.noted_steps.specs.Standing.{Stands}
@@ -106,20 +105,20 @@ one_first b bs = done (b ∷ bs)
 abbrev pair_first : Binder → List Binder × Renamed Identifier FramedIdent → Step Noting (List Binder × Renamed Identifier FramedIdent)
 pair_first b more = done (b ∷ more.0, more.1)
 
--- a definition gives what is left as it was
-abbrev outcome : {A : Type 0} → (refused second : Bool) → Named Identifier → A → Noting → Noting → Result A (Fault Identifier) × Noting
-outcome refused second n a t s = if refused then (Err (KeywordRedefined n), s) else if second then (Err (Duplicate n), s) else (Ok a, t)
-
 turned_about : (b : Binder) (p : Pending Identifier FramedIdent) (r : Result (List Binder) Broken × Noting) → ((r >>= with_made p) >>= pair_first b) ≡ ((r >>= one_first b) >>= with_made p)
 turned_about b p (Ok bs, s) = refl
 turned_about b p (Err e, s) = refl
 
-module _ (here : Here) (n : Named Identifier) (b : Binder) (p : Pending Identifier FramedIdent) (t s : Noting) (f : Renamed Identifier FramedIdent → Step Noting (List Binder × Renamed Identifier FramedIdent)) (g : Renamed Identifier FramedIdent → Step Noting (List Binder)) where
-  one_defined : (refused second : Bool) → f (unchanged p) t ≡ (g (unchanged p) t >>= with_made p) →
-      (told here (outcome refused second n (unchanged p) t s) >>= λ x w. f x w >>= pair_first b) ≡ ((told here (outcome refused second n (unchanged p) t s) >>= λ x w. g x w >>= one_first b) >>= with_made p)
-  one_defined true second h = refl
-  one_defined false true h = refl
-  one_defined false false h = ap (λ (x : Result (List Binder × Renamed Identifier FramedIdent) Broken × Noting). x >>= pair_first b) h ∙ turned_about b p (g (unchanged p) t)
+-- a definition gives what is left as it was, however it ends
+module _ (here : Here) (n : Named Identifier) (b : Binder) (fs : Frames) (p : Pending Identifier FramedIdent) (u : Noting) (f : Renamed Identifier FramedIdent → Step Noting (List Binder × Renamed Identifier FramedIdent)) (g : Renamed Identifier FramedIdent → Step Noting (List Binder)) where
+  abbrev made : Outcome → Result (Renamed Identifier FramedIdent) (Fault Identifier) × Noting
+  made o = define_by o (body_around fs) n None fs p u
+
+  one_defined : (o : Outcome) → ((t : Noting) → f (unchanged p) t ≡ (g (unchanged p) t >>= with_made p)) → (told here (made o) >>= λ x w. f x w >>= pair_first b) ≡ ((told here (made o) >>= λ x w. g x w >>= one_first b) >>= with_made p)
+  one_defined Redefines h = refl
+  one_defined StoodBefore h = refl
+  one_defined Defined h =
+      ap (λ (x : Result (List Binder × Renamed Identifier FramedIdent) Broken × Noting). x >>= pair_first b) (h (made Defined).1) ∙ turned_about b p (g (unchanged p) (made Defined).1)
 
 -- by scopes nothing is renamed
 module _ (known : Known) (here : Here) (e : Frames) (p : Pending Identifier FramedIdent) where
@@ -127,19 +126,8 @@ module _ (known : Known) (here : Here) (e : Frames) (p : Pending Identifier Fram
   names_defined [] s = refl
   names_defined (n ∷ ns) s =
       let b = body_around e in
-      let t = definition_added b n None e s in
-      one_defined here n (binder_at (noting known) e s n) p t s (λ made w. define_all (noting known) here e made.rename ns made.pending w) (λ made w. define_each (noting known) here e ns p w)
-      (any (λ note. speaks_of n.name note && refused_here t (meaning_next s b n.name) false note) p.notes) (is_defined s b n.name) (names_defined ns t)
-
--- ---- fields
-
-abbrev put_on : Binder → List Binder → Step Noting (List Binder)
-put_on c cs = done (c ∷ cs)
-
-pub fields_searched : (known : Known) (ns : List (Named Identifier)) (s : Noting) → fields_bound (noting known) ns s ≡ fields_bound (counted known) ns s
-fields_searched known [] s = refl
-fields_searched known (n ∷ ns) s =
-    λ j. fields_searched known ns ((counted known).take_local s) j >>= put_on (record { bound = LocalNumber (next_number s s.locals); ident = n.name; occ = n.occ })
+      let o = outcome b n None e p s in
+      one_defined here n (binder_at (noting known) e s n) e p (ended b n None e p.notes o s) (λ made w. define_all (noting known) here e made.rename ns made.pending w) (λ made w. define_each (noting known) here e ns p w) o (names_defined ns)
 
 -- ---- names defined one after another, as far as they were gone through
 
@@ -313,27 +301,10 @@ pub record_steps : (known : Known) (here : Here) (fs : Frames) (fields names : L
     ≡ ((define_each (noting known) here fs names p (taken (length fields) s) >>= with_made p) >>= with_fields (bound_binders (next_number s s.locals) fields))
 record_steps known here fs fields names p s =
     let bs = bound_binders (next_number s s.locals) fields in
-    ap (λ (r : Result (List Binder) Broken × Noting). r >>= λ cs t. define_names (noting known) here fs names p t >>= λ q. done {A = List Binder × (List Binder × Renamed Identifier FramedIdent)} (cs, q)) (fields_searched known fields s ∙ fields_are known fields s)
+    ap (λ (r : Result (List Binder) Broken × Noting). r >>= λ cs t. define_names (noting known) here fs names p t >>= λ q. done {A = List Binder × (List Binder × Renamed Identifier FramedIdent)} (cs, q)) (fields_are known fields s)
     ∙ ap (λ (r : Result (List Binder × Renamed Identifier FramedIdent) Broken × Noting). r >>= with_fields bs) (names_defined known here fs p names (taken (length fields) s))
 
 -- ---- macros
-
-abbrev is_given : {A : Type 0} → Result A Broken → Bool
-is_given (Ok a) = true
-is_given (Err e) = false
-
-abbrev given_or : {A : Type 0} → A → Result A Broken → A
-given_or d (Ok a) = a
-given_or d (Err e) = d
-
-tested : (here : Here) (r y : RulesParts Identifier) (s : Noting) (b : Bool) → (if b then done r s else fails here BadForm s) ≡ (Ok y, s) → r ≡ y
-tested here r y s true h = λ j. given_or r (h j).0
-tested here r y s false h = let clash : false ≡ true = λ j. is_given (h j).0 in absurd cc
-
--- rules that have a head that means `syntax-rules`
-pub rules_there : (known : Known) (here : Here) (fs : Frames) (o : Option (RulesParts Identifier)) (s : Noting) (y : RulesParts Identifier) → rules_parts (noting known) here fs o s ≡ (Ok y, s) → o ≡ Some y
-rules_there known here fs None s y h = let clash : false ≡ true = λ j. is_given (h j).0 in absurd cc
-rules_there known here fs (Some r) s y h = ap Some (tested here r y s (is_rules (head_of (noting known) fs s r.head)) h)
 
 counted_same : (here : Here) (b : Bool) (s t : Noting) (r : Result (Rules Identifier) (Fault Identifier)) → t.definitions ≡ s.definitions →
     ((if b then done tt t else fails here NodeBudget s) >>= λ (u : Unit {0}). given (λ (i : Identifier). i) here r).1.definitions ≡ s.definitions

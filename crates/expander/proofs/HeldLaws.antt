@@ -9,7 +9,8 @@ use Rattle.scheme_model.specs.Matching.{compared}
 use Rattle.scheme_model.specs.Requirements.{Known}
 use Rattle.scheme_model.specs.RulesShape.{role_of, dots_of}
 use Rattle.scheme_model.specs.Order.{Note, Compared, Transformer, comparisons, has_use}
-use Rattle.scheme_model.specs.ScopedExpansion.{Frames, FramedIdent}
+use Rattle.scheme_model.specs.CountedExpansion.{means_here}
+use Rattle.scheme_model.specs.ScopedExpansion.{Frames, FramedIdent, ScopedState}
 use Rattle.scheme_model.proofs.IdentLaws.{ident_told}
 use Rattle.syntax_tree.specs.Names.{Names}
 use Rattle.syntax_tree.specs.Macros.{identifiers, IsIdent}
@@ -19,8 +20,8 @@ use Rattle.syntax_tree.proofs.InternLaws.{ident_itself}
 use Rattle.rules_match.specs.Matches.{is_ident, means_same}
 use Rattle.core_tree.specs.Names.{AllMatch}
 use Rattle.unit_scopes.specs.Used.{ComparisonFor, AreHeld}
+use Rattle.unit_scopes.specs.Searched.{searched}
 use Rattle.unit_scopes.specs.declared.uses.Comparison.{Comparison}
-use Rattle.noted_steps.specs.Noting.{means_here, Noting, noting}
 
 abbrev Pair : Type 0
 Pair = Identifier × Identifier
@@ -121,7 +122,7 @@ module _ (work : Work) (mean : Pair → Bool) where
       held_tell cs qs are.1 (λ r h. on r (kept_among c cs r c.held h)),
     )
 
-module _ (work : Work) (known : Known) (ls : List Frames) (s : Noting) (fs : Frames) (m : Transformer Frames Identifier) (literal_scope scope : ℕ) where
+module _ (work : Work) (known : Known) (ls : List Frames) (s : ScopedState) (fs : Frames) (m : Transformer Frames Identifier) (literal_scope scope : ℕ) where
   abbrev mean : Pair → Bool
   mean q = same_meaning (means_here s m.env q.0) (means_here s fs q.1)
 
@@ -139,10 +140,10 @@ module _ (work : Work) (known : Known) (ls : List Frames) (s : Noting) (fs : Fra
   tells same whole all are is (q ∷ qs) h = (ap (λ (ps : List IdPair). means_same work ps q.0 q.1) is ∙ h.0, tells same whole all are is qs h.1)
 
   -- where a use begins
-  pub are_held : (cs : List Comparison) (same : List IdPair) (ts : Trees Identifier) (tail : Tail Identifier) → AllMatch (ComparisonFor work ls literal_scope scope) cs (comparisons (noting known) fs m ts tail s) →
-      same ≡ map (λ c. c.pair) (filter (λ c. c.held) cs) → has_use (noting known) s ≡ true → AreHeld work s m.env fs same (compared (role_of identifiers m.rules) (dots_of identifiers m.rules) m.rules.rules ts tail)
+  pub are_held : (cs : List Comparison) (same : List IdPair) (ts : Trees Identifier) (tail : Tail Identifier) → AllMatch (ComparisonFor work ls literal_scope scope) cs (comparisons (searched known) fs m ts tail s) →
+      same ≡ map (λ c. c.pair) (filter (λ c. c.held) cs) → has_use (searched known) s ≡ true → AreHeld work s m.env fs same (compared (role_of identifiers m.rules) (dots_of identifiers m.rules) m.rules.rules ts tail)
   are_held cs same ts tail h is begins =
       let qs = compared (role_of identifiers m.rules) (dots_of identifiers m.rules) m.rules.rules ts tail in
-      let all : comparisons (noting known) fs m ts tail s ≡ map note qs = ap (λ b. cond b (map note qs) []) begins in
+      let all : comparisons (searched known) fs m ts tail s ≡ map note qs = ap (λ b. cond b (map note qs) []) begins in
       let are = pairs_are cs qs (subst (λ (ns : List (Note FramedIdent)). AllMatch (ComparisonFor work ls literal_scope scope) cs ns) all h) in
       tells same cs qs are is qs (held_tell work mean cs qs are cs qs are (λ q g. g))

@@ -11,9 +11,9 @@ use Rattle.scheme_model.specs.Meaning.{Head, IsCore, IsAuxiliary, IsMacro, IsNon
 use Rattle.scheme_model.specs.Requirements.{Known}
 use Rattle.scheme_model.specs.Cores.{Core, Call, Target}
 use Rattle.scheme_model.specs.Steps.{Broken, Step, ◌>>=◌, done, fails}
-use Rattle.scheme_model.specs.Order.{Here, head_of, target_of}
+use Rattle.scheme_model.specs.Order.{Here, Headed, head_of, target_of}
 use Rattle.scheme_model.specs.Expression.{whole, node, each, call, by_head, core_form, expression}
-use Rattle.scheme_model.specs.ScopedExpansion.{Frames}
+use Rattle.scheme_model.specs.ScopedExpansion.{Frames, ScopedState}
 use Rattle.syntax_tree.specs.Looks.{PartsStand, EndStands, AllNamed}
 use Rattle.syntax_tree.specs.declared.trees.Work.{Work}
 use Rattle.syntax_tree.specs.declared.trees.nodes.Tree as number
@@ -27,7 +27,8 @@ use Rattle.core_tree.specs.Names.{IsTarget}
 use Rattle.form_parts.specs.Heads.{IsHead}
 use Rattle.unit_scopes.specs.Stepped.{with_keyword}
 use Rattle.form_parts.specs.FormsSeen.{head_name_of}
-use Rattle.expander.specs.Ready.{Expanding, not_macro, IsSettled, IsPlain, not_core, IsCall, Reads}
+use Rattle.unit_scopes.specs.Searched.{searched}
+use Rattle.expander.specs.Ready.{Expanding, not_macro, head_asked, IsSettled, IsPlain, not_core, IsCall, Reads}
 use Rattle.expander.specs.declared.expressions.Ready as code_ready
 use Rattle.expander.specs.declared.expressions.Ready.TheVariants as ready
 use Rattle.feature_requirements.specs.declared.fault.ExpandFault.{ExpandFault}
@@ -38,7 +39,7 @@ use Rattle.unit_scopes.specs.declared.scope.UnitScope.{UnitScope}
 use Rattle.unit_scopes.proofs.OutcomeLaws.{grows_itself, leaves_itself}
 use Rattle.unit_scopes.proofs.NodeLaws.{plain_is}
 use Rattle.expander.proofs.ReadLaws.{HeadNamed}
-use Rattle.noted_steps.specs.Noting.{Noting, noting}
+use Rattle.noted_steps.specs.Noting.{Noting, state_of, noting}
 use Rattle.noted_steps.specs.Standing.{Stands}
 use Rattle.noted_steps.specs.Stepped.{met}
 use Rattle.noted_steps.specs.Outcomes.{Stays}
@@ -91,10 +92,10 @@ head_no_core heads.Other (IsAuxiliary a) plain is = tt
 head_no_core heads.Other (IsMacro m) plain is = tt
 head_no_core heads.Other IsNone plain is = tt
 
-pub named_plain : (known : Known) (work : Work) (s : Noting) (fs : Frames) (t : Tree Identifier) (x : NamePart) (h : HeadNamed work t x) → not_core (head_of (noting known) fs s h.ident) → IsPlain known s fs t
+pub named_plain : (known : Known) (work : Work) (s : ScopedState) (fs : Frames) (t : Tree Identifier) (x : NamePart) (h : HeadNamed work t x) → not_core (head_of (searched known) fs s h.ident) → IsPlain known s fs t
 named_plain known work s fs t x h plain = subst (λ (u : Tree Identifier). IsPlain known s fs u) (sym h.is) plain
 
-pub nameless_plain : (known : Known) (work : Work) (s : Noting) (fs : Frames) (t : Tree Identifier) → IsNameIfAny work None (head_name_of t) → IsPlain known s fs t
+pub nameless_plain : (known : Known) (work : Work) (s : ScopedState) (fs : Frames) (t : Tree Identifier) → IsNameIfAny work None (head_name_of t) → IsPlain known s fs t
 nameless_plain known work s fs (name i o) h = tt
 nameless_plain known work s fs (atom a o) h = tt
 nameless_plain known work s fs (vector ts o) h = tt
@@ -111,15 +112,15 @@ as_call f known depth here fs no_trees tail s = fails here BadForm s
 as_call f known depth here fs (tree t ts) tail s = call f (noting known) depth here fs (tree t ts) tail s
 
 call_by : (f : Expanding) (known : Known) (depth : ℕ) (here : Here) (fs : Frames) (i : Identifier) (p : Option Occ) (ts : Trees Identifier) (tail : Tail Identifier) (s : Noting) (h : Head) → not_core h → not_macro h →
-    by_head f (noting known) depth here fs h (named i p) ts tail s ≡ call f (noting known) depth here fs (tree (name i p) ts) tail s
+    by_head f (noting known) depth here fs h (named i p) ts tail s ≡ call f (noting known) depth here fs (tree (name i p) ts) tail ((noting known).ask (Headed fs i ∷ []) s)
 call_by f known depth here fs i p ts tail s (IsCore c) core mac = absurd core
 call_by f known depth here fs i p ts tail s (IsAuxiliary a) core mac = refl
 call_by f known depth here fs i p ts tail s (IsMacro m) core mac = absurd mac
 call_by f known depth here fs i p ts tail s IsNone core mac = refl
 
 -- a list without a keyword at its head is a call
-calls : (f : Expanding) (known : Known) (depth : ℕ) (here : Here) (fs : Frames) (ts : Trees Identifier) (tail : Tail Identifier) (o : Option Occ) (s : Noting) → IsSettled known s fs (list ts tail o) → IsPlain known s fs (list ts tail o) →
-    expression f (noting known) depth here fs (list ts tail o) s ≡ as_call f known depth here fs ts tail s
+calls : (f : Expanding) (known : Known) (depth : ℕ) (here : Here) (fs : Frames) (ts : Trees Identifier) (tail : Tail Identifier) (o : Option Occ) (s : Noting) → IsSettled known (state_of s) fs (list ts tail o) → IsPlain known (state_of s) fs (list ts tail o) →
+    expression f (noting known) depth here fs (list ts tail o) s ≡ as_call f known depth here fs ts tail (head_asked known fs (head_name_of (list ts tail o)) s)
 calls f known depth here fs no_trees tail o s settled plain = refl
 calls f known depth here fs (tree (name i p) ts) tail o s settled plain = call_by f known depth here fs i p ts tail s (head_of (noting known) fs s i) plain settled
 calls f known depth here fs (tree (atom a p) ts) tail o s settled plain = refl
@@ -144,21 +145,24 @@ no_end : (work : Work) (tail : Tail Identifier) → EndStands work None tail →
 no_end work proper h = refl
 no_end work (dotted t) h = absurd h
 
-module _ (known : Known) (depth : ℕ) (here : Option Occ) (work : Work) (region : Region) (u : UnitScope) (ls : List Frames) (fs : Frames) (s : Noting) (ts : Trees Identifier) (end : Tail Identifier) (o : Option Occ) (stands : Stands work u ls s)
-    (settled : IsSettled known s fs (list ts end o)) (plain : IsPlain known s fs (list ts end o)) (ns : List number.Tree) (tail : Option number.Tree) (parts : PartsStand work ns ts) (behind : EndStands work tail end) where
+module _ (known : Known) (depth : ℕ) (here : Option Occ) (work : Work) (region : Region) (u : UnitScope) (ls : List Frames) (fs : Frames) (s : Noting) (ts : Trees Identifier) (end : Tail Identifier) (o : Option Occ)
+    (stands : Stands work u ls (head_asked known fs (head_name_of (list ts end o)) s)) (settled : IsSettled known (state_of s) fs (list ts end o)) (plain : IsPlain known (state_of s) fs (list ts end o)) (ns : List number.Tree) (tail : Option number.Tree) (parts : PartsStand work ns ts) (behind : EndStands work tail end) where
+  abbrev asked : Noting
+  asked = head_asked known fs (head_name_of (list ts end o)) s
+
   abbrev reading : Expanding → Result Core Broken × Noting
   reading f = expression f (noting known) depth here fs (list ts end o) s
 
   pub call_reads : (v : Vec number.Tree Global) → AllNamed work region ns → IsCall ns tail here (Ok v) → Reads known depth here work region u u ls fs (Ok (ready.Call v)) reading
   call_reads v nameable h =
       let ended : end ≡ proper = no_end work end (subst (λ (e : Option number.Tree). EndStands work e end) h.1 behind) in (
-        s,
-        stays_itself work region u ls s stands,
+        asked,
+        stays_itself work region u ls asked stands,
         (
           ts,
           subst (λ (ms : List number.Tree). PartsStand work ms ts) (sym h.0) parts,
           subst (λ (ms : List number.Tree). AllNamed work region ms) (sym h.0) nameable,
-          λ f. calls f known depth here fs ts end o s settled plain ∙ (ap (λ (x : Tail Identifier). as_call f known depth here fs ts x s) ended ∙ some_trees f known depth here fs work ns ts s parts h.2),
+          λ f. calls f known depth here fs ts end o s settled plain ∙ (ap (λ (x : Tail Identifier). as_call f known depth here fs ts x asked) ended ∙ some_trees f known depth here fs work ns ts asked parts h.2),
         ),
       )
 
@@ -169,7 +173,7 @@ module _ (known : Known) (depth : ℕ) (here : Option Occ) (work : Work) (region
       go : (e : ExpandFault) → IsCall ns tail here (Err e) → Reads known depth here work region u u ls fs (Err e) reading
       go (fault.At e) h =
           subst (λ (y : ExpandFault). Reads known depth here work region u u ls fs (Err y) reading) (sym h.0)
-          (record { fault = BadForm; here = here }, s, stays_itself work region u ls s stands, plain_is work.symbols here BadForm refl refl, λ f. calls f known depth here fs ts end o s settled plain ∙ no_call f known depth here fs work ns tail ts end s parts behind h.1)
+          (record { fault = BadForm; here = here }, asked, stays_itself work region u ls asked stands, plain_is work.symbols here BadForm refl refl, λ f. calls f known depth here fs ts end o s settled plain ∙ no_call f known depth here fs work ns tail ts end asked parts behind h.1)
       go fault.Full h = absurd h
       go fault.Memory h = leaves_itself work region u stands.form.few_nodes
 
@@ -199,7 +203,7 @@ reads_behind known depth here work region u w v ls fs s (Err fault.Memory) step 
 
 -- a core form at the head
 pub core_goes : (f : Expanding) (known : Known) (depth : ℕ) (here : Here) (fs : Frames) (t : Tree Identifier) (i : Identifier) (p : Option Occ) (ts : Trees Identifier) (tail : Tail Identifier) (o : Option Occ) (c : CoreKeyword) (s : Noting) → t ≡ list (tree (name i p) ts) tail o → head_of (noting known) fs s i ≡ IsCore c →
-    expression f (noting known) depth here fs t s ≡ core_form f (noting known) depth here fs c ts tail (met (target_of (noting known) fs s i p) s)
+    expression f (noting known) depth here fs t s ≡ core_form f (noting known) depth here fs c ts tail (met (target_of (noting known) fs s i p) ((noting known).ask (Headed fs i ∷ []) s))
 core_goes f known depth here fs t i p ts tail o c s is head =
     ap (λ (u : Tree Identifier). expression f (noting known) depth here fs u s) is
     ∙ ap (λ (h : Head). by_head f (noting known) depth here fs h (named i p) ts tail s) head

@@ -9,7 +9,7 @@ use Rattle.scheme_model.specs.Keywords.{CoreKeyword, Auxiliary}
 use Rattle.scheme_model.specs.Meaning.{Meaning, Head, IsCore, IsAuxiliary, IsMacro, IsNone, is_keyword}
 use Rattle.scheme_model.specs.Requirements.{Known}
 use Rattle.scheme_model.specs.Cores.{Target}
-use Rattle.scheme_model.specs.Order.{Here, Form, Expression, Note, LookedUp, Pending, Pass, Going, Transformer, put, noted, read_then, head_of, target_of, here_at, run_core, run_use, run_head, run_form}
+use Rattle.scheme_model.specs.Order.{Here, Form, Expression, Note, LookedUp, Headed, RulesOf, Pending, Pass, Going, Transformer, put, noted, read_then, head_of, target_of, here_at, run_core, run_use, run_head, run_form}
 use Rattle.scheme_model.specs.ScopedExpansion.{Frames, FramedIdent, macro_at}
 use Rattle.core_forms.specs.Ends.{keyword_as}
 use Rattle.core_forms.specs.Forms.{Shape, shape_in}
@@ -50,8 +50,10 @@ use Rattle.unit_scopes.proofs.OutcomeLaws.{grows_itself, leaves_itself}
 use Rattle.expander.proofs.PassLaws.{spot_same, goes_misread, goes_so}
 use Rattle.expander.proofs.ReadLaws.{HeadNamed, head_named, target_at}
 use Rattle.expander.proofs.WeightLaws.{weight_less, shape_passes}
-use Rattle.noted_steps.specs.Noting.{means_here, Noting, noting}
-use Rattle.noted_steps.specs.Standing.{Stands}
+use Rattle.noted_steps.specs.Noting.{means_here, Noting, state_of, noting}
+use Rattle.noted_steps.proofs.NoteLaws.{plainly, plain_notes}
+use Rattle.expander.proofs.LooseLaws.{loose, loosely}
+use Rattle.noted_steps.specs.Standing.{Stands, with_notes}
 use Rattle.noted_steps.specs.Stepped.{met}
 use Rattle.noted_steps.specs.Outcomes.{Stays}
 use Rattle.noted_steps.proofs.CountingStands.{keyword_stands}
@@ -87,30 +89,34 @@ module _ (known : Known) (work : Work) (fs : Frames) (s : Noting) (m : Form Iden
   abbrev pub keyword : Target
   keyword = target_of (noting known) fs s n.ident n.place
 
+  -- the head is asked
+  abbrev pub headed_state : Noting
+  headed_state = (noting known).ask (Headed fs n.ident ∷ []) s
+
   abbrev by_head : Going Identifier FramedIdent Noting → Head → Pass Identifier FramedIdent × Noting
-  by_head go h = run_head (noting known) go here fs h keyword m n.parts n.tail (noted (looked_up ∷ []) p) s
+  by_head go h = run_head (noting known) go here fs h keyword m n.parts n.tail (noted (looked_up ∷ []) p) headed_state
 
   headed : (go : Going Identifier FramedIdent Noting) → run_form (noting known) go fs (here_at (λ i. i) m.tree m.here) m m.tree p s ≡ by_head go (head_of (noting known) fs s n.ident)
   headed go = ap (λ (h : Here). run_form (noting known) go fs h m m.tree p s) (sym is_here) ∙ ap (λ (t : Tree Identifier). run_form (noting known) go fs here m t p s) n.is
 
   pub by_core : (c : CoreKeyword) → head_of (noting known) fs s n.ident ≡ IsCore c → (go : Going Identifier FramedIdent Noting) →
-      run_form (noting known) go fs (here_at (λ i. i) m.tree m.here) m m.tree p s ≡ run_core (noting known) go here fs c keyword m n.parts n.tail (noted (looked_up ∷ []) p) s
+      run_form (noting known) go fs (here_at (λ i. i) m.tree m.here) m m.tree p s ≡ run_core (noting known) go here fs c keyword m n.parts n.tail (noted (looked_up ∷ []) p) headed_state
   by_core c is go = headed go ∙ ap (by_head go) is
 
   pub by_auxiliary : (a : Auxiliary) → head_of (noting known) fs s n.ident ≡ IsAuxiliary a → (go : Going Identifier FramedIdent Noting) →
-      run_form (noting known) go fs (here_at (λ i. i) m.tree m.here) m m.tree p s ≡ go (put (Expression m) (noted (looked_up ∷ []) p)) s
+      run_form (noting known) go fs (here_at (λ i. i) m.tree m.here) m m.tree p s ≡ go (put (Expression m) (noted (looked_up ∷ []) p)) headed_state
   by_auxiliary a is go = headed go ∙ ap (by_head go) is
 
   pub by_none : head_of (noting known) fs s n.ident ≡ IsNone → (go : Going Identifier FramedIdent Noting) →
-      run_form (noting known) go fs (here_at (λ i. i) m.tree m.here) m m.tree p s ≡ go (put (Expression m) (noted (looked_up ∷ []) p)) s
+      run_form (noting known) go fs (here_at (λ i. i) m.tree m.here) m m.tree p s ≡ go (put (Expression m) (noted (looked_up ∷ []) p)) headed_state
   by_none is go = headed go ∙ ap (by_head go) is
 
   pub by_macro : (d : Meaning) (t : Transformer Frames Identifier) → head_of (noting known) fs s n.ident ≡ IsMacro d → macro_at s.macros d ≡ Some t → (go : Going Identifier FramedIdent Noting) →
-      run_form (noting known) go fs (here_at (λ i. i) m.tree m.here) m m.tree p s ≡ run_use (noting known) go here fs keyword (Some t) m n.parts n.tail (noted (looked_up ∷ []) p) s
+      run_form (noting known) go fs (here_at (λ i. i) m.tree m.here) m m.tree p s ≡ run_use (noting known) go here fs keyword (Some t) m n.parts n.tail (noted (looked_up ∷ []) p) ((noting known).ask (RulesOf d ∷ []) headed_state)
   by_macro d t is there go =
       headed go
       ∙ (ap (by_head go) is
-      ∙ ap (λ (o : Option (Transformer Frames Identifier)). run_use (noting known) go here fs keyword o m n.parts n.tail (noted (looked_up ∷ []) p) s) there)
+      ∙ ap (λ (o : Option (Transformer Frames Identifier)). run_use (noting known) go here fs keyword o m n.parts n.tail (noted (looked_up ∷ []) p) ((noting known).ask (RulesOf d ∷ []) headed_state)) there)
 
 -- ---- what is left, with one note more
 
@@ -130,6 +136,23 @@ can_pass_noted work region u spot given todo old new can q notes = record {
   notes = notes;
   room = can.room;
 }
+
+-- the same where notes alone were changed
+pub can_pass_on : (work : Work) (region : Region) (u v : UnitScope) (spot : Spot) (given : ℕ) (todo : code_pending.Pending) (asked : Asked) → v ≡ with_notes u v.form.trace.notes → CanPass work region u spot given todo asked → CanPass work region v spot given todo asked
+can_pass_on work region u v spot given todo asked same can =
+    let w = with_notes u v.form.trace.notes in
+    let t = loose (state_of can.state) in
+    subst (λ (x : UnitScope). CanPass work region x spot given todo asked) (sym same) (record {
+      layout = can.layout;
+      state = t;
+      frames = can.frames;
+      left = can.left;
+      stands = loosely work w can.layout (state_of can.state) (plain_notes work u can.layout (state_of can.state) v.form.trace.notes (plainly work u can.layout can.state can.stands));
+      placed = spot_same work u w can.layout can.state t spot can.frames refl refl refl can.placed;
+      pending = record { todo = can.pending.todo; aside = can.pending.aside; uses = can.pending.uses };
+      notes = can.notes;
+      room = can.room;
+    })
 
 -- ---- a core form that is read
 

@@ -47,7 +47,8 @@ use Rattle.unit_scopes.proofs.DefineLaws.{is_in_on}
 use Rattle.unit_scopes.proofs.NodeLaws.{plain_is}
 use Rattle.expander.proofs.FormRows.{todo_stands}
 use Rattle.expander.proofs.PassSteps.{fault_same}
-use Rattle.noted_steps.specs.Noting.{Noting, noting}
+use Rattle.noted_steps.specs.Noting.{Noting, state_of, noting}
+use Rattle.noted_steps.proofs.NoteLaws.{plainly}
 use Rattle.noted_steps.specs.Standing.{Stands}
 use Rattle.noted_steps.specs.Stepped.{spent}
 use Rattle.noted_steps.specs.Outcomes.{Stays}
@@ -58,14 +59,14 @@ use Rattle.noted_steps.specs.Kept.{SpotFor}
 -- ---- where forms are gone through
 
 pub spot_same : (work : Work) (u v : UnitScope) (ls : List Frames) (s t : Noting) (spot : Spot) (fs : Frames) → v.env ≡ u.env → v.root ≡ u.root → t.definitions ≡ s.definitions → SpotFor work u ls s spot fs → SpotFor work v ls t spot fs
-spot_same work u v ls s t spot fs env root same h = record { at = h.at; inside = is_in_on work ls spot.scope fs u v s t spot.in_body env root same h.inside }
+spot_same work u v ls s t spot fs env root same h = record { at = h.at; inside = is_in_on work ls spot.scope fs u v (state_of s) (state_of t) spot.in_body env root same h.inside }
 
 -- over names that have grown
 pub spot_on : (old new : Work) (u v : UnitScope) (ls : List Frames) (s t : Noting) (spot : Spot) (fs : Frames) → KeepsNames old.symbols new.symbols → AreToldApart new.symbols.idents → Stands old u ls s →
     v.env.scopes ≡ u.env.scopes → v.root ≡ u.root → t.definitions ≡ s.definitions → SpotFor old u ls s spot fs → SpotFor new v ls t spot fs
 spot_on old new u v ls s t spot fs keeps apart e scopes root same h = record { at = h.at; inside = by spot.in_body h.inside }
   where
-    by : (b : Bool) → IsIn old u ls s spot.scope fs b → IsIn new v ls t spot.scope fs b
+    by : (b : Bool) → IsIn old u ls (state_of s) spot.scope fs b → IsIn new v ls (state_of t) spot.scope fs b
     by true i = record {
       body = i.body;
       outer = i.outer;
@@ -73,7 +74,7 @@ spot_on old new u v ls s t spot fs keeps apart e scopes root same h = record { a
       frames = i.frames;
       binds = λ n.
           ap (λ (xs : List Scope). option_and_then (λ (x : Scope). get x.bound n) (slice_get xs spot.scope)) scopes
-          ∙ (binds_on old new u ls s spot.scope i.body i.opened.uses i.outer keeps apart (h.at ∙ ap Some i.frames) e i.binds n
+          ∙ (binds_on old new u ls (state_of s) spot.scope i.body i.opened.uses i.outer keeps apart (h.at ∙ ap Some i.frames) (plainly old u ls s e) i.binds n
           ∙ ap (λ ds. bound_by new.symbols (body_chain ds i.body) n) (sym same));
     }
     by false i = (i.0 ∙ sym root, i.1)

@@ -18,6 +18,7 @@ use Rattle.feature_requirements.specs.Judged.{chosen_among}
 use Rattle.expander.specs.Passed.{pass_step}
 use Rattle.form_parts.specs.FormsSeen.{takes_effect, head_name_of}
 use Rattle.feature_requirements.proofs.ChoiceLaws.{chosen_is}
+use Rattle.noted_steps.specs.Asked.{form_asked}
 use Rattle.noted_steps.specs.Noting.{Noting, noting}
 use Rattle.noted_steps.specs.Stepped.{met}
 
@@ -69,7 +70,7 @@ module _ (known : Known) (go : Going Identifier FramedIdent Noting) (here : Here
 
   -- one that takes effect at once
   pub core_is : (c : CoreKeyword) (k : Target) (ts : Trees Identifier) (tail : Tail Identifier) (mark : Identifier → Option Mark) (s : Noting) → takes_effect c ≡ true →
-      run_core (noting known) go here fs c k form ts tail p s ≡ read_then (noting known) here p (shape_of c false mark ts tail) (λ m. pass_step (noting known) go here fs form p m) (met k s)
+      run_core (noting known) go here fs c k form ts tail p s ≡ read_then (noting known) here p (shape_of c false mark ts tail) (λ m. pass_step (noting known) go here fs form p m) (form_asked known fs c ts tail (met k s))
   core_is IsQuote k ts tail mark s h = absurd cc
   core_is IsQuasiquote k ts tail mark s h = absurd cc
   core_is IsLambda k ts tail mark s h = absurd cc
@@ -84,9 +85,10 @@ module _ (known : Known) (go : Going Identifier FramedIdent Noting) (here : Here
   core_is IsLetSyntax k ts tail mark s h = absurd cc
   core_is IsLetrecSyntax k ts tail mark s h = absurd cc
   core_is IsCondExpand k ts tail mark s h =
-      ap (chosen (met k s)) (chosen_is known ts tail)
-      ∙ (read_twice (some_of ts tail >> choices_in) (chosen_among known) (λ c. splice (noting known) go here p (or_none c)) (met k s)
-      ∙ read_as (some_of ts tail >> choices_in) Choices (met k s))
+      let t = form_asked known fs IsCondExpand ts tail (met k s) in
+      ap (chosen t) (chosen_is known ts tail)
+      ∙ (read_twice (some_of ts tail >> choices_in) (chosen_among known) (λ c. splice (noting known) go here p (or_none c)) t
+      ∙ read_as (some_of ts tail >> choices_in) Choices t)
   core_is IsSyntaxError k ts tail mark s h = absurd cc
   core_is IsInclude k ts tail mark s h = absurd cc
 

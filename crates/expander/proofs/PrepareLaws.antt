@@ -25,14 +25,15 @@ use Rattle.expander.specs.CoreSteps.{core_step, IsLeft}
 use Rattle.std.specs.Result.{IsErrAnd}
 use Rattle.unit_scopes.specs.Outcomes.{At, WorksOn, IsEnoughBelow}
 use Rattle.expander.specs.Passed.{ShapeFits}
-use Rattle.expander.specs.Ready.{IsSettled, Settles, Reads, Prepares}
+use Rattle.form_parts.specs.FormsSeen.{head_name_of}
+use Rattle.expander.specs.Ready.{head_asked, IsSettled, Settles, Reads, Prepares}
 use Rattle.expander.specs.declared.expressions.Ready as code_ready
 use Rattle.expander.specs.declared.expressions.Ready.TheVariants as ready
 use Rattle.feature_requirements.specs.declared.fault.ExpandFault.{ExpandFault}
 use Rattle.feature_requirements.specs.declared.fault.ExpandFault.TheVariants as fault
 use Rattle.unit_scopes.specs.declared.scope.UnitScope.{UnitScope}
 use Rattle.expander.proofs.AfterLaws.{IsAfter, stays_after, enough_less, enough_below_later, stays_then}
-use Rattle.noted_steps.specs.Noting.{Noting, noting}
+use Rattle.noted_steps.specs.Noting.{Noting, state_of, noting}
 use Rattle.noted_steps.specs.Standing.{Stands}
 use Rattle.noted_steps.specs.Outcomes.{Ends}
 use Rattle.noted_steps.proofs.OutcomeLaws.{stays_on, moves_here, here_ends, leaves_on, fills_on}
@@ -41,7 +42,7 @@ use Rattle.noted_steps.proofs.NodeLaws.{here_done}
 module _ (known : Known) (depth turns : ℕ) (old new : Work) (region : Region) (u w v : UnitScope) (ls : List Frames) (fs : Frames) (p : Result Core Broken × Noting) where
   -- what is read behind uses
   abbrev pub ReadsBehind : number.Tree × Option Occ → Result code_ready.Ready ExpandFault → Type 0
-  ReadsBehind x r = (t : Tree Identifier) (s : Noting) → Stands new w ls s → WorksOn new region x.0 t → IsSettled known s fs t → Reads known depth x.1 new region w v ls fs r (λ f. expression f (noting known) depth x.1 fs t s)
+  ReadsBehind x r = (t : Tree Identifier) (s : Noting) → Stands new w ls (head_asked known fs (head_name_of t) s) → WorksOn new region x.0 t → IsSettled known (state_of s) fs t → Reads known depth x.1 new region w v ls fs r (λ f. expression f (noting known) depth x.1 fs t s)
 
   pub prepares : (x : number.Tree × Option Occ) (r : code_ready.Ready) → Settles known depth turns old new region u w ls fs (Ok x) p → ReadsBehind x (Ok r) → Prepares known depth old new region u v ls fs (Ok (x.1, r)) p
   prepares x r h next =
@@ -51,7 +52,7 @@ module _ (known : Known) (depth turns : ℕ) (old new : Work) (region : Region) 
         settled.turns_left,
         λ f. expression f (noting known) depth x.1 fs h.0 h.1,
         read.0,
-        stays_on old new new region u w v ls h.1 read.0 h.2 read.1,
+        stays_on old new new region u w v ls (head_asked known fs (head_name_of h.0) h.1) read.0 h.2 read.1,
         enough_below_later depth w.form.budget.uses v.form.budget.uses settled.turns_left read.1.same.uses less,
         settled.same,
         read.2,
@@ -62,12 +63,15 @@ module _ (known : Known) (depth turns : ℕ) (old new : Work) (region : Region) 
       let settled = h.4 in
       let read = next h.0 h.1 h.2.stands h.3 settled.settled in
       let is : p ≡ (Err read.0, read.1) = settled.same ∙ read.4 (expand (noting known) settled.turns_left) in
-      subst (λ (q : Result Core Broken × Noting). Prepares known depth old new region u v ls fs (Err (fault.At e)) q) (sym is) (stays_on old new new region u w v ls h.1 read.1 h.2 read.2, (read.0, refl, read.3))
+      subst (λ (q : Result Core Broken × Noting). Prepares known depth old new region u v ls fs (Err (fault.At e)) q) (sym is) (stays_on old new new region u w v ls (head_asked known fs (head_name_of h.0) h.1) read.1 h.2 read.2, (read.0, refl, read.3))
   prepares_unread x fault.Full h next =
-      let m = moves_here old new region u w ls h.1 h.2 in
+      let asked = head_asked known fs (head_name_of h.0) h.1 in
+      let m = moves_here old new region u w ls asked h.2 in
       let read = next h.0 h.1 h.2.stands h.3 h.4.settled in
-      (leaves_on old new new region u w ls h.1 m read.0, fills_on old new region u w ls h.1 m read.1)
-  prepares_unread x fault.Memory h next = leaves_on old new new region u w ls h.1 (moves_here old new region u w ls h.1 h.2) (next h.0 h.1 h.2.stands h.3 h.4.settled)
+      (leaves_on old new new region u w ls asked m read.0, fills_on old new region u w ls asked m read.1)
+  prepares_unread x fault.Memory h next =
+      let asked = head_asked known fs (head_name_of h.0) h.1 in
+      leaves_on old new new region u w ls asked (moves_here old new region u w ls asked h.2) (next h.0 h.1 h.2.stands h.3 h.4.settled)
 
 pub prepares_unsettled : (known : Known) (depth turns : ℕ) (old new : Work) (region : Region) (u v : UnitScope) (ls : List Frames) (fs : Frames) (p : Result Core Broken × Noting) (e : ExpandFault) → Settles known depth turns old new region u v ls fs (Err e) p → Prepares known depth old new region u v ls fs (Err e) p
 prepares_unsettled known depth turns old new region u v ls fs p (fault.At e) h = h
@@ -119,7 +123,7 @@ prepares_err known depth old new region u v ls fs p (Err g) x is h = subst (λ (
 
 pub settles_after : (known : Known) (depth turns : ℕ) (old new : Work) (region : Region) (u v : UnitScope) (scope : ℕ) (ls : List Frames) (fs : Frames) (x : number.Tree × Option Occ) (p : Result Core Broken × Noting) → At ls scope fs → Settles known depth turns old new region u v ls fs (Ok x) p →
     IsAfter old new region u v scope
-settles_after known depth turns old new region u v scope ls fs x p at h = stays_after old new region u v scope ls fs h.1 at h.2
+settles_after known depth turns old new region u v scope ls fs x p at h = stays_after old new region u v scope ls fs (head_asked known fs (head_name_of h.0) h.1) at h.2
 
 pub prepares_after : (known : Known) (depth : ℕ) (old new : Work) (region : Region) (u v : UnitScope) (scope : ℕ) (ls : List Frames) (fs : Frames) (x : Option Occ × code_ready.Ready) (p : Result Core Broken × Noting) → At ls scope fs → Prepares known depth old new region u v ls fs (Ok x) p →
     IsAfter old new region u v scope

@@ -1,5 +1,6 @@
 -- How an expression is read: heads, keywords, identifiers as values, and what was read.
-use Rattle.std.proofs.Common.{◌≡◌, ℕ, List, Bool, true, false, Option, Some, None, Result, Ok, Err, IsErrAnd, refl, sym, subst}
+use Rattle.std.proofs.Common.{◌≡◌, ℕ, ◌<◌, List, [], ◌∷◌, length, Bool, true, false, Option, Some, None, Result, Ok, Err, refl, sym, ap, subst}
+use Rattle.std.proofs.lemmas.Option.{slice_get_within}
 use Rattle.scheme_model.specs.declared.Occ.{Occ}
 use Rattle.scheme_model.specs.Trees.{Tree, name, atom, list, vector, Trees, no_trees, tree, Tail}
 use Rattle.scheme_model.specs.Ident.{Ident as Identifier}
@@ -9,9 +10,11 @@ use Rattle.scheme_model.specs.Meaning.{Meaning, Local, Global, Standard, Free, H
 use Rattle.scheme_model.specs.Requirements.{Known}
 use Rattle.scheme_model.specs.Cores.{Target}
 use Rattle.scheme_model.specs.Steps.{Broken, Step, fails}
-use Rattle.scheme_model.specs.Order.{Here, Transformer, is_some, head_of}
+use Rattle.scheme_model.specs.Order.{Here, Transformer, Headed, is_some, head_of}
 use Rattle.scheme_model.specs.Expression.{unless_keyword}
-use Rattle.scheme_model.specs.ScopedExpansion.{Frames, macro_at}
+use Rattle.scheme_model.specs.CountedExpansion.{means_here}
+use Rattle.scheme_model.specs.ScopedExpansion.{Frames, ScopedState, macro_at}
+use Rattle.unit_scopes.specs.Searched.{searched}
 use Rattle.syntax_tree.specs.Names.{Names}
 use Rattle.syntax_tree.specs.declared.trees.Work.{Work}
 use Rattle.core_forms.specs.Parts.{IsName, IsNameIfAny}
@@ -22,16 +25,19 @@ use Rattle.core_tree.specs.declared.cores.Target as code_target
 use Rattle.form_parts.specs.Heads.{IsHead}
 use Rattle.form_parts.specs.declared.heads.Head as code_head
 use Rattle.form_parts.specs.declared.heads.Head.TheVariants as heads
-use Rattle.expander.specs.Ready.{not_macro, IsSettled, TestsVariable}
+use Rattle.unit_scopes.specs.Used.{target_at as used_at}
+use Rattle.expander.specs.Ready.{not_macro, IsSettled, IsHeadTarget, head_asked, TestsVariable}
 use Rattle.feature_requirements.specs.declared.fault.ExpandFault.{ExpandFault}
 use Rattle.feature_requirements.specs.declared.fault.ExpandFault.TheVariants as fault
 use Rattle.syntax_tree.specs.declared.trees.table.Region.{Region}
 use Rattle.form_parts.specs.FormsSeen.{name_in, head_name_of}
 use Rattle.unit_scopes.specs.declared.scope.UnitScope.{UnitScope}
-use Rattle.noted_steps.specs.Noting.{Noting, means_here, noting}
+use Rattle.noted_steps.specs.Noting.{Noting, state_of, noting}
 use Rattle.noted_steps.specs.Outcomes.{EndsHere}
 use Rattle.noted_steps.proofs.OutcomeLaws.{stays_itself}
-use Rattle.noted_steps.specs.Standing.{Stands}
+use Rattle.noted_steps.specs.Standing.{Stands, TargetFor, with_notes}
+use Rattle.noted_steps.proofs.NoteLaws.{plainly}
+use Rattle.unit_scopes.specs.State.{Stands as StandsPlainly}
 
 -- ---- keywords that stand for values
 
@@ -60,11 +66,6 @@ tested_fails {B} known work region u ls s here n go h P (fault.At e) stands test
     (stays_itself work region u ls s stands, (record { fault = KeywordAsValue n; here = here }, refl, tests.1))
 tested_fails known work region u ls s here n go h P fault.Full stands tests = absurd tests
 tested_fails known work region u ls s here n go h P fault.Memory stands tests = absurd tests
-
--- a fault that is handed on
-pub tests_handed : (work : Work) (s : Noting) (here : Here) (n : Named Identifier) (h : Head) (r : Result (Unit {0}) ExpandFault) (e : ExpandFault) → IsErrAnd r (λ f. f ≡ e) → TestsVariable work s here n h (Err e) → TestsVariable work s here n h r
-tests_handed work s here n h (Ok u) e err tests = absurd err
-tests_handed work s here n h (Err f) e err tests = subst (λ (g : ExpandFault). TestsVariable work s here n h (Err g)) (sym err) tests
 
 -- a target in a form of a unit, however these are told
 pub target_at : (names : Names) (unit form n m : ℕ) (x : code_target.Target) (t : Target) → unit ≡ n → form ≡ m → IsTarget names n m x t → IsTarget names unit form x t
@@ -96,8 +97,8 @@ there None h = absurd cc
 there (Some m) h = (m, refl)
 
 -- a macro's head is that of a macro that there is
-pub head_is_macro : (known : Known) (s : Noting) (fs : Frames) (i : Identifier) → IsHead heads.Macro (head_as (λ x. is_some (macro_at s.macros x)) (means_here s fs i)) →
-    (m : Transformer Frames Identifier) × (head_of (noting known) fs s i ≡ IsMacro (means_here s fs i)) × (macro_at s.macros (means_here s fs i) ≡ Some m)
+pub head_is_macro : (known : Known) (s : ScopedState) (fs : Frames) (i : Identifier) → IsHead heads.Macro (head_as (λ x. is_some (macro_at s.macros x)) (means_here s fs i)) →
+    (m : Transformer Frames Identifier) × (head_of (searched known) fs s i ≡ IsMacro (means_here s fs i)) × (macro_at s.macros (means_here s fs i) ≡ Some m)
 head_is_macro known s fs i h =
     let both = macro_head (λ x. is_some (macro_at s.macros x)) (means_here s fs i) h in
     let m = there (macro_at s.macros (means_here s fs i)) both.1 in
@@ -125,7 +126,7 @@ head_no_macro heads.Other (IsMacro m) plain h = h
 head_no_macro heads.Other IsNone plain h = tt
 
 -- no name is at the head
-pub nameless_settled : (known : Known) (work : Work) (s : Noting) (fs : Frames) (t : Tree Identifier) → IsNameIfAny work None (head_name_of t) → IsSettled known s fs t
+pub nameless_settled : (known : Known) (work : Work) (s : ScopedState) (fs : Frames) (t : Tree Identifier) → IsNameIfAny work None (head_name_of t) → IsSettled known s fs t
 nameless_settled known work s fs (name i o) h = tt
 nameless_settled known work s fs (atom a o) h = tt
 nameless_settled known work s fs (vector ts o) h = tt
@@ -156,8 +157,43 @@ head_named work (list (tree (list us end p) ts) tail o) x h = absurd h
 head_named work (list (tree (vector us p) ts) tail o) x h = absurd h
 
 -- its head is no macro's
-pub named_settled : (known : Known) (work : Work) (s : Noting) (fs : Frames) (t : Tree Identifier) (x : NamePart) (h : HeadNamed work t x) → not_macro (head_of (noting known) fs s h.ident) → IsSettled known s fs t
+pub named_settled : (known : Known) (work : Work) (s : ScopedState) (fs : Frames) (t : Tree Identifier) (x : NamePart) (h : HeadNamed work t x) → not_macro (head_of (searched known) fs s h.ident) → IsSettled known s fs t
 named_settled known work s fs t x h plain = subst (λ (u : Tree Identifier). IsSettled known s fs u) (sym h.is) plain
+
+-- ---- the name at the head, as it is asked
+
+pub named_target : (work : Work) (s : ScopedState) (fs : Frames) (t : Tree Identifier) (x : NamePart) (h : HeadNamed work t x) (k : code_target.Target) → IsTarget work.symbols s.unit s.form k (used_at s fs (record { name = h.ident; occ = h.place })) →
+    IsHeadTarget work s fs (head_name_of t) (Some k)
+named_target work s fs t x h k is = subst (λ (u : Tree Identifier). IsHeadTarget work s fs (head_name_of u) (Some k)) (sym h.is) is
+
+pub nameless_target : (work : Work) (s : ScopedState) (fs : Frames) (o : Option (Named Identifier)) → IsNameIfAny work None o → IsHeadTarget work s fs o None
+nameless_target work s fs None h = tt
+nameless_target work s fs (Some n) h = h
+
+-- where a use of it was noted, it is asked
+pub head_noted : (known : Known) (work : Work) (v : UnitScope) (ls : List Frames) (s : Noting) (fs : Frames) (o : Option (Named Identifier)) (k : code_target.Target) → IsHeadTarget work (state_of s) fs o (Some k) →
+    ((n : Named Identifier) → TargetFor work s fs k n → Stands work v ls ((noting known).ask (Headed fs n.name ∷ []) s)) → Stands work v ls (head_asked known fs o s)
+head_noted known work v ls s fs None k h noted = absurd h
+head_noted known work v ls s fs (Some n) k h noted = noted n h
+
+-- it has a number
+pub head_within : (work : Work) (s : ScopedState) (fs : Frames) (o : Option (Named Identifier)) (k : code_target.Target) → IsHeadTarget work s fs o (Some k) → k.ident < length work.symbols.idents
+head_within work s fs None k h = absurd h
+head_within work s fs (Some n) k h = slice_get_within work.symbols.idents k.ident n.name h.ident
+
+-- nothing is asked where there is none
+pub nameless_asked : (known : Known) (work : Work) (u : UnitScope) (ls : List Frames) (s : Noting) (fs : Frames) (o : Option (Named Identifier)) → IsHeadTarget work (state_of s) fs o None → Stands work u ls s → Stands work u ls (head_asked known fs o s)
+nameless_asked known work u ls s fs None h e = e
+nameless_asked known work u ls s fs (Some n) h e = absurd h
+
+-- and stands plainly as it did
+pub head_plainly : (known : Known) (work : Work) (u : UnitScope) (ls : List Frames) (s : Noting) (fs : Frames) (o : Option (Named Identifier)) → Stands work u ls (head_asked known fs o s) → StandsPlainly work u ls (state_of s)
+head_plainly known work u ls s fs None e = plainly work u ls s e
+head_plainly known work u ls s fs (Some n) e = plainly work u ls ((noting known).ask (Headed fs n.name ∷ []) s) e
+
+-- where notes alone were changed, they are changed back
+pub notes_back : (u v : UnitScope) → v ≡ with_notes u v.form.trace.notes → u ≡ with_notes v u.form.trace.notes
+notes_back u v same = sym (ap (λ (x : UnitScope). with_notes x u.form.trace.notes) same)
 
 -- ---- whole trees
 

@@ -31,10 +31,10 @@ use Rattle.form_parts.specs.declared.items.Kept.TheVariants as kept
 use Rattle.form_parts.specs.declared.items.Pending as code_pending
 use Rattle.form_parts.specs.declared.items.Spot.{Spot}
 use Rattle.unit_scopes.specs.declared.scope.UnitScope.{UnitScope}
-use Rattle.unit_scopes.proofs.BindersStand.{fields_stand}
+use Rattle.noted_steps.proofs.BindersStand.{fields_stand}
 use Rattle.unit_scopes.proofs.DefineLaws.{is_in_on}
 use Rattle.expander.proofs.DefinitionSteps.{StaysBeside, goes_failing, aside_goes, in_fails, in_after_same, taken_same, record_steps, with_made, with_fields}
-use Rattle.noted_steps.specs.Noting.{Noting, next_number, noting}
+use Rattle.noted_steps.specs.Noting.{Noting, state_of, next_number, noting}
 use Rattle.noted_steps.specs.Standing.{Stands}
 use Rattle.noted_steps.specs.Stepped.{taken}
 use Rattle.noted_steps.proofs.OutcomeLaws.{bound_goes}
@@ -55,7 +55,7 @@ module _ (work : Work) (u : UnitScope) (ls : List Frames) (spot : Spot) (fs : Fr
   pub fields_taken : Stands work field_scope ls field_state × SpotFor work field_scope ls field_state spot fs
   fields_taken = (
     (fields_stand work u ls s xs (map (λ f. f.field) r.fields) names_are room e).0,
-    record { at = placed.at; inside = is_in_on work ls spot.scope fs u field_scope s field_state spot.in_body refl refl refl placed.inside },
+    record { at = placed.at; inside = is_in_on work ls spot.scope fs u field_scope (state_of s) (state_of field_state) spot.in_body refl refl refl placed.inside },
   )
 
   module _ (region : Region) (v : UnitScope) (known : Known) (here : Here) (p : Pending Identifier FramedIdent) (old : code_pending.Pending) (asked : Asked) (given : ℕ) (notes : NotesFor work ls asked p.notes) where

@@ -16,6 +16,7 @@ use Rattle.core_forms.specs.Forms.{Shape, Quoted, Quasi, Procedure, Procedures, 
 use Rattle.feature_requirements.specs.Judged.{chosen_among}
 use Rattle.expander.specs.CoreSteps.{core_step}
 use Rattle.feature_requirements.proofs.ChoiceLaws.{chosen_is}
+use Rattle.noted_steps.specs.Asked.{form_asked}
 use Rattle.noted_steps.specs.Noting.{Noting, noting}
 
 abbrev as_it_is : Identifier → Identifier
@@ -57,13 +58,14 @@ module _ (known : Known) (f : Expander Frames Identifier Noting) (depth : ℕ) (
   abbrev mark : Identifier → Option Mark
   mark i = mark_of (head_of (noting known) e s i)
 
-  abbrev chosen : Result (Option (Trees Identifier)) (Fault Identifier) → Result Core Broken × Noting
-  chosen r = given as_it_is here r s >>= chosen_sequence f (noting known) depth here e
+  abbrev chosen : Noting → Result (Option (Trees Identifier)) (Fault Identifier) → Result Core Broken × Noting
+  chosen t r = given as_it_is here r t >>= chosen_sequence f (noting known) depth here e
 
   pub core_form_is : (k : CoreKeyword) (ts : Trees Identifier) (tail : Tail Identifier) →
-      core_form f (noting known) depth here e k ts tail s ≡ (given as_it_is here (shape_of k true (λ i. mark_of (head_of (noting known) e s i)) ts tail) s >>= core_step f (noting known) depth here e k)
+      core_form f (noting known) depth here e k ts tail s
+      ≡ (given as_it_is here (shape_of k true (λ i. mark_of (head_of (noting known) e s i)) ts tail) (form_asked known e k ts tail s) >>= core_step f (noting known) depth here e k)
   core_form_is IsQuote ts tail = given_then here (one_of ts tail) Quoted (steps IsQuote) s
-  core_form_is IsQuasiquote ts tail = given_quasi here (one_of ts tail) (quasi_of mark) (quasi f (noting known) depth here e) (steps IsQuasiquote) s (λ t p. refl)
+  core_form_is IsQuasiquote ts tail = given_quasi here (one_of ts tail) (quasi_of mark) (quasi f (noting known) depth here e) (steps IsQuasiquote) (form_asked known e IsQuasiquote ts tail s) (λ t p. refl)
   core_form_is IsLambda ts tail = given_then here (lambda_of same_ident ts tail) Procedure (steps IsLambda) s
   core_form_is IsCaseLambda ts tail = given_then here (case_lambda_of same_ident ts tail) Procedures (steps IsCaseLambda) s
   core_form_is IsIf ts tail = given_then here (if_of ts tail) Conditional (steps IsIf) s
@@ -76,8 +78,9 @@ module _ (known : Known) (f : Expander Frames Identifier Noting) (depth : ℕ) (
   core_form_is IsLetSyntax ts tail = given_then here (local_macros_of same_ident ts tail) Local (steps IsLetSyntax) s
   core_form_is IsLetrecSyntax ts tail = given_then here (local_macros_of same_ident ts tail) Local (steps IsLetrecSyntax) s
   core_form_is IsCondExpand ts tail =
-      ap chosen (chosen_is known ts tail)
-      ∙ (given_twice here (some_of ts tail >> choices_in) (chosen_among known) (chosen_sequence f (noting known) depth here e) s
-      ∙ given_then here (some_of ts tail >> choices_in) Choices (steps IsCondExpand) s)
+      let t = form_asked known e IsCondExpand ts tail s in
+      ap (chosen t) (chosen_is known ts tail)
+      ∙ (given_twice here (some_of ts tail >> choices_in) (chosen_among known) (chosen_sequence f (noting known) depth here e) t
+      ∙ given_then here (some_of ts tail >> choices_in) Choices (steps IsCondExpand) t)
   core_form_is IsSyntaxError ts tail = given_then here (error_text_of ts tail) ErrorText (steps IsSyntaxError) s
   core_form_is IsInclude ts tail = refl

@@ -41,6 +41,7 @@ use Rattle.noted_steps.specs.Noting.{Noting, noting}
 use Rattle.noted_steps.specs.Standing.{Stands}
 use Rattle.noted_steps.specs.Outcomes.{Stays, EndsHere}
 use Rattle.noted_steps.specs.Kept.{SpotFor}
+use Rattle.noted_steps.specs.Used.{compared_first}
 
 -- ---- over a work that has grown
 
@@ -80,7 +81,7 @@ use_locals locals after size rest used later given same small is most = let less
 -- ---- the use
 
 module _ (known : Known) (old new : Work) (region : Region) (u v : UnitScope) (ls : List Frames) (s : Noting) (spot : Spot) (fs : Frames) (here : Here) (keyword : Target) (m : Transformer Frames Identifier) (form : Form Identifier) (ts : Trees Identifier) (tail : Tail Identifier)
-    (p : Pending Identifier FramedIdent) (given : ℕ) (before after : code_pending.Pending) (asked : Asked) (stands : Stands old u ls s) (placed : SpotFor old u ls s spot fs) (pending : PendingFor old region u.unit u.form.number before p)
+    (p : Pending Identifier FramedIdent) (given : ℕ) (before after : code_pending.Pending) (asked : Asked) (stands : Stands old u ls (compared_first (noting known) fs m ts tail s)) (placed : SpotFor old u ls s spot fs) (pending : PendingFor old region u.unit u.form.number before p)
     (found : NotesFor old ls asked (comparisons (noting known) fs m ts tail s ++ p.notes)) (apart : AreToldApart new.symbols.idents) (scopes : v.env.scopes ≡ u.env.scopes) where
   abbrev noted_all : Pending Identifier FramedIdent
   noted_all = noted (comparisons (noting known) fs m ts tail s) p
@@ -95,7 +96,7 @@ module _ (known : Known) (old new : Work) (region : Region) (u v : UnitScope) (l
   Gives = InstanceFor new region v.unit v.form.number
 
   spot_after : Stays old new region u v ls used.1 → SpotFor new v ls used.1 spot fs
-  spot_after h = spot_on old new u v ls s used.1 spot fs h.work.names apart stands scopes h.same.root (use_leaves known here fs keyword m ts tail s).definitions placed
+  spot_after h = spot_on old new u v ls (compared_first (noting known) fs m ts tail s) used.1 spot fs h.work.names apart stands scopes h.same.root (use_leaves known here fs keyword m ts tail s).definitions placed
 
   pub use_goes : (x : code_instance.Instance) → EndsHere Gives old new region u v ls (Ok x) used → v.form.budget.uses ≡ u.form.budget.uses + 1 → v.form.budget.locals ≡ u.form.budget.locals →
       after.todo.items ≡ before.todo.items ++ record { here = here; tree = x.tree } ∷ [] → after.aside.items ≡ before.aside.items → after.uses.items ≡ before.uses.items ++ x.met ∷ [] →

@@ -14,7 +14,7 @@ use Rattle.scheme_model.specs.Building.{Built, build_tree, within, or_lengths, b
 use Rattle.scheme_model.specs.Requirements.{Known}
 use Rattle.scheme_model.specs.Cores.{Target, Core}
 use Rattle.scheme_model.specs.Steps.{Broken, Step, ◌>>=◌, done, fails}
-use Rattle.scheme_model.specs.Order.{Here, WaitingUse, Instance, Transformer, given, used, use_of, meet_waiting, max_uses, max_nodes}
+use Rattle.scheme_model.specs.Order.{Here, WaitingUse, Instance, Transformer, compared_asked, given, used, use_of, meet_waiting, max_uses, max_nodes}
 use Rattle.scheme_model.specs.ScopedExpansion.{Frames}
 use Rattle.scheme_model.proofs.Distinct.{ok_same}
 use Rattle.syntax_tree.specs.declared.trees.Work.{Work}
@@ -26,12 +26,12 @@ use Rattle.feature_requirements.specs.declared.fault.ExpandFault.{ExpandFault}
 use Rattle.feature_requirements.specs.declared.fault.ExpandFault.TheVariants as fault
 use Rattle.unit_scopes.specs.declared.uses.Instance as code_instance
 use Rattle.unit_scopes.specs.declared.scope.UnitScope.{UnitScope}
-use Rattle.unit_scopes.proofs.UsesMet.{met_stays}
-use Rattle.expander.specs.Ready.{use_met}
+use Rattle.expander.specs.Ready.{rules_asked, use_met}
 use Rattle.noted_steps.specs.Noting.{Noting, noting}
-use Rattle.noted_steps.specs.Standing.{Stands}
+use Rattle.noted_steps.specs.Standing.{Stands, with_notes}
 use Rattle.noted_steps.specs.Outcomes.{EndsHere}
 use Rattle.noted_steps.proofs.OutcomeLaws.{bound_goes, bound_fails}
+use Rattle.noted_steps.proofs.MeetingLaws.{met_stays}
 
 -- ---- what is built is small
 
@@ -79,8 +79,9 @@ failed : (s t : Noting) (b : Broken) → t.definitions ≡ s.definitions → Use
 failed s t b same = record { definitions = same; small = λ u h. absurd cc }
 
 module _ (known : Known) (here : Here) (fs : Frames) (keyword : Target) (m : Transformer Frames Identifier) (ts : Trees Identifier) (tail : Tail Identifier) (s : Noting) where
+  -- its comparisons are asked
   abbrev begun : Noting
-  begun = (noting known).begin_use m.env s
+  begun = (noting known).begin_use m.env ((noting known).ask (compared_asked (noting known) fs m ts tail) s)
 
   by_built : (r : Result (Built (Tree Identifier)) (Fault Identifier)) (w : WaitingUse Identifier) → ((b : Built (Tree Identifier)) → r ≡ Ok b → tree_size b.value ≤ 4194304) →
       UseLeaves s (given (λ i. i) here r begun >>= λ b t. done (record { tree = b.value; met = w }) ((noting known).spend b.count t))
@@ -117,13 +118,13 @@ met_then (Ok i, t) met g = refl
 met_then (Err e, t) met g = refl
 
 module _ (known : Known) (here : Here) (fs : Frames) (keyword : Target) (m : Transformer Frames Identifier) (ts : Trees Identifier) (tail : Tail Identifier) (s : Noting) (old new : Work) (region : Region) (u v w : UnitScope) (ls : List Frames) where
-  abbrev one_use : Result (Instance Identifier) Broken × Noting
-  one_use = use_of (noting known) here fs keyword m ts tail s
+  abbrev pub one_use : Result (Instance Identifier) Broken × Noting
+  one_use = use_of (noting known) here fs keyword m ts tail (rules_asked known keyword s)
 
   abbrev meeting : Instance Identifier → Step Noting (Tree Identifier)
   meeting i t = done i.tree (meet_waiting (noting known) fs i.met t)
 
-  pub use_ends : (x : code_instance.Instance) (h : EndsHere (InstanceFor new region v.unit v.form.number) old new region u v ls (Ok x) one_use) → Stands new w ls (meet_waiting (noting known) fs h.0.met one_use.1) → w ≡ with_uses v w.form.trace.uses →
+  pub use_ends : (x : code_instance.Instance) (h : EndsHere (InstanceFor new region v.unit v.form.number) old new region u v ls (Ok x) one_use) → Stands new w ls (meet_waiting (noting known) fs h.0.met one_use.1) → w ≡ with_notes (with_uses v w.form.trace.uses) w.form.trace.notes →
       EndsHere (WorksOn new region) old new region u w ls (Ok x.tree) (use_met known here fs keyword m ts tail s)
   use_ends x h e same =
       subst (λ (q : Result (Tree Identifier) Broken × Noting). EndsHere (WorksOn new region) old new region u w ls (Ok x.tree) q) (sym (bound_goes one_use meeting h.0 h.2))

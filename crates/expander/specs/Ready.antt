@@ -1,5 +1,5 @@
 -- How an expression is read in the code, up to its parts that are to be expanded (R7RS 4.1, 4.2).
-use Rattle.std.specs.Prelude.{◌≡◌, ◌⊎◌, ℕ, suc, List, [], Vec, true, false, Option, Some, None, Result, Ok, Err}
+use Rattle.std.specs.Prelude.{◌≡◌, ◌⊎◌, ℕ, suc, List, [], ◌∷◌, Vec, true, false, Option, Some, None, Result, Ok, Err}
 use Rattle.scheme_model.specs.declared.Occ.{Occ}
 use Rattle.scheme_model.specs.Ident.{Ident as Identifier}
 use Rattle.scheme_model.specs.Keywords.{CoreKeyword}
@@ -9,9 +9,14 @@ use Rattle.scheme_model.specs.ExpansionFaults.{Named, KeywordAsValue}
 use Rattle.scheme_model.specs.Cores.{Target, Core, Call}
 use Rattle.scheme_model.specs.Steps.{Broken, Step, ◌>>=◌, done}
 use Rattle.scheme_model.specs.Requirements.{Known}
-use Rattle.scheme_model.specs.Order.{Transformer, head_of, target_of, use_of, meet_waiting}
+use Rattle.scheme_model.specs.Order.{Transformer, Headed, RulesOf, head_of, target_of, use_of, meet_waiting}
 use Rattle.scheme_model.specs.Expression.{Expander, whole, node, each, expression, expand}
-use Rattle.scheme_model.specs.ScopedExpansion.{Frames, macro_at}
+use Rattle.scheme_model.specs.CountedExpansion.{means_here}
+use Rattle.scheme_model.specs.ScopedExpansion.{Frames, ScopedState, macro_at}
+use Rattle.form_parts.specs.FormsSeen.{head_name_of}
+use Rattle.unit_scopes.specs.Searched.{searched}
+use Rattle.unit_scopes.specs.State.{Stands}
+use Rattle.unit_scopes.specs.Used.{target_at}
 use Rattle.core_tree.specs.Names.{IsTarget}
 use Rattle.core_tree.specs.declared.cores.Target as code_target
 use Rattle.syntax_tree.specs.Looks.{PartsStand, AllNamed}
@@ -39,8 +44,7 @@ use Rattle.expander.specs.declared.expressions.Ready.TheVariants as ready
 use Rattle.feature_requirements.specs.declared.fault.ExpandFault.{ExpandFault}
 use Rattle.feature_requirements.specs.declared.fault.ExpandFault.TheVariants as fault
 use Rattle.unit_scopes.specs.declared.scope.UnitScope.{UnitScope}
-use Rattle.noted_steps.specs.Noting.{Noting, means_here, noting}
-use Rattle.noted_steps.specs.Standing.{Stands}
+use Rattle.noted_steps.specs.Noting.{Noting, state_of, noting}
 use Rattle.noted_steps.specs.Outcomes.{Stays, Breaks}
 
 abbrev pub Expanding : Type 0
@@ -55,27 +59,31 @@ not_macro (IsMacro m) = ⊥
 not_macro IsNone = Unit {0}
 
 -- no macro is at the head
-abbrev pub IsSettled : Known → Noting → Frames → Tree Identifier → Type 0
+abbrev pub IsSettled : Known → ScopedState → Frames → Tree Identifier → Type 0
 IsSettled known s fs (name i o) = Unit {0}
 IsSettled known s fs (atom a o) = Unit {0}
 IsSettled known s fs (vector ts o) = Unit {0}
 IsSettled known s fs (list no_trees tail o) = Unit {0}
-IsSettled known s fs (list (tree (name i p) ts) tail o) = not_macro (head_of (noting known) fs s i)
+IsSettled known s fs (list (tree (name i p) ts) tail o) = not_macro (head_of (searched known) fs s i)
 IsSettled known s fs (list (tree (atom a p) ts) tail o) = Unit {0}
 IsSettled known s fs (list (tree (list us end p) ts) tail o) = Unit {0}
 IsSettled known s fs (list (tree (vector us p) ts) tail o) = Unit {0}
 
 -- the keyword of a use of a macro that there is; or no macro is at the head
-abbrev pub IsMacroKeyword : Work → Known → Noting → Frames → Tree Identifier → Option code_target.Target → Type 0
+abbrev pub IsMacroKeyword : Work → Known → ScopedState → Frames → Tree Identifier → Option code_target.Target → Type 0
 IsMacroKeyword work known s fs t None = IsSettled known s fs t
 IsMacroKeyword work known s fs t (Some keyword) =
     (i : Identifier) × (p : Option Occ) × (ts : Trees Identifier) × (tail : Tail Identifier) × (o : Option Occ) × (m : Transformer Frames Identifier)
-    × (t ≡ list (tree (name i p) ts) tail o) × IsTarget work.symbols s.unit s.form keyword (target_of (noting known) fs s i p)
-    × (head_of (noting known) fs s i ≡ IsMacro (means_here s fs i)) × (macro_at s.macros (means_here s fs i) ≡ Some m)
+    × (t ≡ list (tree (name i p) ts) tail o) × IsTarget work.symbols s.unit s.form keyword (target_of (searched known) fs s i p)
+    × (head_of (searched known) fs s i ≡ IsMacro (means_here s fs i)) × (macro_at s.macros (means_here s fs i) ≡ Some m)
 
--- one use of a macro, which is met at once: the tree that it gives
+-- the rules of a macro are asked
+abbrev pub rules_asked : Known → Target → Noting → Noting
+rules_asked known keyword s = (noting known).ask (RulesOf keyword.meaning ∷ []) s
+
+-- one use of a macro, whose rules are asked, and which is met at once: the tree that it gives
 abbrev pub use_met : Known → Option Occ → Frames → Target → Transformer Frames Identifier → Trees Identifier → Tail Identifier → Step Noting (Tree Identifier)
-use_met known here fs keyword m ts tail s = use_of (noting known) here fs keyword m ts tail s >>= λ i t. done i.tree (meet_waiting (noting known) fs i.met t)
+use_met known here fs keyword m ts tail s = use_of (noting known) here fs keyword m ts tail (rules_asked known keyword s) >>= λ i t. done i.tree (meet_waiting (noting known) fs i.met t)
 
 -- ---- lists
 
@@ -86,33 +94,41 @@ not_core (IsMacro m) = Unit {0}
 not_core IsNone = Unit {0}
 
 -- no keyword of a core form is at the head
-abbrev pub IsPlain : Known → Noting → Frames → Tree Identifier → Type 0
+abbrev pub IsPlain : Known → ScopedState → Frames → Tree Identifier → Type 0
 IsPlain known s fs (name i o) = Unit {0}
 IsPlain known s fs (atom a o) = Unit {0}
 IsPlain known s fs (vector ts o) = Unit {0}
 IsPlain known s fs (list no_trees tail o) = Unit {0}
-IsPlain known s fs (list (tree (name i p) ts) tail o) = not_core (head_of (noting known) fs s i)
+IsPlain known s fs (list (tree (name i p) ts) tail o) = not_core (head_of (searched known) fs s i)
 IsPlain known s fs (list (tree (atom a p) ts) tail o) = Unit {0}
 IsPlain known s fs (list (tree (list us end p) ts) tail o) = Unit {0}
 IsPlain known s fs (list (tree (vector us p) ts) tail o) = Unit {0}
 
 -- the keyword of a core form; or there is none
-abbrev pub IsCoreKeyword : Work → Known → Noting → Frames → Tree Identifier → Option (code_keyword.CoreKeyword × code_target.Target) → Type 0
+abbrev pub IsCoreKeyword : Work → Known → ScopedState → Frames → Tree Identifier → Option (code_keyword.CoreKeyword × code_target.Target) → Type 0
 IsCoreKeyword work known s fs t None = IsPlain known s fs t
 IsCoreKeyword work known s fs t (Some k) =
     (i : Identifier) × (p : Option Occ) × (ts : Trees Identifier) × (tail : Tail Identifier) × (o : Option Occ) × (c : CoreKeyword)
-    × (t ≡ list (tree (name i p) ts) tail o) × (keyword_as k.0 ≡ Some c) × (head_of (noting known) fs s i ≡ IsCore c) × IsTarget work.symbols s.unit s.form k.1 (target_of (noting known) fs s i p)
+    × (t ≡ list (tree (name i p) ts) tail o) × (keyword_as k.0 ≡ Some c) × (head_of (searched known) fs s i ≡ IsCore c) × IsTarget work.symbols s.unit s.form k.1 (target_of (searched known) fs s i p)
 
--- what stands at the head: the keyword of a macro, that of a core form, or neither
-abbrev pub IsHeaded : Work → Known → Noting → Frames → Tree Identifier → code_headed.Headed → Type 0
+-- a use of the name at the head, where one is there
+abbrev pub IsHeadTarget : Work → ScopedState → Frames → Option (Named Identifier) → Option code_target.Target → Type 0
+IsHeadTarget work s fs None None = Unit {0}
+IsHeadTarget work s fs None (Some x) = ⊥
+IsHeadTarget work s fs (Some n) None = ⊥
+IsHeadTarget work s fs (Some n) (Some x) = IsTarget work.symbols s.unit s.form x (target_at s fs n)
+
+-- what stands at the head: the keyword of a macro, that of a core form, another name, or no name
+abbrev pub IsHeaded : Work → Known → ScopedState → Frames → Tree Identifier → code_headed.Headed → Type 0
 IsHeaded work known s fs t (headed.Macro keyword) = IsMacroKeyword work known s fs t (Some keyword)
 IsHeaded work known s fs t (headed.Core core keyword) = IsSettled known s fs t × IsCoreKeyword work known s fs t (Some (core, keyword))
-IsHeaded work known s fs t headed.Plain = IsSettled known s fs t × IsPlain known s fs t
+IsHeaded work known s fs t (headed.Plain name) = IsSettled known s fs t × IsPlain known s fs t × IsHeadTarget work s fs (head_name_of t) (Some name)
+IsHeaded work known s fs t headed.Nameless = IsSettled known s fs t × IsPlain known s fs t × IsHeadTarget work s fs (head_name_of t) None
 
 -- the keyword of a core form at the head of a form of the code, or that there is none
 abbrev pub HasCore : Work → UnitScope → (scope : ℕ) → number.Tree → Option (code_keyword.CoreKeyword × code_target.Target) → Type 0
 HasCore work u scope form core =
-    (known : Known) (ls : List Frames) (s : Noting) (fs : Frames) (t : Tree Identifier) → Stands work u ls s → At ls scope fs → StandsFor work form t → IsCoreKeyword work known s fs t core
+    (known : Known) (ls : List Frames) (s : ScopedState) (fs : Frames) (t : Tree Identifier) → Stands work u ls s → At ls scope fs → StandsFor work form t → IsCoreKeyword work known s fs t core
 
 -- the parts of a call, or that they are none
 abbrev pub IsCall : List number.Tree → Option number.Tree → Option Occ → Result (Vec number.Tree Global) ExpandFault → Type 0
@@ -121,16 +137,21 @@ IsCall ns tail here (Err (fault.At e)) = (fault.At e ≡ plain_fault here 31) ×
 IsCall ns tail here (Err fault.Full) = ⊥
 IsCall ns tail here (Err fault.Memory) = Unit {0}
 
+-- the name at the head of a list is asked
+abbrev pub head_asked : Known → Frames → Option (Named Identifier) → Noting → Noting
+head_asked known fs None s = s
+head_asked known fs (Some n) s = (noting known).ask (Headed fs n.name ∷ []) s
+
 -- what is come to when all macros at the head are used: the same core in fewer turns, which are still enough
 pub record Settled (known : Known) (depth turns : ℕ) (fs : Frames) (u v : UnitScope) (p : Result Core Broken × Noting) (here : Option Occ) (t : Tree Identifier) (s : Noting) : Type 0 where
   pub turns_left : ℕ
   pub enough : IsEnough depth v.form.budget.uses (suc turns_left)
-  pub settled : IsSettled known s fs t
+  pub settled : IsSettled known (state_of s) fs t
   pub same : p ≡ expression (expand (noting known) turns_left) (noting known) depth here fs t s
 
 abbrev pub Settles : Known → (depth turns : ℕ) → Work → Work → Region → UnitScope → UnitScope → List Frames → Frames → Result (number.Tree × Option Occ) ExpandFault → Result Core Broken × Noting → Type 0
 Settles known depth turns old new region u v ls fs (Ok x) p =
-    (t : Tree Identifier) × (s : Noting) × Stays old new region u v ls s × WorksOn new region x.0 t × Settled known depth turns fs u v p x.1 t s
+    (t : Tree Identifier) × (s : Noting) × Stays old new region u v ls (head_asked known fs (head_name_of t) s) × WorksOn new region x.0 t × Settled known depth turns fs u v p x.1 t s
 Settles known depth turns old new region u v ls fs (Err (fault.At e)) p = Stays old new region u v ls p.1 × ((b : Broken) × (p.0 ≡ Err b) × IsFault new.symbols e b)
 Settles known depth turns old new region u v ls fs (Err fault.Full) p = Leaves old new region u × MayFill old u
 Settles known depth turns old new region u v ls fs (Err fault.Memory) p = Leaves old new region u

@@ -9,7 +9,7 @@ ghost use Rattle.scheme_model.specs.Cores.{Target as ModelTarget, Const};
 ghost use Rattle.scheme_model.specs.Steps.{done};
 ghost use Rattle.scheme_model.specs.Trees.{Atom, Tree as ModelTree, atom, list, Trees, tree, Tail};
 ghost use Rattle.scheme_model.specs.Expression.{whole, expand, expression, core_form, node, quote, reference};
-ghost use Rattle.scheme_model.specs.ScopedExpansion.{Frames};
+ghost use Rattle.scheme_model.specs.ScopedExpansion.{Frames, ScopedState};
 ghost use Rattle.syntax_tree.specs.Works.{IsOpened, IsStanding, StandsFor, CanName};
 ghost use Rattle.syntax_tree.specs.Looks.{PartsStand, EndStands, AllNamed};
 ghost use Rattle.syntax_tree.specs.declared.trees.table.Region.{Region as AnyRegion};
@@ -18,11 +18,14 @@ ghost use Rattle.core_forms.specs.Parts.{IsName};
 ghost use Rattle.core_tree.specs.Cores.{CoreStands};
 ghost use Rattle.core_tree.specs.Names.{IsTarget};
 ghost use Rattle.feature_requirements.specs.Judged.{Knows};
-ghost use Rattle.unit_scopes.specs.Outcomes.{At as Stand, IsAtWork, WorksOn, IsEnough};
+ghost use Rattle.unit_scopes.specs.Outcomes.{At as Stand, CanLook as CanLookPlainly, IsAtWork, WorksOn, IsEnough};
+ghost use Rattle.unit_scopes.specs.State.{Stands as StandsPlainly};
 ghost use Rattle.unit_scopes.specs.Defining.{HasNumber};
 ghost use Rattle.unit_scopes.specs.Stepped.{with_keyword};
-ghost use Rattle.expander.specs.Ready.{use_met, IsSettled, IsHeaded, HasCore, IsCall, Prepares, Settles, come_to, Reads, TestsVariable, passed, BeginsBelow};
+ghost use Rattle.form_parts.specs.FormsSeen.{head_name_of};
+ghost use Rattle.expander.specs.Ready.{use_met, head_asked, IsSettled, IsHeaded, HasCore, IsCall, Prepares, Settles, come_to, Reads, TestsVariable, passed, BeginsBelow};
 
+use crate::uses::{apply_use, compare_use};
 use core_forms::{CoreKeyword, CoreShape, NamePart, parse_core};
 use core_tree::cores::{Core, Target};
 use feature_requirements::fault::{ExpandFault, code, fails, fails_with};
@@ -30,6 +33,9 @@ use form_parts::heads::{Head, head_name};
 use form_parts::names::name_at;
 use form_parts::places::here_at;
 use ls_base::{Mem, Text};
+use noted_steps::forms::note_form;
+use noted_steps::meeting::meet;
+use noted_steps::noted::note;
 use scheme_model::Occ;
 use scope_env::ScopeNo;
 use std::alloc::Global;
@@ -37,9 +43,8 @@ use syntax_tree::look::{Look, look_at};
 use syntax_tree::trees::{Region, Tree, Work};
 use unit_scopes::counting::{fails_at, misread};
 use unit_scopes::scope::UnitScope;
-use noted_steps::noted::note;
-use unit_scopes::uses::{Instance, Use, held};
-ghost use Rattle.noted_steps.specs.Noting.{Noting, means_here, noting};
+use unit_scopes::uses::{Instance, Use};
+ghost use Rattle.noted_steps.specs.Noting.{Noting, state_of, means_here, noting};
 ghost use Rattle.noted_steps.specs.Standing.{Stands, with_notes};
 ghost use Rattle.noted_steps.specs.Outcomes.{EndsHere};
 ghost use Rattle.noted_steps.specs.Kept.{UseFor};
@@ -64,12 +69,13 @@ pub enum Ready {
     Shape(CoreKeyword, CoreShape),
 }
 
-/// What stands at the head of a form: the keyword of a macro, that of a core form, or neither.
+/// What stands at the head of a form: the keyword of a macro, that of a core form, another name, or no name.
 #[derive(Clone, Copy)]
 pub enum Headed {
     Macro(Target),
     Core(CoreKeyword, Target),
-    Plain,
+    Plain(Target),
+    Nameless,
 }
 
 /// The parts of a call: a proper list of one tree or more.
@@ -142,6 +148,7 @@ fn settle(
     'uses: loop {
         match look_at_head(units, work, at.scope, form) {
             Headed::Macro(keyword) => {
+                note(units, work, keyword);
                 let use_at = Use {
                     scope: at.scope,
                     here,
@@ -151,8 +158,15 @@ fn settle(
                 form = make_use(units, alloc, work, region, use_at)?;
                 here = here_at(work, form, here);
             }
-            Headed::Core(core, keyword) => return Ok((form, here, Some((core, keyword)))),
-            Headed::Plain => return Ok((form, here, None)),
+            Headed::Core(core, keyword) => {
+                note(units, work, keyword);
+                return Ok((form, here, Some((core, keyword))));
+            }
+            Headed::Plain(name) => {
+                note(units, work, name);
+                return Ok((form, here, None));
+            }
+            Headed::Nameless => return Ok((form, here, None)),
         }
     }
 }
@@ -174,31 +188,29 @@ fn make_use(
     ensures counted { OnOk result (units.new.form.budget.uses ≡ units.old.form.budget.uses + 1) }
     ensures locals { OnOk result (units.new.form.budget.locals ≡ units.old.form.budget.locals) }
 {
-    work.symbols.told_apart();
-    let (_, comparisons) = units.compare(alloc, work, at)?;
-    let same = held(alloc, &comparisons)?;
-    let given = units.apply(alloc, work, region, at, &same)?;
+    let (_, comparisons) = compare_use(units, alloc, work, at)?;
+    let given = apply_use(units, alloc, work, region, at, &comparisons)?;
     let Instance { tree, met } = given;
-    units.meet(alloc, work, at.scope, &met)?;
+    meet(units, alloc, work, at.scope, &met)?;
     Ok(tree)
 }
 
 /// What stands at the head of a form.
 fn look_at_head(units: &UnitScope, work: &Work, scope: ScopeNo, form: Tree) -> Headed
-    requires look { CanLook work.now units.now scope }
+    requires look { CanLookPlainly work.now units.now scope }
     requires form { IsStanding work.now form }
-    ensures { (known : Known) (ls : List Frames) (s : Noting) (fs : Frames) (t : ModelTree Identifier) → Stands work.now units.now ls s → Stand ls scope fs → StandsFor work.now form t →
+    ensures { (known : Known) (ls : List Frames) (s : ScopedState) (fs : Frames) (t : ModelTree Identifier) → StandsPlainly work.now units.now ls s → Stand ls scope fs → StandsFor work.now form t →
         IsHeaded work.now known s fs t result }
 {
     let Some(name) = head_name(work, form) else {
-        return Headed::Plain;
+        return Headed::Nameless;
     };
     let keyword = units.target(work, scope, name);
     match units.head_by(work, keyword.meaning) {
         Head::Macro => Headed::Macro(keyword),
         Head::Core(core) => Headed::Core(core, keyword),
-        Head::Auxiliary(_) => Headed::Plain,
-        Head::Other => Headed::Plain,
+        Head::Auxiliary(_) => Headed::Plain(keyword),
+        Head::Other => Headed::Plain(keyword),
     }
 }
 
@@ -214,8 +226,8 @@ fn read(
     requires look { CanLook work.now units.old at.scope }
     requires form { IsStanding work.now form }
     requires head { HasCore work.now units.old at.scope form core }
-    ensures read { (known : Known) (region : AnyRegion) (ls : List Frames) (s : Noting) (fs : Frames) (t : ModelTree Identifier) → Knows units.old.libraries known → Stands work.now units.old ls s →
-        Stand ls at.scope fs → WorksOn work.now region form t → IsSettled known s fs t →
+    ensures read { (known : Known) (region : AnyRegion) (ls : List Frames) (s : Noting) (fs : Frames) (t : ModelTree Identifier) → Knows units.old.libraries known →
+        Stands work.now units.old ls (head_asked known fs (head_name_of t) s) → Stand ls at.scope fs → WorksOn work.now region form t → IsSettled known (state_of s) fs t →
         Reads known at.depth at.here work.now region units.old units.new ls fs result (λ f. expression f (noting known) at.depth at.here fs t s) }
     ensures locals { OnOk result (units.new.form.budget.locals ≡ units.old.form.budget.locals) }
 {
@@ -245,8 +257,8 @@ fn read_list(
     requires form { (ts : Trees Identifier) × (end : Tail Identifier) × (o : Option Occ) × StandsFor work.now form (list ts end o) × PartsStand work.now items.now ts × EndStands work.now tail end }
     requires head { HasCore work.now units.old at.scope form core }
     ensures read { (known : Known) (region : AnyRegion) (ls : List Frames) (s : Noting) (fs : Frames) (ts : Trees Identifier) (end : Tail Identifier) (o : Option Occ) →
-        Knows units.old.libraries known → Stands work.now units.old ls s → Stand ls at.scope fs → WorksOn work.now region form (list ts end o) → PartsStand work.now items.now ts →
-        EndStands work.now tail end → AllNamed work.now region items.now → IsSettled known s fs (list ts end o) →
+        Knows units.old.libraries known → Stands work.now units.old ls (head_asked known fs (head_name_of (list ts end o)) s) → Stand ls at.scope fs → WorksOn work.now region form (list ts end o) →
+        PartsStand work.now items.now ts → EndStands work.now tail end → AllNamed work.now region items.now → IsSettled known (state_of s) fs (list ts end o) →
         Reads known at.depth at.here work.now region units.old units.new ls fs result (λ f. expression f (noting known) at.depth at.here fs (list ts end o) s) }
     ensures locals { OnOk result (units.new.form.budget.locals ≡ units.old.form.budget.locals) }
 {
@@ -286,6 +298,7 @@ fn read_form(
     ensures locals { OnOk result (units.new.form.budget.locals ≡ units.old.form.budget.locals) }
 {
     work.trees_fit();
+    note_form(units, alloc, work, at.scope, core, form);
     let marks = units.marks(alloc, work, at.scope, core, form)?;
     let shape = match parse_core(alloc, work, core, form, true, &marks) {
         Ok(shape) => shape,
@@ -348,7 +361,7 @@ fn reference(
 
 /// An identifier where it is used, which is no keyword. What it means is noted.
 #[inline(always)]
-fn variable(
+pub(crate) fn variable(
     units: &mut UnitScope,
     work: &Work,
     at: At,
@@ -370,25 +383,6 @@ fn variable(
         return Err(fails_at(at.here, code::KEYWORD_AS_VALUE, name));
     }
     Ok(target)
-}
-
-/// Tests that an identifier is no keyword.
-pub(crate) fn test_variable(
-    units: &mut UnitScope,
-    work: &Work,
-    at: At,
-    name: NamePart,
-) -> Result<(), ExpandFault>
-    requires look { CanLook work.now units.old at.scope }
-    requires name { HasNumber work.now name }
-    ensures tested { (known : Known) (ls : List Frames) (s : Noting) (fs : Frames) (n : Named Identifier) → Stands work.now units.old ls s → Stand ls at.scope fs → IsName work.now name n →
-        TestsVariable work.now s at.here n (head_of (noting known) fs s n.name) result }
-    ensures noted { (known : Known) (ls : List Frames) (s : Noting) (fs : Frames) (n : Named Identifier) → Stands work.now units.old ls s → Stand ls at.scope fs → IsName work.now name n →
-        Stands work.now units.new ls ((noting known).ask (AskedHead fs n.name ∷ []) s) }
-    ensures rest { units.new ≡ with_notes units.old units.new.form.trace.notes }
-{
-    variable(units, work, at, name)?;
-    Ok(())
 }
 
 /// A core node of so many nodes begins: where its parts stand.

@@ -13,7 +13,7 @@ ghost use Rattle.scheme_model.specs.Measures.{tree_size, trees_size};
 ghost use Rattle.scheme_model.specs.Requirements.{Known};
 ghost use Rattle.scheme_model.specs.Cores.{Target as ModelTarget};
 ghost use Rattle.scheme_model.specs.Meaning.{Head as ModelHead, is_keyword};
-ghost use Rattle.scheme_model.specs.ScopedExpansion.{Frames, FramedIdent};
+ghost use Rattle.scheme_model.specs.ScopedExpansion.{Frames, FramedIdent, ScopedState};
 ghost use Rattle.syntax_tree.specs.Looks.{PartsStand, AllNamed};
 ghost use Rattle.syntax_tree.specs.declared.trees.table.Region.{Region as AnyRegion};
 ghost use Rattle.core_forms.specs.Forms.{Shape};
@@ -21,7 +21,9 @@ ghost use Rattle.core_forms.specs.Named.{ShapeNamed};
 ghost use Rattle.core_tree.specs.Names.{AllMatch, IsTarget};
 ghost use Rattle.form_parts.specs.Heads.{IsHead};
 ghost use Rattle.feature_requirements.specs.Judged.{Knows};
-ghost use Rattle.unit_scopes.specs.Kept.{FormFor, NotesFor, PendingFor, left_with};
+ghost use Rattle.unit_scopes.specs.Kept.{FormFor, NotesFor, PendingFor, SpotFor as SpotForPlainly, left_with};
+ghost use Rattle.unit_scopes.specs.State.{Stands as StandsPlainly};
+ghost use Rattle.expander.specs.Ready.{rules_asked};
 ghost use Rattle.unit_scopes.specs.Outcomes.{At, IsAtWork};
 ghost use Rattle.unit_scopes.specs.Defining.{HasNumber};
 ghost use Rattle.expander.specs.Passed.{GoesOn, Passes, CanPass, IsPassed, pass_step, shape_weight, ShapeFits};
@@ -33,6 +35,7 @@ ghost use Rattle.form_parts.specs.declared.items.Spot.{Spot as AnySpot};
 use crate::defining::{
     define_function, define_record, define_syntax, define_values, define_variable,
 };
+use crate::uses::{apply_use, compare_use};
 use core_forms::{CoreKeyword, CoreShape, NamePart, parse_core};
 use core_tree::cores::Target;
 use feature_requirements::fault::ExpandFault;
@@ -42,6 +45,8 @@ use form_parts::items::{Form, Kept, Pending, Spot, forms_at};
 use form_parts::places::here_at;
 use form_parts::records::Record;
 use ls_base::{Items, Mem};
+use noted_steps::forms::note_form;
+use noted_steps::noted::note;
 use scheme_model::Occ;
 use scope_env::ScopeNo;
 use std::alloc::Global;
@@ -49,7 +54,7 @@ use syntax_tree::trees::{Region, Tree, Work};
 use unit_scopes::asked::{Asked, Asking, Note};
 use unit_scopes::counting::misread;
 use unit_scopes::scope::UnitScope;
-use unit_scopes::uses::{Comparison, Instance, Use, held};
+use unit_scopes::uses::{Comparison, Instance, Use};
 ghost use Rattle.noted_steps.specs.Noting.{Noting, noting};
 ghost use Rattle.noted_steps.specs.Standing.{Stands};
 ghost use Rattle.noted_steps.specs.Kept.{SpotFor, UseFor};
@@ -109,6 +114,7 @@ fn pass_form(
     };
     let keyword = units.target(work, spot.scope, name);
     let head = units.head_by(work, keyword.meaning);
+    note(units, work, keyword);
     note_head(units, work, spot, name, head, asked)?;
     match head {
         Head::Core(core) => pass_core(
@@ -144,8 +150,8 @@ fn note_head(
     asked: &mut Asked,
 ) -> Mem<()>
     requires { HasNumber work.now name }
-    ensures { (ls : List Frames) (s : Noting) (fs : Frames) (n : Named Identifier) (h : ModelHead) (ns : List (ModelNote FramedIdent)) → Stands work.now units.now ls s →
-        SpotFor work.now units.now ls s spot fs → IsName work.now name n → IsHead head h → NotesFor work.now ls asked.old ns →
+    ensures { (ls : List Frames) (s : ScopedState) (fs : Frames) (n : Named Identifier) (h : ModelHead) (ns : List (ModelNote FramedIdent)) → StandsPlainly work.now units.now ls s →
+        SpotForPlainly work.now units.now ls s spot fs → IsName work.now name n → IsHead head h → NotesFor work.now ls asked.old ns →
         OnOk result (NotesFor work.now ls asked.new (LookedUp (record { frames = fs; ident = n.name }) true (is_keyword h) ∷ ns)) }
 {
     asked.push(
@@ -180,12 +186,11 @@ fn pass_use(
         Knows units.old.libraries known → Stands work.old units.old ls s → SpotFor work.old units.old ls s spot fs → At ls at.scope fs → UseFor work.old s at keyword m ts tail →
         PendingFor work.old region.now units.old.unit units.old.form.number pending.old p → NotesFor work.old ls asked.old p.notes → 1 ≤ given →
         GoesOn work.old work.new region.now units.old units.new ls spot fs p.todo given pending.new asked.new result
-        (λ go. run_use (noting known) go at.here fs keyword (Some m) form ts tail p s) }
+        (λ go. run_use (noting known) go at.here fs keyword (Some m) form ts tail p (rules_asked known keyword s)) }
 {
-    let (scope, comparisons) = units.compare(alloc, work, at)?;
+    let (scope, comparisons) = compare_use(units, alloc, work, at)?;
     note_comparisons(work, scope, at.scope, &comparisons, asked)?;
-    let same = held(alloc, &comparisons)?;
-    let applied = units.apply(alloc, work, region, at, &same);
+    let applied = apply_use(units, alloc, work, region, at, &comparisons);
     work.symbols.told_apart();
     let given = applied?;
     let Instance { tree, met } = given;
@@ -226,6 +231,7 @@ fn pass_core(
         return Ok(());
     }
     units.form.trace.keywords.push(keyword)?;
+    note_form(units, alloc, work, spot.scope, core, form.tree);
     work.trees_fit();
     let shape = match parse_core(alloc, work, core, form.tree, false, &Items::new(alloc)) {
         Ok(shape) => shape,
