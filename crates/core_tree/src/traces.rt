@@ -41,10 +41,12 @@ pub fn blank_trace(alloc: Global) -> Trace
     ensures definitions { result.definitions ≡ [] }
     ensures keywords { result.keywords ≡ [] }
     ensures uses { result.uses ≡ [] }
+    ensures notes { result.notes.notes ≡ [] }
 {
     Trace {
         definitions: Items::new(alloc),
         keywords: Items::new(alloc),
         uses: Items::new(alloc),
+        notes: Noting::new(alloc),
     }
 }

@@ -1,6 +1,6 @@
 //! What the part of a form that is at work notes (R7RS 4.3, 5.3): what the form itself answers is noted as nothing; what its own
 //! definitions have a part in, as it is asked; all else, as it was before the form's macro uses and its definitions.
-ghost use Rattle.std.specs.Prelude.{◌≡◌, ℕ, ◌+◌, ◌<◌, ◌++◌, nat_eq, List, length, Bool, false, ◌||◌, Option, OnOk, if◌then◌else◌};
+ghost use Rattle.std.specs.Prelude.{◌≡◌, ℕ, ◌+◌, ◌<◌, ◌++◌, nat_eq, List, [], length, Bool, false, ◌||◌, Option, OnOk, if◌then◌else◌};
 ghost use Rattle.std.specs.BTreeSet.{btree_set_len, contains};
 ghost use Rattle.std.specs.Ordering.{nat_cmp};
 ghost use Rattle.scheme_model.specs.ExpansionFaults.{Named};
@@ -42,7 +42,10 @@ pub struct Noting {
 
 impl Noting {
     /// No form is at work. It takes no memory.
-    pub fn new(alloc: Global) -> Noting {
+    pub fn new(alloc: Global) -> Noting
+        ensures notes { result.notes ≡ [] }
+        ensures kept { result.lost ≡ false }
+    {
         Noting {
             unit: 0,
             form: 0,
@@ -138,6 +141,19 @@ impl Noting {
         self.own = BTreeSet::new(alloc);
         self.lost = false;
         mem::swap(&mut self.notes, notes);
+    }
+
+    /// The part of a form begins, which has begun so many macro uses; its notes go on behind those that there are.
+    pub fn restart(&mut self, alloc: Global, unit: u32, form: u32, begun: u32)
+        ensures begins { (names : Names) (editions : ℕ → Option (Transformer Frames Identifier)) (ms : List Noted) → let r = beginning unit form begun editions in
+            HaveNotes names r self.old.notes ms → NotingStands names self.new r ms }
+        ensures notes { self.new.notes ≡ self.old.notes }
+    {
+        self.unit = unit;
+        self.form = form;
+        self.begun = begun;
+        self.own = BTreeSet::new(alloc);
+        self.lost = false;
     }
 
     /// The part ends: its notes, unless some were lost.

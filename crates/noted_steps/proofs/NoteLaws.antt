@@ -17,6 +17,10 @@ use Rattle.unit_scopes.specs.Outcomes.{CanLook}
 use Rattle.unit_scopes.specs.State.{IsMacroIfAny}
 use Rattle.unit_scopes.specs.State as plain
 use Rattle.unit_scopes.specs.Used.{CanUse}
+use Rattle.unit_scopes.specs.Defining.{CanGo}
+use Rattle.unit_scopes.specs.Units.{CanSet}
+use Rattle.unit_scopes.specs.declared.asked.Asked.{Asked}
+use Rattle.form_parts.specs.declared.items.Spot as code_spot
 use Rattle.unit_scopes.specs.declared.uses.Use as code_use
 use Rattle.noted_steps.specs.Kept as noted
 use Rattle.unit_scopes.specs.declared.macros.Macro.{Macro}
@@ -41,7 +45,7 @@ plainly work u ls s e = record {
 }
 
 -- with other notes
-pub notes_stand : (work : Work) (u : UnitScope) (ls : List Frames) (s : Noting) (x : code_noting.Noting) (ms : List Noted) → NotingStands work.symbols x s.since ms → Stands work u ls s → Stands work (with_notes u x) ls (record s { noted = ms })
+pub notes_stand : (work : Work) (u : UnitScope) (ls : List Frames) (s : Noting) (x : code_noting.Noting) (ms : List Noted) → (s.exact ≡ true → NotingStands work.symbols x s.since ms) → Stands work u ls s → Stands work (with_notes u x) ls (record s { noted = ms })
 notes_stand work u ls s x ms h e =
     let f = e.form in
     record {
@@ -67,10 +71,16 @@ notes_stand work u ls s x ms h e =
       defined = e.defined;
       known = e.known;
       count = e.count;
-      notes = h;
+      made = e.made;
       since_unit = e.since_unit;
       since_form = e.since_form;
+      editions = λ exact. let d = e.editions exact in record { none = d.none; tells = d.tells };
+      notes = h;
     }
+
+-- with other notes of the state alone
+pub notes_again : (work : Work) (u : UnitScope) (ls : List Frames) (s : Noting) (ms : List Noted) → (s.exact ≡ true → NotingStands work.symbols u.form.trace.notes s.since ms) → Stands work u ls s → Stands work u ls (record s { noted = ms })
+notes_again work u ls s ms h e = notes_stand work u ls s u.form.trace.notes ms h e
 
 -- where notes alone changed an identifier can be looked up as before
 pub plain_notes : (work : Work) (u : UnitScope) (ls : List Frames) (s : ScopedState) (x : code_noting.Noting) → plain.Stands work u ls s → plain.Stands work (with_notes u x) ls s
@@ -113,6 +123,13 @@ looks_on work u v scope same h =
 pub plain_look : (work : Work) (u : UnitScope) (scope : ℕ) → noted.CanLook work u scope → CanLook work u scope
 plain_look work u scope h = record { layout = h.layout; state = state_of h.state; frames = h.frames; stands = plainly work u h.layout h.state h.stands; at = h.at }
 
+pub plain_go : (work : Work) (u : UnitScope) (spot : code_spot.Spot) (asked : Asked) → noted.CanGo work u spot asked → CanGo work u spot asked
+plain_go work u spot asked h =
+    record { layout = h.layout; state = state_of h.state; frames = h.frames; found = h.found; stands = plainly work u h.layout h.state h.stands; placed = h.placed; notes = h.notes }
+
+pub plain_set : (work : Work) (u : UnitScope) → noted.CanSet work u → CanSet work u
+plain_set work u h = record { layout = h.layout; state = state_of h.state; notes = h.notes; stands = plainly work u h.layout h.state h.stands; asked = h.asked }
+
 pub plain_use : (work : Work) (u : UnitScope) (at : code_use.Use) → noted.CanUse work u at → CanUse work u at
 plain_use work u at h = record {
   layout = h.layout;
@@ -146,8 +163,8 @@ pub lookup_stands : (known : Known) (work : Work) (u : UnitScope) (ls : List Fra
 lookup_stands known work u ls s fs i c k x keyword means law e =
     let m = means_here s fs i in
     notes_stand work u ls s x (look_up s fs i ++ s.noted)
-    (subst (λ b. NotingStands work.symbols x s.since (looked_up s.since i m b ++ s.noted)) keyword
-    (law e.notes (subst (λ n. IsMeaning work.symbols n s.since.form c m) (sym e.since_unit) (subst (λ n. IsMeaning work.symbols s.unit n c m) (sym e.since_form) means)))) e
+    (λ exact. subst (λ b. NotingStands work.symbols x s.since (looked_up s.since i m b ++ s.noted)) keyword
+    (law (e.notes exact) (subst (λ n. IsMeaning work.symbols n s.since.form c m) (sym e.since_unit) (subst (λ n. IsMeaning work.symbols s.unit n c m) (sym e.since_form) means)))) e
 
 -- ---- lists that match, from their ends
 

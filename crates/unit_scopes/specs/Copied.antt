@@ -14,6 +14,7 @@ pub record SameMacro (k l : Macro) : Type 0 where
   pub scope : l.scope ≡ k.scope
   pub rules : l.rules ≡ k.rules
   pub leaves : l.leaves.items ≡ k.leaves.items
+  pub edition : l.edition ≡ k.edition
 
 abbrev pub SameIfAny : Option Macro → Option Macro → Type 0
 SameIfAny None None = Unit {0}
@@ -28,6 +29,7 @@ SameMacros ms ns = (form : ℕ) (m : Meaning) → SameIfAny (macro_in ms form m)
 pub record SameUnits (u v : UnitScope) : Type 0 where
   pub env : v.env ≡ u.env
   pub macros : SameMacros u.macros v.macros
+  pub editions : v.macros.editions ≡ u.macros.editions
   pub unit : v.unit ≡ u.unit
   pub kind : v.kind ≡ u.kind
   pub root : v.root ≡ u.root

@@ -1,5 +1,6 @@
 pub mod Chains  -- The binders that frames are
 pub mod Macros  -- What means a macro in the code, by its maps
+pub mod Editions  -- The rules of macros by their editions
 pub mod State  -- What the scopes, the macros and the counts of the code stand for
 pub mod Counts  -- Counts within their budgets, and faults, as the code has them
 pub mod Binds  -- Binders of names, and the scope in which they are bound, as the code has them

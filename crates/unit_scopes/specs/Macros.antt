@@ -15,6 +15,18 @@ macro_in m form (Global u i) = get pair_cmp m.globals (u, i)
 macro_in m form (Standard s) = get nat_cmp m.standards s
 macro_in m form (Free s) = None
 
+-- a macro with its edition
+abbrev pub numbered : Macro → ℕ → Macro
+numbered k n = record k { edition = n }
+
+-- the edition of the macro that means this in a form; 0 is that of none
+abbrev pub edition_of : Option Macro → ℕ
+edition_of None = 0
+edition_of (Some k) = k.edition
+
+abbrev pub edition_in : Macros → ℕ → Meaning → ℕ
+edition_in m form c = edition_of (macro_in m form c)
+
 -- two meanings, each in a form, are one
 abbrev pub same_key : ℕ → Meaning → ℕ → Meaning → Bool
 same_key f (Local n) g (Local m) = nat_eq g f && nat_eq m n

@@ -1,5 +1,5 @@
 //! Definitions in units and bodies (R7RS 5.3): one that changes what a keyword was taken for is refused, and so is a second one.
-ghost use Rattle.std.specs.Prelude.{◌≡◌, ◌+◌, ◌^◌, ◌≤◌, ◌<◌, List, length, Option, None, OnOk, false, ◌&&◌, ◌||◌};
+ghost use Rattle.std.specs.Prelude.{◌≡◌, ℕ, ◌+◌, ◌^◌, ◌≤◌, ◌<◌, List, length, Option, None, Err, OnOk, false, ◌&&◌, ◌||◌};
 ghost use Rattle.std.specs.BTreeMap.{get};
 ghost use Rattle.std.specs.Ordering.{nat_cmp};
 ghost use Rattle.scheme_model.specs.CountedExpansion.{means_here, refused_here};
@@ -13,9 +13,13 @@ ghost use Rattle.scheme_model.specs.ScopedExpansion.{Frames, FramedIdent, Scoped
 ghost use Rattle.scheme_model.specs.Substitution.{any, differ, unchanged};
 ghost use Rattle.syntax_tree.specs.Macros.{IsIdent};
 ghost use Rattle.syntax_tree.specs.Meant.{IsMeaning};
+ghost use Rattle.syntax_tree.specs.declared.meaning.Meaning.{Meaning as AnyMeaning};
 ghost use Rattle.syntax_tree.specs.declared.trees.Work.{Work as AnyWork};
 ghost use Rattle.core_forms.specs.Parts.{IsName};
 ghost use Rattle.core_tree.specs.Names.{IsBinder};
+ghost use Rattle.core_tree.specs.declared.traces.FormFault.{FormFault as AnyFault};
+ghost use Rattle.feature_requirements.specs.declared.fault.ExpandFault.TheVariants.{At};
+ghost use Rattle.unit_scopes.specs.Macros.{macro_in, same_key};
 ghost use Rattle.unit_scopes.specs.Searched.{speaks_of, searched};
 ghost use Rattle.unit_scopes.specs.State.{Stands, most_locals};
 ghost use Rattle.unit_scopes.specs.Kept.{NoteFor, NotesFor, PlaceFor, SpotFor};
@@ -95,6 +99,10 @@ impl UnitScope {
             Stands work.now self.old ls s → SpotFor work.now self.old ls s spot fs → IsName work.now name n → IsKept work.now ls fs kept r → NotesFor work.now ls asked.now p.notes →
             EndsIn (λ (done : Unit {0}) (made : Renamed Identifier FramedIdent). made ≡ unchanged p) work.now self.old self.new ls spot fs result (told here ((searched known).define n r fs p s)) }
         ensures counts { OnOk result (Takes 1 self.old self.new) }
+        ensures refused { (e : AnyFault) → result ≡ Err (At e) → self.new ≡ self.old }
+        ensures notes { OnOk result (self.new.form.trace.notes ≡ self.old.form.trace.notes) }
+        ensures others { (f : ℕ) (m : AnyMeaning) → same_key self.old.form.number (next_here self.old spot.in_body name.ident) f m ≡ false →
+            OnOk result (macro_in self.new.macros f m ≡ macro_in self.old.macros f m) }
     {
         work.symbols.told_apart();
         self.env.sound();

@@ -1,11 +1,11 @@
 //! The macros of all units, by what means them.
-ghost use Rattle.std.specs.Prelude.{◌≡◌, ℕ, None, IfOk, OnOk, OnErr};
+ghost use Rattle.std.specs.Prelude.{◌≡◌, ℕ, ◌+◌, None, IfOk, OnOk, OnErr};
 ghost use Rattle.std.specs.Option.{option_copied};
 ghost use Rattle.syntax_tree.specs.declared.meaning.Meaning.{Meaning as AnyMeaning};
 ghost use Rattle.unit_scopes.specs.Copied.{SameMacros};
-ghost use Rattle.unit_scopes.specs.Macros.{macro_in, IsBound, Keeps};
+ghost use Rattle.unit_scopes.specs.Macros.{macro_in, edition_in, numbered, IsBound, Keeps};
 
-use ls_base::{Items, Mem};
+use ls_base::{Items, Mem, Memory};
 use rules_check::RuleLeaf;
 use scope_env::ScopeNo;
 use std::alloc::{AllocError, Global};
@@ -14,12 +14,14 @@ use syntax_tree::meaning::Meaning;
 use syntax_tree::rules::Rules;
 use syntax_tree::symbols::{IdNo, SymNo};
 
-/// A macro: the scope in which it was defined, its rules, and their leaves.
+/// A macro: the scope in which it was defined, its rules, and their leaves; and its edition, a number that it is given when it is
+/// kept, from 1 on.
 #[derive(Drop)]
 pub struct Macro {
     pub scope: ScopeNo,
     pub rules: Rules,
     pub leaves: Vec<RuleLeaf>,
+    pub edition: u64,
 }
 
 impl Clone for Macro {
@@ -36,16 +38,19 @@ impl Clone for Macro {
             scope: self.scope,
             rules,
             leaves: Vec::from_slice(alloc, self.leaves.as_slice())?,
+            edition: self.edition,
         })
     }
 }
 
-/// All macros: the open unit's local ones by form and number, those that units define, and the standard ones.
+/// All macros: the open unit's local ones by form and number, those that units define, and the standard ones; and the edition that was
+/// given last.
 #[derive(Drop)]
 pub struct Macros {
     pub locals: BTreeMap<(u32, u64), Macro>,
     pub globals: BTreeMap<(u32, IdNo), Macro>,
     pub standards: BTreeMap<SymNo, Macro>,
+    pub editions: u64,
 }
 
 impl Macros {
@@ -57,6 +62,7 @@ impl Macros {
             locals: BTreeMap::new(alloc),
             globals: BTreeMap::new(alloc),
             standards: BTreeMap::new(alloc),
+            editions: 0,
         }
     }
 
@@ -72,23 +78,41 @@ impl Macros {
         }
     }
 
+    /// The edition of the macro that means this in a form, or 0 where none does.
+    pub fn edition(&self, form: u32, meaning: Meaning) -> u64
+        ensures { result ≡ edition_in self.now form meaning }
+    {
+        match self.meaning(form, meaning) {
+            Some(kept) => kept.edition,
+            None => 0,
+        }
+    }
+
     /// The same macros once more.
     pub fn copy(&self) -> Mem<Macros>
-        ensures { IfOk result (SameMacros self.now) }
+        ensures same { IfOk result (SameMacros self.now) }
+        ensures editions { IfOk result (λ ms. ms.editions ≡ self.now.editions) }
     {
         Ok(Macros {
             locals: self.locals.clone()?,
             globals: self.globals.clone()?,
             standards: self.standards.clone()?,
+            editions: self.editions,
         })
     }
 
-    /// Keeps a macro as what means this in a form. Nothing free means a macro.
+    /// Keeps a macro as what means this in a form, with the next edition. Nothing free means a macro.
     pub fn keep(&mut self, form: u32, meaning: Meaning, kept: Macro) -> Mem<()>
         requires { IsBound meaning }
-        ensures kept { OnOk result (Keeps self.old self.new form meaning kept) }
+        ensures kept { OnOk result (Keeps self.old self.new form meaning (numbered kept (self.old.editions + 1))) }
+        ensures editions { OnOk result (self.new.editions ≡ self.old.editions + 1) }
         ensures err { OnErr result ((f : ℕ) (m : AnyMeaning) → macro_in self.new f m ≡ macro_in self.old f m) }
     {
+        let Some(edition) = self.editions.checked_add(1) else {
+            return Err(Memory);
+        };
+        let mut kept = kept;
+        kept.edition = edition;
         match meaning {
             Meaning::Local(number) => {
                 self.locals.insert((form, number), kept)?;
@@ -101,6 +125,7 @@ impl Macros {
             }
             Meaning::Free(_) => {}
         }
+        self.editions = edition;
         Ok(())
     }
 }

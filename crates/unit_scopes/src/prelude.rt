@@ -71,6 +71,7 @@ impl UnitScope {
             scope: self.root,
             rules,
             leaves,
+            edition: 0,
         };
         match self.env.resolve(self.root, ident, &work.symbols) {
             Meaning::Standard(symbol) => self.macros.keep(0, Meaning::Standard(symbol), kept),

@@ -158,6 +158,7 @@ impl UnitScope {
         ensures locals { OnOk result (self.new.form.budget.locals ≡ self.old.form.budget.locals) }
         ensures scopes { self.new.env.scopes ≡ self.old.env.scopes }
         ensures trace { self.new.form.trace ≡ self.old.form.trace }
+        ensures macros { self.new.macros ≡ self.old.macros }
     {
         if self.form.budget.uses == MAX_USES {
             return Err(fails(at.here, code::USE_BUDGET));
@@ -223,6 +224,7 @@ impl UnitScope {
         ensures number { IfOk result (λ number. number_of number ≡ use_number self.old) }
         ensures scopes { self.new.env.scopes ≡ self.old.env.scopes }
         ensures trace { self.new.form.trace ≡ self.old.form.trace }
+        ensures macros { self.new.macros ≡ self.old.macros }
     {
         let number = UseNo {
             unit: self.unit,
@@ -253,6 +255,7 @@ impl UnitScope {
         ensures grows { Grows work.old work.new region.now }
         ensures scopes { self.new.env.scopes ≡ self.old.env.scopes }
         ensures trace { self.new.form.trace ≡ self.old.form.trace }
+        ensures macros { self.new.macros ≡ self.old.macros }
     {
         let Some(used) = self.macros.meaning(self.form.number, at.keyword.meaning) else {
             return Err(fails(at.here, code::BAD_FORM));

@@ -7,11 +7,11 @@ use Rattle.unit_scopes.specs.declared.macros.Macros.{Macros}
 use Rattle.unit_scopes.proofs.CopyLaws.{found_again, macros_again}
 use Rattle.unit_scopes.proofs.macros.Macros.copy.Goals as goal
 
-pub returns : goal.returns
-returns c =
+pub returns-clause-same : goal.returns-clause-same
+returns-clause-same c =
     let old = c.args.self.now in
     let locals = c.in_ok-clone.field-0 in let globals = c.in_ok-clone-2.field-0 in let standards = c.in_ok-clone-3.field-0 in
-    let new : Macros = record { locals = locals; globals = globals; standards = standards } in
+    let new : Macros = record { locals = locals; globals = globals; standards = standards; editions = old.editions } in
     macros_again old new
     (λ k. found_again (get pair_cmp old.locals k) (get pair_cmp locals k) (lookup_clone _ _ (is_at (pair_cmp k)) (λ x y h. ap (is_at (pair_cmp k)) (λ j. (h.0 j, h.1 j))) old.locals.entries locals.entries c.in_ok-clone.ensures.cases))
     (λ k. found_again (get pair_cmp old.globals k) (get pair_cmp globals k) (lookup_clone _ _ (is_at (pair_cmp k)) (λ x y h. ap (is_at (pair_cmp k)) (λ j. (h.0 j, h.1 j))) old.globals.entries globals.entries c.in_ok-clone-2.ensures.cases))

@@ -15,7 +15,8 @@ returns-clause-same c =
     let defined : c.in_ok-clone-2.field-0.entries ≡ old.defined.entries = entries_from_clone _ _ (λ x y h. h) (λ v w h. h) old.defined.entries c.in_ok-clone-2.field-0.entries c.in_ok-clone-2.ensures.cases in
     record {
       env = c.in_ok-copy.ensures;
-      macros = c.in_ok-copy-2.ensures;
+      macros = c.in_ok-copy-2.ensures.same;
+      editions = c.in_ok-copy-2.ensures.editions;
       unit = refl;
       kind = refl;
       root = refl;
