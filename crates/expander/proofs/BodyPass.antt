@@ -19,7 +19,6 @@ use Rattle.unit_scopes.specs.Asks.{AskedStands}
 use Rattle.expander.specs.Bodies.{BodyFor, body_pass}
 use Rattle.feature_requirements.specs.Judged.{Knows}
 use Rattle.unit_scopes.specs.State.{most_locals}
-use Rattle.unit_scopes.specs.Stepped.{with_uses}
 use Rattle.form_parts.specs.FormsSeen.{form_at}
 use Rattle.unit_scopes.specs.Kept.{KeptFor, WaitsFor, PendingFor, NoteFor, NotesFor, forms_size, left_with}
 use Rattle.unit_scopes.specs.Outcomes.{At, Leaves}
@@ -33,9 +32,8 @@ use Rattle.form_parts.specs.declared.items.Pending as code_pending
 use Rattle.form_parts.specs.declared.items.Spot.{Spot}
 use Rattle.form_parts.specs.declared.items.WaitingUse as code_waiting
 use Rattle.unit_scopes.specs.declared.scope.UnitScope.{UnitScope}
-use Rattle.unit_scopes.proofs.BodiesStand.{body_stands, body_opens}
-use Rattle.unit_scopes.proofs.BodyScopes.{new_binds}
-use Rattle.unit_scopes.proofs.UsesMet.{met_stays, left_behind}
+use Rattle.noted_steps.proofs.BodiesStand.{body_stands, body_opens, new_binds}
+use Rattle.noted_steps.proofs.UsesMet.{MeetsAlone, met_stays, left_behind}
 use Rattle.expander.proofs.FormRows.{todo_stands}
 use Rattle.unit_scopes.proofs.OutcomeLaws.{grows_itself}
 use Rattle.noted_steps.specs.Noting.{Noting, next_number, noting}
@@ -169,7 +167,7 @@ module _ (work : Work) (region : Region) (u w : UnitScope) (scope inner : ℕ) (
       pub can_meet : (last : code_pending.Pending) (asked2 : Asked) → Went last asked2 (Ok tt) → CanLook new v inner
       can_meet last asked2 h = record { layout = inside; state = went.1; frames = entered_frames s fs; stands = h.2.stays.stands; at = h.2.placed.at }
 
-      pub body_ends : (last : code_pending.Pending) (asked2 : Asked) (h : Went last asked2 (Ok tt)) (x : UnitScope) → x ≡ with_uses v x.form.trace.uses → ((known : Known) (ls : List Frames) (s : Noting) (fs : Frames) (us : List (WaitingUse Identifier)) → Stands new v ls s → At ls inner fs →
+      pub body_ends : (last : code_pending.Pending) (asked2 : Asked) (h : Went last asked2 (Ok tt)) (x : UnitScope) → MeetsAlone v x → ((known : Known) (ls : List Frames) (s : Noting) (fs : Frames) (us : List (WaitingUse Identifier)) → Stands new v ls s → At ls inner fs →
           AllMatch (WaitsFor new v.unit v.form.number) last.uses.items us → Stands new x ls (meet_all (noting known) fs us s)) →
           Ends (BodyFor new region x.unit x.form.number) work new region u x ls (Ok (inner, last.aside)) (body_pass turns here ts known fs s)
       unfolding moves_inside

@@ -39,7 +39,7 @@ use Rattle.unit_scopes.proofs.DefineLaws.{is_in_on}
 use Rattle.unit_scopes.proofs.OutcomeLaws.{same_on}
 use Rattle.expander.proofs.DefinitionSteps.{StaysBeside, goes_failing, aside_goes, in_fails, in_after_same, rules_define_none, binder_here}
 use Rattle.expander.proofs.LooseLaws.{place_on}
-use Rattle.expander.proofs.RulesNotes.{rules_there, parts_define_none}
+use Rattle.expander.proofs.RulesNotes.{parts_define_none}
 use Rattle.noted_steps.specs.Noting.{Noting, state_of, bound_next, noting}
 use Rattle.noted_steps.specs.Standing.{Stands, with_notes}
 use Rattle.noted_steps.specs.Stepped.{spent}
@@ -103,7 +103,7 @@ module _ (work : Work) (region : Region) (u : UnitScope) (ls : List Frames) (spo
   tested = rules_parts (noting known) here fs (rules_parts_of t) s
 
   abbrev pub Test : Unit {0} → RulesParts Identifier → Type 0
-  Test x y = Unit {0}
+  Test x y = rules_parts_of t ≡ Some y
 
   module _ (u1 : UnitScope) (rest : u1 ≡ with_notes u u1.form.trace.notes) where
     tested_placed : SpotFor work u1 ls tested.1 spot fs
@@ -126,7 +126,7 @@ module _ (work : Work) (region : Region) (u : UnitScope) (ls : List Frames) (spo
 
       -- there was a list of rules
       pub rules_are : rules_parts_of t ≡ Some passed.0
-      rules_are = rules_there known here fs (rules_parts_of t) s passed.0 passed.2
+      rules_are = passed.3
 
       pub placed_after : SpotFor work w ls reading.1 spot fs
       placed_after = counted_place work u1 w ls spot fs tested.1 reading.1 counts (rules_define_none known here t passed.0 tested.1) tested_placed

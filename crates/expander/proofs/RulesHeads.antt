@@ -1,5 +1,5 @@
 -- The heads of the rules of local macros, tested one after another.
-use Rattle.std.proofs.Common.{◌≡◌, ℕ, zero, suc, ◌+◌, ◌<◌, ◌≤◌, List, [], ◌∷◌, ◌++◌, append_assoc, length, get_or, Result, Ok, Err, refl, sym, ap, ◌∙◌, subst, arith}
+use Rattle.std.proofs.Common.{◌≡◌, ℕ, zero, suc, ◌+◌, ◌<◌, ◌≤◌, List, [], ◌∷◌, ◌++◌, append_assoc, length, get_or, Some, Result, Ok, Err, refl, sym, ap, ◌∙◌, subst, arith}
 use Rattle.scheme_model.specs.Trees.{Tree, Trees, no_trees, tree}
 use Rattle.scheme_model.specs.Matching.{behind}
 use Rattle.scheme_model.specs.ExpansionFaults.{Named}
@@ -84,8 +84,8 @@ module _ (known : Known) (here : Here) (fs : Frames) where
     pub no_heads : Stands work u ls s → HeadsSoFar u 0
     no_heads e = record { state = s; parts = []; stays = stays_itself work region u ls s e; rest = behind_none (all_heads ts s) }
 
-    abbrev pub Test : Unit {0} → RulesParts Identifier → Type 0
-    Test x y = Unit {0}
+    abbrev pub Test : Tree Identifier → Unit {0} → RulesParts Identifier → Type 0
+    Test t x y = rules_parts_of t ≡ Some y
 
     abbrev pub TestAll : Unit {0} → List (RulesParts Identifier) → Type 0
     TestAll x y = Unit {0}
@@ -97,7 +97,7 @@ module _ (known : Known) (here : Here) (fs : Frames) where
       next_head : all_heads ts s ≡ ((one_head >>= and_then (behind (k + 1) ts)) >>= behind_those h.parts)
       next_head = h.rest ∙ ap (λ (l : Trees Identifier). all_heads l h.state >>= behind_those h.parts) split
 
-      pub one_tested : EndsHere Test work work region v w ls (Ok tt) one_head → HeadsSoFar w (k + 1)
+      pub one_tested : EndsHere (Test t) work work region v w ls (Ok tt) one_head → HeadsSoFar w (k + 1)
       one_tested ends = record {
         state = one_head.1;
         parts = h.parts ++ ends.0 ∷ [];
@@ -105,12 +105,12 @@ module _ (known : Known) (here : Here) (fs : Frames) where
         rest = next_head ∙ (ap (λ (x : Heads). x >>= behind_those h.parts) (bound_goes one_head (and_then (behind (k + 1) ts)) ends.0 ends.2) ∙ behind_one h.parts ends.0 (all_heads (behind (k + 1) ts) one_head.1));
       }
 
-      pub head_fails : (e : ExpandFault) → EndsHere Test work work region v w ls (Err e) one_head → EndsHere TestAll work work region u w ls (Err e) (all_heads ts s)
+      pub head_fails : (e : ExpandFault) → EndsHere (Test t) work work region v w ls (Err e) one_head → EndsHere TestAll work work region u w ls (Err e) (all_heads ts s)
       head_fails e ends =
           let first = one_head >>= and_then (behind (k + 1) ts) in
           subst (λ (x : Heads). EndsHere TestAll work work region u w ls (Err e) x) (sym next_head)
           (here_after TestAll work work work region u v w ls h.state (Err e) (first >>= behind_those h.parts) h.stays
-          (here_fails TestAll TestAll work work region v w ls e first (behind_those h.parts) (here_fails Test TestAll work work region v w ls e one_head (and_then (behind (k + 1) ts)) ends)))
+          (here_fails TestAll TestAll work work region v w ls e first (behind_those h.parts) (here_fails (Test t) TestAll work work region v w ls e one_head (and_then (behind (k + 1) ts)) ends)))
 
     pub all_tested : (v : UnitScope) (k : ℕ) → behind k ts ≡ no_trees → HeadsSoFar v k → EndsHere TestAll work work region u v ls (Ok tt) (all_heads ts s)
     all_tested v k past h =

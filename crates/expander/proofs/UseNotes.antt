@@ -1,20 +1,16 @@
 -- What a macro use asks, noted: its comparisons, and the use once they were.
-use Rattle.std.proofs.Common.{◌≡◌, ℕ, List, [], ◌∷◌, map, Bool, true, false, cond, Option, Some, None, Result, Ok, Err, refl, sym, ap, ◌∙◌, subst, ◌-◌}
+use Rattle.std.proofs.Common.{◌≡◌, ℕ, List, [], ◌∷◌, map, Bool, true, false, cond, Result, refl, sym, ap, ◌∙◌, subst}
 use Rattle.std.specs.Prelude.{nat_lt}
-use Rattle.scheme_model.specs.declared.Occ.{Occ}
-use Rattle.scheme_model.specs.Identifiers.{Number}
-use Rattle.scheme_model.specs.Ident.{Ident as Identifier, Inserted}
-use Rattle.scheme_model.specs.ExpansionFaults.{Fault, UseBudget}
-use Rattle.scheme_model.specs.Building.{Built, build}
+use Rattle.scheme_model.specs.Ident.{Ident as Identifier}
 use Rattle.scheme_model.specs.Trees.{Tree, Trees, Tail}
 use Rattle.scheme_model.specs.Meaning.{same_meaning}
 use Rattle.scheme_model.specs.RulesShape.{role_of, dots_of}
-use Rattle.scheme_model.specs.Matching.{Chosen, matcher, first_match, compared}
+use Rattle.scheme_model.specs.Matching.{compared}
 use Rattle.scheme_model.specs.Requirements.{Known}
 use Rattle.scheme_model.specs.Cores.{Target}
-use Rattle.scheme_model.specs.Steps.{Broken, ◌>>=◌, done, fails}
-use Rattle.scheme_model.specs.Order.{Note, Compared, WaitingUse, Instance, Transformer, comparisons, given, used, use_of, max_uses, max_nodes}
-use Rattle.scheme_model.specs.ScopedExpansion.{Frames, FramedIdent, ScopedState}
+use Rattle.scheme_model.specs.Steps.{Broken}
+use Rattle.scheme_model.specs.Order.{Here, Note, Compared, Instance, Transformer, comparisons, use_of, max_uses}
+use Rattle.scheme_model.specs.ScopedExpansion.{Frames, FramedIdent}
 use Rattle.syntax_tree.specs.Names.{AreToldApart}
 use Rattle.syntax_tree.specs.declared.trees.Work.{Work}
 use Rattle.syntax_tree.specs.declared.trees.table.Region.{Region}
@@ -28,13 +24,12 @@ use Rattle.unit_scopes.specs.declared.scope.UnitScope.{UnitScope}
 use Rattle.unit_scopes.specs.declared.uses.Comparison.{Comparison}
 use Rattle.unit_scopes.specs.declared.uses.Use as code_use
 use Rattle.noted_steps.specs.Kept.{CanUse}
-use Rattle.noted_steps.specs.Noting.{Noting, state_of, means_here, with_state, noting}
+use Rattle.noted_steps.specs.Noting.{Noting, state_of, means_here, noting}
 use Rattle.noted_steps.specs.Outcomes.{EndsHere}
 use Rattle.noted_steps.specs.Standing.{Stands, ComparedFor, with_notes}
 use Rattle.noted_steps.specs.Used.{pairs_of, compared_first}
-use Rattle.noted_steps.proofs.Lifts.{lift_here}
 use Rattle.noted_steps.proofs.NoteLaws.{plain_noted, plain_use}
-use Rattle.noted_steps.proofs.UseLaws.{use_is, use_lifted}
+use Rattle.noted_steps.proofs.UseLaws.{use_is, use_ends}
 
 -- notes alone were changed, twice
 pub noted_again : (u w v : UnitScope) → w ≡ with_notes u w.form.trace.notes → v ≡ with_notes w v.form.trace.notes → v ≡ with_notes u v.form.trace.notes
@@ -85,38 +80,10 @@ compared_for work ls literal_scope scope s known fs m ts tail cs h =
 
 -- ---- the use
 
--- it defines nothing, and keeps no macro
-module _ (known : Known) (here : Option Occ) (fs : Frames) (keyword : Target) (m : Transformer Frames Identifier) (ts : Trees Identifier) (tail : Tail Identifier) (s : ScopedState) where
-  abbrev Leaves : Result (Instance Identifier) Broken × ScopedState → Type 0
-  Leaves p = (p.1.table ≡ s.table) × (p.1.macros ≡ s.macros)
-
-  abbrev begun : ScopedState
-  begun = (searched known).begin_use m.env s
-
-  left_built : (r : Result (Built (Tree Identifier)) (Fault Identifier)) (w : WaitingUse Identifier) → Leaves (given (λ i. i) here r begun >>= λ b t. done (record { tree = b.value; met = w }) ((searched known).spend b.count t))
-  left_built (Ok b) w = (refl, refl)
-  left_built (Err e) w = (refl, refl)
-
-  left_rule : (k : Number) (o : Option (Chosen Identifier Identifier)) → Leaves (used (searched known) here keyword m k o begun)
-  left_rule k None = (refl, refl)
-  left_rule k (Some c) =
-      left_built (build (searched known).names m.rules (λ i. Inserted i k) c.rule.template c.match.bindings (max_nodes - ((searched known).counted begun).nodes)) (record { keyword = keyword; literals = c.match.met })
-
-  left_budget : (b : Bool) (k : Number) (o : Option (Chosen Identifier Identifier)) → Leaves (cond b (used (searched known) here keyword m k o begun) (fails here UseBudget s))
-  left_budget true k o = left_rule k o
-  left_budget false k o = (refl, refl)
-
-  use_left : Leaves (use_of (searched known) here fs keyword m ts tail s)
-  use_left =
-      left_budget (nat_lt (s.uses s.form) max_uses) ((searched known).next_use s)
-      (first_match (matcher (searched known).names m.rules (λ l j. same_meaning ((searched known).means m.env s l) ((searched known).means fs s j))) m.rules.rules ts tail)
-
 -- what a use gives without notes it gives with them, once its comparisons were asked
-pub use_noted : {X : Type 0} (P : X → Instance Identifier → Type 0) (known : Known) (here : Option Occ) (fs : Frames) (keyword : Target) (m : Transformer Frames Identifier) (ts : Trees Identifier) (tail : Tail Identifier) (s : Noting) (old new : Work) (region : Region) (u v : UnitScope) (ls : List Frames)
-    (r : Result X ExpandFault) → Stands old u ls (compared_first (noting known) fs m ts tail s) → AreToldApart new.symbols.idents → v.form.trace.notes ≡ u.form.trace.notes → v.macros ≡ u.macros → plain.EndsHere P old new region u v ls r (use_of (searched known) here fs keyword m ts tail (state_of s)) →
+pub use_noted : {X : Type 0} (P : X → Instance Identifier → Type 0) (known : Known) (here : Here) (fs : Frames) (keyword : Target) (m : Transformer Frames Identifier) (ts : Trees Identifier) (tail : Tail Identifier) (s : Noting) (old new : Work) (region : Region) (u v : UnitScope) (ls : List Frames)
+    (r : Result X ExpandFault) → Stands old u ls (compared_first (noting known) fs m ts tail s) → AreToldApart new.symbols.idents → v.form.trace ≡ u.form.trace → v.macros ≡ u.macros → plain.EndsHere P old new region u v ls r (use_of (searched known) here fs keyword m ts tail (state_of s)) →
     EndsHere P old new region u v ls r (use_of (noting known) here fs keyword m ts tail s)
-use_noted P known here fs keyword m ts tail s old new region u v ls r e apart notes macros h =
-    let a = compared_first (noting known) fs m ts tail s in
-    let left = use_left known here fs keyword m ts tail (state_of s) in
-    subst (λ (p : Result (Instance Identifier) Broken × Noting). EndsHere P old new region u v ls r p) (sym (use_is known here fs keyword m ts tail s ∙ use_lifted known here fs keyword m ts tail a))
-    (lift_here old new region u v ls a e apart P r (use_of (searched known) here fs keyword m ts tail (state_of s)) (record { notes = notes; macros = macros; table = left.0; rules = left.1 }) h)
+use_noted P known here fs keyword m ts tail s old new region u v ls r e apart trace macros h =
+    subst (λ (p : Result (Instance Identifier) Broken × Noting). EndsHere P old new region u v ls r p) (sym (use_is known here fs keyword m ts tail s))
+    (use_ends known here fs keyword m ts tail (compared_first (noting known) fs m ts tail s) P old new region u v ls r e apart trace macros h)

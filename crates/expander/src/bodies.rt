@@ -24,8 +24,8 @@ use core_tree::cores::{Binder, MacroDef};
 use feature_requirements::fault::ExpandFault;
 use form_parts::items::{Kept, Pending, Spot, forms_at};
 use ls_base::Mem;
-use noted_steps::meeting::meet_all;
-use noted_steps::rules::{note_macro, test_rules};
+use noted_steps::rules::{note_locals, test_rules};
+use noted_steps::uses::meet_all;
 use scheme_model::Occ;
 use scope_env::ScopeNo;
 use std::alloc::Global;
@@ -148,28 +148,14 @@ pub(crate) fn local_defs(
         AreLocalMacros work.now s binders.now vs ns →
         IfOk result (λ defs. AllMatch (IsMacroDef work.now s.unit s.form) defs.items (local_defs (noting known) s vs ns)) }
     ensures noted { (known : Known) (ls : List Frames) (s : Noting) (vs : List Number) (ns : List (Named Identifier)) → Stands work.now units.old ls s →
-        AreLocalMacros work.now s binders.now vs ns → Stands work.now units.new ls ((noting known).ask (locals_asked (noting known) s vs ns) s) }
+        AreLocalMacros work.now s binders.now vs ns → OnOk result (Stands work.now units.new ls ((noting known).ask (locals_asked (noting known) s vs ns) s)) }
     ensures rest { units.new ≡ with_notes units.old units.new.form.trace.notes }
 {
-    note_locals(units, work, binders);
     let mut defs = Vec::new(alloc);
     for binder in binders {
         let def = units.macro_def(alloc, work, *binder, Meaning::Local(binder.number))?;
         defs.push(def)?;
     }
+    note_locals(units, work, &defs);
     Ok(defs)
-}
-
-/// Notes what local macros and their leaves ask, of which the first comes to be the newest.
-fn note_locals(units: &mut UnitScope, work: &Work, binders: &[Binder])
-    requires { CanKeep work.now units.old binders.now }
-    ensures noted { (known : Known) (ls : List Frames) (s : Noting) (vs : List Number) (ns : List (Named Identifier)) → Stands work.now units.old ls s →
-        AreLocalMacros work.now s binders.now vs ns → Stands work.now units.new ls ((noting known).ask (locals_asked (noting known) s vs ns) s) }
-    ensures rest { units.new ≡ with_notes units.old units.new.form.trace.notes }
-{
-    let mut left = binders.len();
-    while 0 < left {
-        left -= 1;
-        note_macro(units, work, Meaning::Local(binders[left].number));
-    }
 }

@@ -24,6 +24,8 @@ use core_tree::cores::Binder;
 use feature_requirements::fault::ExpandFault;
 use form_parts::items::{Form, Kept, Pending, Spot};
 use form_parts::records::{Record, modified, used};
+use noted_steps::defining::{define, is_assigned};
+use noted_steps::rules::test_rules;
 use scheme_model::Occ;
 use std::alloc::Global;
 use syntax_tree::trees::{Tree, Work};
@@ -52,12 +54,12 @@ pub(crate) fn define_variable(
         PendingFor work.now region units.old.unit units.old.form.number pending.old p → NotesFor work.now ls asked.now p.notes → 1 ≤ given →
         GoesOn work.now work.now region units.old units.new ls spot fs p.todo given pending.new asked.now result (λ go. run_define (noting known) go form.here fs p (Variable n t) s) }
 {
-    if units.is_assigned(spot, name.ident) {
+    if is_assigned(units, spot, name.ident) {
         pending.aside.push(Kept::Assigned(name, form))?;
         return Ok(());
     }
     let binder = units.next_binder(spot, name);
-    units.define(work, spot, form.here, name, None, asked)?;
+    define(units, work, spot, form.here, name, None, asked)?;
     pending.aside.push(Kept::Value(binder, form))?;
     Ok(())
 }
@@ -81,14 +83,14 @@ pub(crate) fn define_function(
         PendingFor work.now region units.old.unit units.old.form.number pending.old p → NotesFor work.now ls asked.now p.notes → 1 ≤ given →
         GoesOn work.now work.now region units.old units.new ls spot fs p.todo given pending.new asked.now result (λ go. run_define (noting known) go here fs p (Procedure n c) s) }
 {
-    if units.is_assigned(spot, name.ident) {
+    if is_assigned(units, spot, name.ident) {
         pending
             .aside
             .push(Kept::AssignedFunction(name, here, clause))?;
         return Ok(());
     }
     let binder = units.next_binder(spot, name);
-    units.define(work, spot, here, name, None, asked)?;
+    define(units, work, spot, here, name, None, asked)?;
     pending.aside.push(Kept::Function(binder, here, clause))?;
     Ok(())
 }
@@ -114,7 +116,7 @@ fn define_all(
     let mut binders = Vec::new(alloc);
     for name in names {
         let binder = units.next_binder(spot, *name);
-        units.define(work, spot, here, *name, None, asked)?;
+        define(units, work, spot, here, *name, None, asked)?;
         binders.push(binder)?;
     }
     Ok(binders)
@@ -207,11 +209,11 @@ pub(crate) fn define_syntax(
         GoesOn work.now work.now region units.old units.new ls spot fs p.todo given pending.new asked.new result (λ go. run_syntax (noting known) go here fs p (n, t) s) }
 {
     units.note_rules(work, spot.scope, rules, asked)?;
-    units.test_rules(work, spot.scope, here, rules)?;
+    test_rules(units, work, spot.scope, here, rules)?;
     let defined = units.read_macro(alloc, work, spot.scope, here, rules)?;
     let binder = units.next_binder(spot, name);
     let meaning = units.next_meaning(spot, name.ident);
-    units.define(work, spot, here, name, Some(defined), asked)?;
+    define(units, work, spot, here, name, Some(defined), asked)?;
     pending.aside.push(Kept::Macro(binder, meaning))?;
     Ok(())
 }
