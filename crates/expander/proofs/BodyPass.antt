@@ -32,11 +32,13 @@ use Rattle.form_parts.specs.declared.items.Pending as code_pending
 use Rattle.form_parts.specs.declared.items.Spot.{Spot}
 use Rattle.form_parts.specs.declared.items.WaitingUse as code_waiting
 use Rattle.unit_scopes.specs.declared.scope.UnitScope.{UnitScope}
-use Rattle.noted_steps.proofs.BodiesStand.{body_stands, body_opens, new_binds}
+use Rattle.noted_steps.proofs.BodiesStand.{body_stands, new_binds}
+use Rattle.unit_scopes.proofs.BodiesStand.{body_opens}
+use Rattle.noted_steps.proofs.NoteLaws.{plainly}
 use Rattle.noted_steps.proofs.UsesMet.{MeetsAlone, met_stays, left_behind}
 use Rattle.expander.proofs.FormRows.{todo_stands}
 use Rattle.unit_scopes.proofs.OutcomeLaws.{grows_itself}
-use Rattle.noted_steps.specs.Noting.{Noting, next_number, noting}
+use Rattle.noted_steps.specs.Noting.{Noting, state_of, next_number, noting}
 use Rattle.noted_steps.specs.Standing.{Stands}
 use Rattle.noted_steps.specs.Stepped.{entered, entered_frames}
 use Rattle.noted_steps.specs.Outcomes.{Stays, Moves, Ends}
@@ -95,7 +97,7 @@ module _ (work : Work) (region : Region) (u w : UnitScope) (scope inner : ℕ) (
       inside = record {
         body = next_number s s.bodies;
         outer = fs;
-        opened = body_opens work u ls s scope fs at e;
+        opened = body_opens work u ls (state_of s) scope fs at (plainly work u ls s e);
         frames = refl;
         binds = new_binds work u ls s scope e;
       };

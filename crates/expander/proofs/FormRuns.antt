@@ -15,8 +15,8 @@ use Rattle.scheme_model.specs.Requirements.{Known}
 use Rattle.scheme_model.specs.Shapes.{Clause}
 use Rattle.scheme_model.specs.Cores.{Core, Set, Quasi, Lambda, Body, Parts, outside}
 use Rattle.scheme_model.specs.Steps.{Broken, Step, ◌>>=◌, done, fails}
-use Rattle.scheme_model.specs.Order.{Here, head_of, target_of, given}
-use Rattle.scheme_model.specs.Expression.{whole, expand, node, procedure, lambda, sequence, expressions, chosen_sequence, unless_keyword, quasi, each_of, symbol_or_hole}
+use Rattle.scheme_model.specs.Order.{Here, target_of, given}
+use Rattle.scheme_model.specs.Expression.{whole, expand, node, procedure, lambda, sequence, expressions, chosen_sequence, quasi, each_of, symbol_or_hole}
 use Rattle.scheme_model.specs.ScopedExpansion.{Frames}
 use Rattle.syntax_tree.specs.Works.{StandsFor}
 use Rattle.syntax_tree.specs.declared.trees.Work.{Work}
@@ -38,7 +38,7 @@ use Rattle.feature_requirements.specs.Faults.{plain_fault}
 use Rattle.expander.specs.Expanded.{ClauseStands}
 use Rattle.feature_requirements.specs.Judged.{Knows, ChoosesForms, chosen_among, forms_chosen, some_chosen}
 use Rattle.unit_scopes.specs.Outcomes.{At, Grows, SameForm}
-use Rattle.expander.specs.Ready.{BeginsBelow, TestsVariable}
+use Rattle.expander.specs.Ready.{BeginsBelow}
 use Rattle.expander.specs.declared.expressions.At as code_at
 use Rattle.feature_requirements.specs.declared.fault.ExpandFault.{ExpandFault}
 use Rattle.feature_requirements.specs.declared.fault.ExpandFault.TheVariants as fault
@@ -49,7 +49,7 @@ use Rattle.unit_scopes.proofs.CoreStandLaws.{target_on}
 use Rattle.expander.proofs.ExpandLaws.{EachRuns, each_node, each_node_fails}
 use Rattle.expander.proofs.HoleLaws.{quasi_holes, quasi_places}
 use Rattle.unit_scopes.proofs.OutcomeLaws.{leaves_itself}
-use Rattle.expander.proofs.ReadLaws.{unless_goes, tested_fails, target_at}
+use Rattle.expander.proofs.ReadLaws.{target_at}
 use Rattle.expander.proofs.ShapeParts.{IsMisplaced}
 use Rattle.expander.proofs.StepLaws.{node_runs, node_stops, node_none}
 use Rattle.noted_steps.specs.Noting.{Noting, means_here, noting}
@@ -93,23 +93,6 @@ module _ (old new : Work) (region : Region) (u w v : UnitScope) (at below : code
   pub assigned_fails : {V : Type 0} (Q : List Frames → V → Core → Type 0) (e : ExpandFault) → ValueRuns (Err e) → Runs Q old new region u v at.scope (Err e) assign
   assigned_fails Q e runs =
       node_stops old new region u w v at below 1 h (λ (layout : List Frames). CoreStands new v.unit v.form.number) Q value e (λ known fs t c. done (Set (target_of (noting known) fs t n.name n.occ) c)) runs
-
--- a variable that is assigned is no keyword
-module _ (work new : Work) (region : Region) (u v : UnitScope) (at : code_at.At) (x : NamePart) (n : Named Identifier) (name : IsName work x n) where
-  abbrev TestRuns : Result (Unit {0}) ExpandFault → Type 0
-  TestRuns result = (known : Known) (ls : List Frames) (s : Noting) (fs : Frames) (n : Named Identifier) → Stands work u ls s → At ls at.scope fs → IsName work x n → TestsVariable work s at.here n (head_of (noting known) fs s n.name) result
-
-  pub tested_runs : {V : Type 0} (Q : List Frames → V → Core → Type 0) (passed : Unit {0}) (go : Known → Frames → Step Noting Core) (result : Result V ExpandFault) → TestRuns (Ok passed) → Runs Q work new region u v at.scope result go →
-      Runs Q work new region u v at.scope result (λ known fs s. unless_keyword (noting known) at.here (head_of (noting known) fs s n.name) n (go known fs) s)
-  tested_runs Q passed go result tests runs = λ known ls s fs knows e there.
-      let h = head_of (noting known) fs s n.name in
-      subst (λ (p : Result Core Broken × Noting). Ends Q work new region u v ls result p) (sym (unless_goes known at.here n (go known fs) s h (tests known ls s fs n e there name))) (runs known ls s fs knows e there)
-
-  pub untested_runs : {V : Type 0} (P : V → Core → Type 0) (go : Known → Frames → Step Noting Core) (e : ExpandFault) → TestRuns (Err e) →
-      Runs (λ (layout : List Frames). P) work work region u u at.scope (Err e) (λ known fs s. unless_keyword (noting known) at.here (head_of (noting known) fs s n.name) n (go known fs) s)
-  untested_runs P go e tests = λ known ls s fs knows stands there.
-      let h = head_of (noting known) fs s n.name in
-      here_ends P work work region u u ls (Err e) (unless_keyword (noting known) at.here h n (go known fs) s) (tested_fails known work region u ls s at.here n (go known fs) h P e stands (tests known ls s fs n stands there name))
 
 -- ---- procedures
 

@@ -10,7 +10,7 @@ use Rattle.scheme_model.specs.Cores.{Core, Binder, Binders, RecordType, Part, Ex
 use Rattle.scheme_model.specs.Steps.{Step, done}
 use Rattle.scheme_model.specs.Order.{Form, Item}
 use Rattle.scheme_model.specs.Order as model
-use Rattle.scheme_model.specs.Expression.{whole, expand, lambda, assignment, item_part, macro_def, meaning_of}
+use Rattle.scheme_model.specs.Expression.{whole, expand, lambda, assignment, item_part, macro_def, macro_asked, meaning_of}
 use Rattle.scheme_model.specs.ScopedExpansion.{Frames}
 use Rattle.syntax_tree.specs.declared.trees.Work.{Work}
 use Rattle.syntax_tree.specs.declared.trees.table.Region.{Region}
@@ -32,11 +32,12 @@ use Rattle.unit_scopes.specs.declared.scope.UnitScope.{UnitScope}
 use Rattle.unit_scopes.proofs.CoreStandLaws.{binder_on, binders_on}
 use Rattle.expander.proofs.RowRuns.{at_form}
 use Rattle.expander.proofs.StepLaws.{runs_mapped, runs_fails}
-use Rattle.noted_steps.specs.Noting.{Noting, noting}
+use Rattle.noted_steps.specs.Noting.{Noting, state_of, noting}
 use Rattle.noted_steps.specs.Outcomes.{Runs}
-use Rattle.noted_steps.specs.Standing.{Stands}
+use Rattle.noted_steps.specs.Standing.{Stands, with_notes}
 use Rattle.noted_steps.proofs.NodeLaws.{here_done}
-use Rattle.noted_steps.proofs.OutcomeLaws.{here_ends, stays_itself}
+use Rattle.noted_steps.proofs.NoteLaws.{plainly}
+use Rattle.noted_steps.proofs.OutcomeLaws.{here_ends, stays_itself, moves_here, noted_stays}
 use Rattle.noted_steps.specs.Kept.{CanLook}
 
 -- a call at a place of its own, as one at this place
@@ -130,28 +131,31 @@ module _ (work : Work) (region : Region) (u : UnitScope) (scope turns depth : �
   record_runs r bs fs ms us binders fields modified used =
       given_runs (PartStands work u.unit u.form.number) work region u scope (parts.Fields bs fs ms us) (λ known fs s. fields_part r) (λ known ls s frames e. (bs, fs, ms, us, refl, binders, fields, modified, used))
 
-  pub macro_runs : (d : Binder) (here : Option Occ) (b : code_binder.Binder) (m : code_meaning.Meaning) (x : code_macro.MacroDef) → IsBinder work.symbols u.unit u.form.number b d → IsMeaning work.symbols u.unit u.form.number m (meaning_of d.bound d.ident) →
-      ((known : Known) (ls : List Frames) (s : Noting) (b2 : Binder) → Stands work u ls s → IsBinder work.symbols s.unit s.form b b2 → IsMeaning work.symbols s.unit s.form m (meaning_of b2.bound b2.ident) → IsMacroDef work s.unit s.form x (macro_def (noting known) s b2)) →
-      Runs (λ (layout : List Frames). PartStands work u.unit u.form.number) work work region u u scope (Ok (parts.Syntax x)) (λ known fs. item_part (expand (noting known) turns) (noting known) depth fs (model.Macro d here))
-  macro_runs d here b m x binder meaning told =
-      given_runs (PartStands work u.unit u.form.number) work region u scope (parts.Syntax x) (λ known fs s. syntax_part (macro_def (noting known) s d))
-      (λ known ls s fs e.
-      let on : (P : ℕ → ℕ → Type 0) → P u.unit u.form.number → P s.unit s.form = λ P h. subst (λ (n : ℕ). P n s.form) e.unit (subst (P u.unit) e.form.number h) in
-      let back : (P : ℕ → ℕ → Type 0) → P s.unit s.form → P u.unit u.form.number = λ P h. subst (λ (n : ℕ). P n u.form.number) (sym e.unit) (subst (P s.unit) (sym e.form.number) h) in (
-        x,
-        refl,
-        back (λ unit form. IsMacroDef work unit form x (macro_def (noting known) s d))
-            (told known ls s d e (on (λ unit form. IsBinder work.symbols unit form b d) binder) (on (λ unit form. IsMeaning work.symbols unit form m (meaning_of d.bound d.ident)) meaning)),
-      ))
-
 pub macro_told : (work : Work) (u : UnitScope) (scope : ℕ) (m : code_meaning.Meaning) (d : Binder) → CanLook work u scope → IsMeaning work.symbols u.unit u.form.number m (meaning_of d.bound d.ident) → CanTell work u m
 macro_told work u scope m d l h = record {
   layout = l.layout;
-  state = l.state;
+  state = state_of l.state;
   meaning = meaning_of d.bound d.ident;
-  stands = l.stands;
+  stands = plainly work u l.layout l.state l.stands;
   means = subst (λ (n : ℕ). IsMeaning work.symbols n l.state.form m (meaning_of d.bound d.ident)) l.stands.unit (subst (λ (n : ℕ). IsMeaning work.symbols u.unit n m (meaning_of d.bound d.ident)) l.stands.form.number h);
 }
+
+-- a macro, with what it asks
+module _ (work : Work) (region : Region) (u v : UnitScope) (scope turns depth : ℕ) (same : v ≡ with_notes u v.form.trace.notes) (d : Binder) (here : Option Occ) (b : code_binder.Binder) (m : code_meaning.Meaning) (x : code_macro.MacroDef)
+    (binder : IsBinder work.symbols u.unit u.form.number b d) (meaning : IsMeaning work.symbols u.unit u.form.number m (meaning_of d.bound d.ident))
+    (told : (known : Known) (ls : List Frames) (s : Noting) (b2 : Binder) → Stands work u ls s → IsBinder work.symbols s.unit s.form b b2 → IsMeaning work.symbols s.unit s.form m (meaning_of b2.bound b2.ident) → IsMacroDef work s.unit s.form x (macro_def (noting known) s b2))
+    (notes : (known : Known) (ls : List Frames) (s : Noting) (b2 : Binder) → Stands work u ls s → IsBinder work.symbols s.unit s.form b b2 → IsMeaning work.symbols s.unit s.form m (meaning_of b2.bound b2.ident) → Stands work v ls ((noting known).ask (macro_asked (noting known) s b2) s)) where
+  pub macro_runs : Runs (λ (layout : List Frames). PartStands work v.unit v.form.number) work work region u v scope (Ok (parts.Syntax x)) (λ known fs. item_part (expand (noting known) turns) (noting known) depth fs (model.Macro d here))
+  macro_runs = λ known ls s fs knows e there.
+      let on : (P : ℕ → ℕ → Type 0) → P u.unit u.form.number → P s.unit s.form = λ P h. subst (λ (n : ℕ). P n s.form) e.unit (subst (P u.unit) e.form.number h) in
+      let now : IsBinder work.symbols s.unit s.form b d = on (λ unit form. IsBinder work.symbols unit form b d) binder in
+      let means : IsMeaning work.symbols s.unit s.form m (meaning_of d.bound d.ident) = on (λ unit form. IsMeaning work.symbols unit form m (meaning_of d.bound d.ident)) meaning in
+      let t = (noting known).ask (macro_asked (noting known) s d) s in
+      let after = notes known ls s d e now means in
+      let def = told known ls s d e now means in
+      let back : IsMacroDef work v.unit v.form.number x (macro_def (noting known) s d) = subst (λ (n : ℕ). IsMacroDef work n v.form.number x (macro_def (noting known) s d)) (sym after.unit) (subst (λ (n : ℕ). IsMacroDef work s.unit n x (macro_def (noting known) s d)) (sym after.form.number) def) in
+      let stays = noted_stays work region u v ls s t e same after in
+      (syntax_part (macro_def (noting known) s d), moves_here work work region u v ls t stays, refl, (x, refl, back))
 
 -- so many turns are enough for what stands deeper
 pub enough_here : (depth uses turns : ℕ) → IsEnough depth uses turns → IsEnoughBelow depth uses turns

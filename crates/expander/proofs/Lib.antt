@@ -45,3 +45,5 @@ pub mod UseNotes  -- What a macro use asks, noted
 pub mod RulesNotes  -- The rules of macros, read where what is asked is noted
 pub mod MacroSteps  -- The definition of a macro
 pub mod NotedPass  -- x
+pub mod AskedRuns  -- x
+pub mod SetRuns  -- x

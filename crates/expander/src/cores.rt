@@ -6,7 +6,7 @@ ghost use Rattle.scheme_model.specs.Trees.{Tree as ModelTree, Trees};
 ghost use Rattle.scheme_model.specs.Shapes.{Clause as ModelClause, LocalMacros};
 ghost use Rattle.scheme_model.specs.ExpansionFaults.{Named};
 ghost use Rattle.scheme_model.specs.Order.{Item};
-ghost use Rattle.scheme_model.specs.Expression.{whole, body, expand, each_of, procedure, clauses, lambda, assignment, sequence, item_part, parts};
+ghost use Rattle.scheme_model.specs.Expression.{whole, body, expand, each_of, procedure, clauses, lambda, assignment, sequence, set, item_part, parts};
 ghost use Rattle.syntax_tree.specs.Works.{IsOpened, StandsFor};
 ghost use Rattle.syntax_tree.specs.Looks.{PartsStand};
 ghost use Rattle.core_forms.specs.Ends.{keyword_as, ShapeFor};
@@ -22,7 +22,7 @@ ghost use Rattle.unit_scopes.specs.Outcomes.{IsAtWork, IsEnough, IsEnoughBelow, 
 ghost use Rattle.expander.specs.Expanded.{AreAtWork, BodyAtWork, ClauseStands, macros_step, ShapeAtWork, ClauseAtWork, ClausesAtWork, KeptAtWork, AreKeptAtWork, MacrosAtWork};
 
 use crate::bodies::{in_place, keep_all, local_defs, pass_body, test_all_rules};
-use crate::expressions::{At, Ready, below, prepare, test_variable};
+use crate::expressions::{At, Ready, below, prepare, variable};
 use crate::passes::judge;
 use core_forms::{ClauseShape, CoreKeyword, CoreShape, LocalMacro, NamePart};
 use core_tree::cores::{Clause, Core, CorePart};
@@ -30,6 +30,8 @@ use feature_requirements::fault::{ExpandFault, code, fails};
 use feature_requirements::requirements::chosen_forms;
 use form_parts::items::{Kept, names_of};
 use form_parts::quasi::outside;
+use noted_steps::noted::note;
+use noted_steps::rules::macro_def;
 use std::alloc::Global;
 use syntax_tree::trees::{Region, Tree, Work};
 use unit_scopes::scope::UnitScope;
@@ -132,8 +134,7 @@ fn expand_shape(
         CoreShape::CaseLambda(clauses) => { case_lambda(units, alloc, work, region, at, &clauses) }
         CoreShape::If(parts) => conditional(units, alloc, work, region, at, &parts),
         CoreShape::Set { name, value } => {
-            test_variable(units, work, at, name)?;
-            assign(units, alloc, work, region, at, name, value)
+            set(units, alloc, work, region, at, name, value)
         }
         CoreShape::Begin(forms) => sequence(units, alloc, work, region, at, &forms),
         CoreShape::CondExpand(choices) => {
@@ -364,8 +365,8 @@ pub(crate) fn expand_kept_item(
             modified: Vec::from_slice(alloc, modified)?,
             used: Vec::from_slice(alloc, used)?,
         }),
-        Kept::Macro(binder, meaning) => Ok(CorePart::Syntax(units.macro_def(
-            alloc, work, *binder, *meaning,
+        Kept::Macro(binder, meaning) => Ok(CorePart::Syntax(macro_def(
+            units, alloc, work, *binder, *meaning,
         )?)),
     }
 }
@@ -436,7 +437,36 @@ fn conditional(
     Ok(Core::If(expand_all(units, alloc, work, region, below, parts)?))
 }
 
-/// The core of an assignment of what an expression gives.
+/// The core of an assignment. A keyword is no variable.
+#[cycle(core)]
+fn set(
+    units: &mut UnitScope,
+    alloc: Global,
+    work: &mut Work,
+    region: &Region,
+    at: At,
+    name: NamePart,
+    value: Tree,
+) -> Result<Core, ExpandFault>
+    requires opened { IsOpened work.old region.now }
+    requires look { CanLook work.old units.old at.scope }
+    requires name { HasNumber work.old name }
+    requires value { IsAtWork work.old region.now value }
+    requires room { HasRoom (2 ^ 43) units.old }
+    ensures runs { (n : Named Identifier) (t : ModelTree Identifier) (turns : ℕ) → IsName work.old name n → StandsFor work.old value t → IsEnoughBelow at.depth units.old.form.budget.uses turns →
+        Runs (λ ls. CoreStands work.new units.new.unit units.new.form.number) work.old work.new region.now units.old units.new at.scope result (λ known fs. set (expand (noting known) turns) (noting known) at.depth at.here fs (n, t)) }
+    ensures locals { OnOk result (Spends 0 units.old units.new) }
+{
+    let target = variable(units, work, at, name)?;
+    let below = below(units, at, 1)?;
+    let value = expand(units, alloc, work, region, below, value)?;
+    Ok(Core::Set {
+        target,
+        value: Box::new(alloc, value)?,
+    })
+}
+
+/// The core of a later definition of a variable, read as an assignment of what an expression gives.
 #[cycle(core)]
 fn assign(
     units: &mut UnitScope,
@@ -458,6 +488,7 @@ fn assign(
 {
     let below = below(units, at, 1)?;
     let target = units.target(work, at.scope, name);
+    note(units, work, target);
     let value = expand(units, alloc, work, region, below, value)?;
     Ok(Core::Set {
         target,
@@ -465,7 +496,7 @@ fn assign(
     })
 }
 
-/// The core of an assignment of a procedure.
+/// The core of a later definition of a variable as a procedure, read as an assignment.
 #[cycle(core)]
 fn assign_procedure(
     units: &mut UnitScope,
@@ -487,6 +518,7 @@ fn assign_procedure(
 {
     let below = below(units, at, 1)?;
     let target = units.target(work, at.scope, name);
+    note(units, work, target);
     let value = lambda(units, alloc, work, region, below, clause)?;
     Ok(Core::Set {
         target,

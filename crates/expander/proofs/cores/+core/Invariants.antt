@@ -44,6 +44,9 @@ decreases-case_lambda l = 8 * l.at.depth + 1
 abbrev pub decreases-conditional : goal.decreases-conditional
 decreases-conditional l = 8 * l.at.depth + 1
 
+abbrev pub decreases-set : goal.decreases-set
+decreases-set l = 8 * l.at.depth + 1
+
 abbrev pub decreases-assign : goal.decreases-assign
 decreases-assign l = 8 * l.at.depth + 1
 

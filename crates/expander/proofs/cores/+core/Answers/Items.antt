@@ -19,11 +19,12 @@ use Rattle.core_tree.specs.declared.cores.CorePart.TheVariants as core_parts
 use Rattle.core_tree.specs.declared.cores.FieldUse as code_field
 use Rattle.expander.specs.Expanded.{ClauseAtWork, KeptAtWork}
 use Rattle.unit_scopes.specs.Kept.{KeptFor}
-use Rattle.unit_scopes.specs.Outcomes.{IsAtWork, IsEnough, IsEnoughBelow}
+use Rattle.unit_scopes.specs.Outcomes.{IsAtWork, IsEnough, IsEnoughBelow, Spends}
 use Rattle.unit_scopes.specs.RulesTold.{CanTell}
 use Rattle.expander.specs.declared.expressions.At as code_at
 use Rattle.feature_requirements.specs.declared.fault.ExpandFault.TheVariants as fault
 use Rattle.form_parts.specs.declared.items.Kept as code_kept
+use Rattle.unit_scopes.specs.declared.scope.UnitScope.{UnitScope}
 use Rattle.expander.proofs.AfterLaws.{opened_on, room_on, spends_itself, spends_on, enough_later}
 use Rattle.expander.proofs.BodyRuns.{runs_nothing}
 use Rattle.expander.proofs.CycleCalls.{expand_after, lambda_after, item_after}
@@ -437,10 +438,11 @@ pub expand_kept_item-returns-in_err-macro_def-in-Macro-clause-runs : goal.expand
 expand_kept_item-returns-in_err-macro_def-in-Macro-clause-runs t c = λ i turns for enough.
     let a = c.args.work.now in
     let u = c.args.units.now in
+    let v = c.macro_def.new.units in
     let at = c.args.at in
-    let Q : List Frames → code_part.CorePart → Part → Type 0 = λ layout. PartStands a u.unit u.form.number in
+    let Q : List Frames → code_part.CorePart → Part → Type 0 = λ layout. PartStands a v.unit v.form.number in
     let f : Known → Frames → Step Noting Part = λ known fs. item_part (expand (noting known) turns) (noting known) at.depth fs i in
-    runs_err Q a a c.args.region.now u u at.scope c.from_residual-in_err-macro_def-in-Macro.result fault.Memory f c.from_residual-in_err-macro_def-in-Macro.ensures.1 (runs_nothing Q a c.args.region.now u u at.scope f)
+    runs_err Q a a c.args.region.now u v at.scope c.from_residual-in_err-macro_def-in-Macro.result fault.Memory f c.from_residual-in_err-macro_def-in-Macro.ensures.1 (runs_nothing Q a c.args.region.now u v at.scope f)
 
 pub expand_kept_item-returns-in_ok-from_slice-in-Record-4-clause-runs : goal.expand_kept_item-returns-in_ok-from_slice-in-Record-4-clause-runs
 expand_kept_item-returns-in_ok-from_slice-in-Record-4-clause-runs t c = λ i turns for enough.
@@ -479,12 +481,13 @@ expand_kept_item-returns-in_ok-macro_def-in-Macro-clause-runs t c = λ i turns f
     let a = c.args.work.now in
     let region = c.args.region.now in
     let u = c.args.units.now in
+    let v = c.macro_def.new.units in
     let at = c.args.at in
     let x = c.in_ok-macro_def-in-Macro.field-0 in
-    let P : List Frames → code_part.CorePart → Part → Type 0 = λ layout. PartStands a u.unit u.form.number in
+    let P : List Frames → code_part.CorePart → Part → Type 0 = λ layout. PartStands a v.unit v.form.number in
     let f : Item Identifier → Known → Frames → Step Noting Part = λ x known fs. item_part (expand (noting known) turns) (noting known) at.depth fs x in
-    as_macro a region u.unit u.form.number (λ y. Runs P a a region u u at.scope (Ok (core_parts.Syntax x)) (f y)) c.in-Macro.binder c.in-Macro.meaning i (subst (λ (x : code_kept.Kept). KeptFor a region u.unit u.form.number x i) c.in-Macro.is for)
-    (λ d here binder meaning. macro_runs a region u at.scope turns at.depth d here c.in-Macro.binder c.in-Macro.meaning x binder meaning c.in_ok-macro_def-in-Macro.ensures)
+    as_macro a region u.unit u.form.number (λ y. Runs P a a region u v at.scope (Ok (core_parts.Syntax x)) (f y)) c.in-Macro.binder c.in-Macro.meaning i (subst (λ (x : code_kept.Kept). KeptFor a region u.unit u.form.number x i) c.in-Macro.is for)
+    (λ d here binder meaning. macro_runs a region u v at.scope turns at.depth c.macro_def.ensures.rest d here c.in-Macro.binder c.in-Macro.meaning x binder meaning c.in_ok-macro_def-in-Macro.ensures.def c.in_ok-macro_def-in-Macro.ensures.noted)
 
 pub expand_kept_item-returns-in_ok-macro_def-in-Macro-clause-locals : goal.expand_kept_item-returns-in_ok-macro_def-in-Macro-clause-locals
-expand_kept_item-returns-in_ok-macro_def-in-Macro-clause-locals t c = spends_itself c.args.units.now
+expand_kept_item-returns-in_ok-macro_def-in-Macro-clause-locals t c = subst (λ (x : UnitScope). Spends 0 c.args.units.now x) (sym c.macro_def.ensures.rest) (spends_itself c.args.units.now)

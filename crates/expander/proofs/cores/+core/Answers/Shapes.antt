@@ -4,10 +4,9 @@ use Rattle.std.specs.List.{AllByRecursion}
 use denote.Enum.Bare.{true_same, false_same}
 use Rattle.scheme_model.specs.Measures.{tree_size}
 use Rattle.scheme_model.specs.Requirements.{Known}
-use Rattle.scheme_model.specs.Cores.{Core, If, CaseLambda, Lambda, Set}
-use Rattle.scheme_model.specs.Steps.{Step, ◌>>=◌, done}
-use Rattle.scheme_model.specs.Order.{target_of}
-use Rattle.scheme_model.specs.Expression.{assignment, whole, expand, node}
+use Rattle.scheme_model.specs.Cores.{Core, If, CaseLambda, Lambda}
+use Rattle.scheme_model.specs.Steps.{Step}
+use Rattle.scheme_model.specs.Expression.{whole, expand}
 use Rattle.scheme_model.specs.ScopedExpansion.{Frames}
 use Rattle.syntax_tree.specs.Looks.{PartsStand}
 use Rattle.syntax_tree.specs.Works.{StandsFor}
@@ -39,7 +38,7 @@ use Rattle.feature_requirements.specs.declared.fault.ExpandFault.{ExpandFault}
 use Rattle.expander.proofs.AfterLaws.{all_known, spends_on}
 use Rattle.expander.proofs.BelowLaws.{below_look, below_room, below_spends, below_enough}
 use Rattle.expander.proofs.ExpandLaws.{each_after}
-use Rattle.expander.proofs.FormRuns.{tested_runs, untested_runs, chosen_runs, chosen_fails, quasi_runs, quasi_fails, quasi_unbegun, chosen_here, misplaced_runs}
+use Rattle.expander.proofs.FormRuns.{chosen_runs, chosen_fails, quasi_runs, quasi_fails, quasi_unbegun, chosen_here, misplaced_runs}
 use Rattle.expander.proofs.ShapeParts.{as_quasi, as_lambda, as_case_lambda, as_if, as_set, as_local, clauses_for, parts_match, trees_of, trees_stand, misplaced_is, local_is}
 use Rattle.expander.proofs.ShapeKinds.{as_sequence, as_choices}
 use Rattle.expander.proofs.StepLaws.{runs_err, runs_same}
@@ -99,8 +98,8 @@ expand_shape-conditional-requires t c =
       (c.requires.opened, (c.requires.look, (subst (AreAtWork a region) (sym c.deref-in-If.ensures.value) (as_if a (λ x. ShapeFits x → AreAtWork a region c.in-If.parts.items) c.in-If.parts s.0 (subst (λ (x : code_shape.CoreShape). ShapeFor a x s.0) c.in-If.is s.1) (λ ts stand fit. (ts, stand, (subst (ShapeNamed a region) c.in-If.is c.requires.shape.2))) s.3), c.requires.room))),
     )
 
-pub expand_shape-assign-requires : goal.expand_shape-assign-requires
-expand_shape-assign-requires t c =
+pub expand_shape-set-requires : goal.expand_shape-set-requires
+expand_shape-set-requires t c =
     let a = c.args.work.now in
     let region = c.args.region.now in
     let s = c.requires.shape in
@@ -119,15 +118,6 @@ expand_shape-sequence-requires t c =
       first_of (omega arith, search rules, grind arith),
       (c.requires.opened, (c.requires.look, (subst (AreAtWork a region) (sym c.deref-in-Begin.ensures.value) (as_sequence a (λ x. ShapeFits x → AreAtWork a region c.in-Begin.forms.items) c.in-Begin.forms s.0 (subst (λ (x : code_shape.CoreShape). ShapeFor a x s.0) c.in-Begin.is s.1) (λ ts stand fit. (ts, stand, (subst (ShapeNamed a region) c.in-Begin.is c.requires.shape.2))) s.3), c.requires.room))),
     )
-
-pub expand_shape-test_variable-requires-clause-look : goal.expand_shape-test_variable-requires-clause-look
-expand_shape-test_variable-requires-clause-look t c = c.requires.look
-
-pub expand_shape-test_variable-requires-clause-name : goal.expand_shape-test_variable-requires-clause-name
-expand_shape-test_variable-requires-clause-name t c =
-    let a = c.args.work.now in
-    let s = c.requires.shape in
-    as_set a (λ x. ShapeFits x → HasNumber a c.in-Set.name) c.in-Set.name c.in-Set.value s.0 (subst (λ (x : code_shape.CoreShape). ShapeFor a x s.0) c.in-Set.is s.1) (λ n tree name stands fit. (n, name)) s.3
 
 pub expand_shape-returns-in_err-below-in-Quasi-clause-runs : goal.expand_shape-returns-in_err-below-in-Quasi-clause-runs
 expand_shape-returns-in_err-below-in-Quasi-clause-runs t c = λ k m turns keyword for fits left enough.
@@ -211,30 +201,17 @@ expand_shape-returns-in-If-clause-runs t c = λ k m turns keyword for fits left 
     let f : Shape → Known → Frames → Step Noting Core = λ x known fs. core_step (expand (noting known) turns) (noting known) at.depth at.here fs k x in
     as_if a (λ x. ShapeFits x → Runs Q a d region u v at.scope c.conditional.result (f x)) c.in-If.parts m (subst (λ (x : code_shape.CoreShape). ShapeFor a x m) c.in-If.is for) (λ ts stand fit. c.conditional.ensures.runs ts turns (subst (λ (l : List number.Tree). PartsStand a l ts) (sym c.deref-in-If.ensures.value) stand) enough) fits
 
-pub expand_shape-returns-in_err-test_variable-in-Set-clause-runs : goal.expand_shape-returns-in_err-test_variable-in-Set-clause-runs
-expand_shape-returns-in_err-test_variable-in-Set-clause-runs t c = λ k m turns keyword for fits left enough.
-    let a = c.args.work.now in
-    let d = c.args.work.now in
-    let region = c.args.region.now in
-    let u = c.args.units.now in
-    let v = c.args.units.now in
-    let at = c.args.at in
-    let Q : List Frames → code_core.Core → Core → Type 0 = λ layout. CoreStands d v.unit v.form.number in
-    let f : Shape → Known → Frames → Step Noting Core = λ x known fs. core_step (expand (noting known) turns) (noting known) at.depth at.here fs k x in
-    runs_err Q a d region u v at.scope c.from_residual-in_err-test_variable-in-Set.result c.in_err-test_variable-in-Set.field-0.0 (f m) c.from_residual-in_err-test_variable-in-Set.ensures.1
-    (as_set a (λ x. ShapeFits x → Runs Q a d region u v at.scope (Err c.in_err-test_variable-in-Set.field-0.0) (f x)) c.in-Set.name c.in-Set.value m (subst (λ (x : code_shape.CoreShape). ShapeFor a x m) c.in-Set.is for) (λ n tree name stands fit. untested_runs a a region u u at c.in-Set.name n name (CoreStands a u.unit u.form.number) (λ known fs. node (noting known) at.here 1 at.depth (λ below t1. expand (noting known) turns below at.here fs (whole tree) t1 >>= λ x. done (Set (target_of (noting known) fs t1 n.name n.occ) x))) c.in_err-test_variable-in-Set.field-0.0 c.in_err-test_variable-in-Set.ensures) fits)
-
 pub expand_shape-returns-in-Set-clause-runs : goal.expand_shape-returns-in-Set-clause-runs
 expand_shape-returns-in-Set-clause-runs t c = λ k m turns keyword for fits left enough.
     let a = c.args.work.now in
-    let d = c.assign.new.work in
+    let d = c.set.new.work in
     let region = c.args.region.now in
     let u = c.args.units.now in
-    let v = c.assign.new.units in
+    let v = c.set.new.units in
     let at = c.args.at in
     let Q : List Frames → code_core.Core → Core → Type 0 = λ layout. CoreStands d v.unit v.form.number in
     let f : Shape → Known → Frames → Step Noting Core = λ x known fs. core_step (expand (noting known) turns) (noting known) at.depth at.here fs k x in
-    as_set a (λ x. ShapeFits x → Runs Q a d region u v at.scope c.assign.result (f x)) c.in-Set.name c.in-Set.value m (subst (λ (x : code_shape.CoreShape). ShapeFor a x m) c.in-Set.is for) (λ n tree name stands fit. tested_runs a d region u v at c.in-Set.name n name Q tt (λ known fs. assignment (noting known) at.depth at.here fs n (λ below. expand (noting known) turns below at.here fs (whole tree))) c.assign.result c.in_ok-test_variable-in-Set.ensures (c.assign.ensures.runs n tree turns name stands enough)) fits
+    as_set a (λ x. ShapeFits x → Runs Q a d region u v at.scope c.set.result (f x)) c.in-Set.name c.in-Set.value m (subst (λ (x : code_shape.CoreShape). ShapeFor a x m) c.in-Set.is for) (λ n tree name stands fit. c.set.ensures.runs n tree turns name stands enough) fits
 
 pub expand_shape-returns-in-Begin-clause-runs : goal.expand_shape-returns-in-Begin-clause-runs
 expand_shape-returns-in-Begin-clause-runs t c = λ k m turns keyword for fits left enough.
@@ -261,7 +238,7 @@ pub expand_shape-returns-in-If-clause-locals : goal.expand_shape-returns-in-If-c
 expand_shape-returns-in-If-clause-locals t c = c.conditional.ensures.locals
 
 pub expand_shape-returns-in-Set-clause-locals : goal.expand_shape-returns-in-Set-clause-locals
-expand_shape-returns-in-Set-clause-locals t c = c.assign.ensures.locals
+expand_shape-returns-in-Set-clause-locals t c = c.set.ensures.locals
 
 pub expand_shape-returns-in-Begin-clause-locals : goal.expand_shape-returns-in-Begin-clause-locals
 expand_shape-returns-in-Begin-clause-locals t c = c.sequence.ensures.locals
