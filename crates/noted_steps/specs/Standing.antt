@@ -17,7 +17,9 @@ use Rattle.syntax_tree.specs.Meant.{IsMeaning}
 use Rattle.syntax_tree.specs.Names.{Names}
 use Rattle.syntax_tree.specs.declared.meaning.Meaning as code_meaning
 use Rattle.syntax_tree.specs.declared.trees.Work.{Work}
-use Rattle.core_tree.specs.Names.{IsTarget}
+use Rattle.core_tree.specs.Names.{AllMatch, IsTarget}
+use Rattle.core_tree.specs.declared.cores.MacroDef as code_def
+use Rattle.core_tree.specs.declared.cores.RuleLeaf as code_leaf
 use Rattle.core_tree.specs.declared.cores.Target as code_target
 use Rattle.question_laws.specs.Noted.{is_defined_in}
 use Rattle.form_notes.specs.Noted.{is_own}
@@ -69,3 +71,10 @@ pub record ComparedFor (work : Work) (s : Noting) (gs fs : Frames) (c : code_com
   pub literal : IsIdent work.symbols c.pair.literal q.0
   pub ident : IsIdent work.symbols c.pair.ident q.1
   pub held : c.held ≡ same_meaning (means_here s gs q.0) (means_here s fs q.1)
+
+-- a leaf of rules in the code, inside some frames; and a macro, whose leaves were found where it was defined
+abbrev pub LeafFor : Work → Noting → Frames → code_leaf.RuleLeaf → Named Identifier → Type 0
+LeafFor work s fs l n = TargetFor work s fs l.target n
+
+abbrev pub MacroFor : Work → Noting → code_def.MacroDef → Type 0
+MacroFor work s d = (fs : Frames) × (ns : List (Named Identifier)) × AllMatch (LeafFor work s fs) d.leaves.items ns

@@ -5,12 +5,11 @@ ghost use Rattle.scheme_model.specs.ExpansionFaults.{Named};
 ghost use Rattle.scheme_model.specs.Ident.{Ident as Identifier};
 ghost use Rattle.scheme_model.specs.Meaning.{Meaning as ModelMeaning};
 ghost use Rattle.scheme_model.specs.Order.{Headed, Meant, RulesOf, Alike, is_some};
-ghost use Rattle.scheme_model.specs.Questions.{bare_macro};
 ghost use Rattle.scheme_model.specs.Requirements.{Known};
-ghost use Rattle.scheme_model.specs.RulesShape.{option_map as map_option};
 ghost use Rattle.scheme_model.specs.ScopedExpansion.{Frames, ScopedState, macro_at};
 ghost use Rattle.syntax_tree.specs.Meant.{IsMeaning};
 ghost use Rattle.syntax_tree.specs.declared.trees.Work.{Work as AnyWork};
+ghost use Rattle.core_forms.specs.Parts.{IsName};
 ghost use Rattle.core_tree.specs.Names.{AllMatch};
 ghost use Rattle.unit_scopes.specs.State.{Stands as PlainStands};
 ghost use Rattle.unit_scopes.specs.Outcomes.{At, CanLook};
@@ -64,12 +63,40 @@ pub fn note_all(units: &mut UnitScope, work: &Work, targets: &[Target])
     }
 }
 
-/// Notes which rules what means this has, by their edition.
-pub fn note_rules(units: &mut UnitScope, meaning: Meaning, edition: u64)
-    ensures noted { (known : Known) (work : AnyWork) (ls : List Frames) (s : Noting) (m : ModelMeaning) → Stands work units.old ls s → IsMeaning work.symbols s.unit s.form meaning m →
-        s.since.editions edition ≡ map_option bare_macro (macro_at s.macros m) → Stands work units.new ls ((noting known).ask (RulesOf m ∷ []) s) }
+/// Notes an identifier where it is used.
+pub fn note_name(units: &mut UnitScope, work: &Work, scope: ScopeNo, name: NamePart)
+    requires look { CanLook work.now units.old scope }
+    requires ident { name.ident < length work.now.symbols.idents }
+    ensures noted { (known : Known) (ls : List Frames) (s : Noting) (fs : Frames) (n : Named Identifier) → Stands work.now units.old ls s → At ls scope fs → IsName work.now name n →
+        Stands work.now units.new ls ((noting known).ask (Meant fs n.name ∷ []) s) }
     ensures rest { units.new ≡ with_notes units.old units.new.form.trace.notes }
 {
+    let target = units.target(work, scope, name);
+    note(units, work, target);
+}
+
+/// Notes identifiers where they are used.
+pub fn note_names(units: &mut UnitScope, work: &Work, scope: ScopeNo, names: &[NamePart])
+    requires look { CanLook work.now units.old scope }
+    requires names { (ns : List (Named Identifier)) × AllMatch (IsName work.now) names.now ns }
+    ensures noted { (known : Known) (ls : List Frames) (s : Noting) (fs : Frames) (ns : List (Named Identifier)) → Stands work.now units.old ls s → At ls scope fs →
+        AllMatch (IsName work.now) names.now ns → Stands work.now units.new ls ((noting known).ask (map (λ n. Meant fs n.name) ns) s) }
+    ensures rest { units.new ≡ with_notes units.old units.new.form.trace.notes }
+{
+    let mut left = names.len();
+    while 0 < left {
+        left -= 1;
+        note_name(units, work, scope, names[left]);
+    }
+}
+
+/// Notes which rules what means this has, by their edition.
+pub fn note_use(units: &mut UnitScope, meaning: Meaning)
+    ensures noted { (known : Known) (work : AnyWork) (ls : List Frames) (s : Noting) (m : ModelMeaning) → Stands work units.old ls s → IsMeaning work.symbols s.unit s.form meaning m →
+        Stands work units.new ls ((noting known).ask (RulesOf m ∷ []) s) }
+    ensures rest { units.new ≡ with_notes units.old units.new.form.trace.notes }
+{
+    let edition = units.macros.edition(units.form.number, meaning);
     units.form.trace.notes.use_rules(meaning, edition);
 }
 
@@ -103,7 +130,7 @@ fn note_comparison(
 }
 
 /// An identifier without a place.
-fn named(ident: IdNo) -> NamePart
+pub(crate) fn named(ident: IdNo) -> NamePart
     ensures { result ≡ record { ident = ident; occ = None } }
 {
     NamePart { ident, occ: None }
