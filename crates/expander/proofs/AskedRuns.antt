@@ -7,7 +7,7 @@ use Rattle.scheme_model.specs.ExpansionFaults.{Named}
 use Rattle.scheme_model.specs.Ident.{Ident as Identifier}
 use Rattle.scheme_model.specs.Order.{Headed, Meant}
 use Rattle.scheme_model.specs.Requirements.{Known}
-use Rattle.scheme_model.specs.Steps.{Step}
+use Rattle.scheme_model.specs.Steps.{Broken, Step}
 use Rattle.scheme_model.specs.ScopedExpansion.{Frames, ScopedState}
 use Rattle.syntax_tree.specs.declared.trees.Work.{Work}
 use Rattle.syntax_tree.specs.declared.trees.table.Region.{Region}
@@ -23,9 +23,9 @@ use Rattle.unit_scopes.specs.Used.{target_at as used_at}
 use Rattle.unit_scopes.specs.declared.scope.UnitScope.{UnitScope}
 use Rattle.noted_steps.specs.Noting.{Noting, state_of, noting}
 use Rattle.noted_steps.specs.Standing.{Stands, TargetFor, with_notes}
-use Rattle.noted_steps.specs.Outcomes.{Runs}
+use Rattle.noted_steps.specs.Outcomes.{Stays, Ends, Runs}
 use Rattle.noted_steps.proofs.NoteLaws.{plainly}
-use Rattle.noted_steps.proofs.OutcomeLaws.{noted_stays, ends_after}
+use Rattle.noted_steps.proofs.OutcomeLaws.{moves_here, noted_stays, ends_after}
 use Rattle.expander.specs.Ready.{BeginsBelow}
 use Rattle.expander.specs.declared.expressions.At as code_at
 
@@ -35,13 +35,18 @@ noted_same u w same = subst (λ (x : UnitScope). SameForm u x) (sym same) (recor
 pub noted_knows : (u w : UnitScope) (known : Known) → w ≡ with_notes u w.form.trace.notes → Knows u.libraries known → Knows w.libraries known
 noted_knows u w known same knows = subst (λ (l : BTreeSet (String Global)). Knows l known) (sym (ap (λ (x : UnitScope). x.libraries) same)) knows
 
+-- a step that opens no scope, and then one that may
+pub stays_then : {X Y : Type 0} (P : List Frames → X → Y → Type 0) (a b c : Work) (region : Region) (u w v : UnitScope) (ls : List Frames) (s : Noting) (result : Result X ExpandFault) (p : Result Y Broken × Noting) → Stays a b region u w ls s → Ends P b c region w v ls result p → Ends P a c region u v ls result p
+unfolding moves_here
+stays_then P a b c region u w v ls s result p h ends = ends_after P a b c region u w v ls s result p (moves_here a b region u w ls s h) ends
+
 module _ {X Y : Type 0} (P : List Frames → X → Y → Type 0) (old new : Work) (region : Region) (u w v : UnitScope) (scope : ℕ) (same : w ≡ with_notes u w.form.trace.notes) (asked : Known → Frames → Noting → Noting)
     (notes : (known : Known) (ls : List Frames) (s : Noting) (fs : Frames) → Stands old u ls s → At ls scope fs → Stands old w ls (asked known fs s)) where
   pub asked_runs : (result : Result X ExpandFault) (g : Known → Frames → Step Noting Y) → Runs P old new region w v scope result g → Runs P old new region u v scope result (λ known fs s. g known fs (asked known fs s))
   asked_runs result g runs = λ known ls s fs knows stands at.
       let now = notes known ls s fs stands at in
       let a = asked known fs s in
-      ends_after P old old new region u w v ls a result (g known fs a) (noted_stays old region u w ls s a stands same now) (runs known ls a fs (noted_knows u w known same knows) now at)
+      stays_then P old old new region u w v ls a result (g known fs a) (noted_stays old region u w ls s a stands same now) (runs known ls a fs (noted_knows u w known same knows) now at)
 
 -- enough turns, by the uses that were begun
 pub enough_noted : (u w : UnitScope) (depth turns : ℕ) → w ≡ with_notes u w.form.trace.notes → IsEnough depth u.form.budget.uses turns → IsEnough depth w.form.budget.uses turns

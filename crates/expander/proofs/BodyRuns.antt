@@ -42,7 +42,7 @@ use Rattle.form_parts.specs.declared.items.Kept as code_kept
 use Rattle.unit_scopes.specs.declared.scope.UnitScope.{UnitScope}
 use Rattle.expander.proofs.AfterLaws.{IsAfter}
 use Rattle.expander.proofs.BelowLaws.{below_at, below_knows, node_below}
-use Rattle.unit_scopes.proofs.BindersStand.{binders_stand, BindersStand}
+use Rattle.noted_steps.proofs.BindersStand.{binders_stand, BindersStand}
 use Rattle.expander.proofs.CoreLaws.{binds_moves, body_is, inner_at}
 use Rattle.expander.proofs.LoopLaws.{knows_on}
 use Rattle.unit_scopes.proofs.OutcomeLaws.{leaves_itself}

@@ -13,8 +13,7 @@ use Rattle.scheme_model.specs.Substitution.{at_form}
 use Rattle.scheme_model.specs.Steps.{Broken, Step, ◌>>=◌, done}
 use Rattle.scheme_model.specs.Order.{Here, Item, forms_at, run, Left, meet_all}
 use Rattle.scheme_model.specs.Expression.{Expander, body, bound, procedure, expand, item_part, parts, left_of, body_in, local_macros, recursive, numbers}
-use Rattle.scheme_model.specs.CountedExpansion.{counted}
-use Rattle.scheme_model.specs.ScopedExpansion.{Bind, Frames}
+use Rattle.scheme_model.specs.ScopedExpansion.{Frames}
 use Rattle.syntax_tree.specs.Names.{AreToldApart}
 use Rattle.syntax_tree.specs.declared.trees.Work.{Work}
 use Rattle.syntax_tree.specs.declared.trees.table.Region.{Region}
@@ -37,7 +36,8 @@ use Rattle.unit_scopes.specs.Outcomes.{At}
 use Rattle.expander.specs.Expanded.{ClauseStands, macros_step}
 use Rattle.feature_requirements.specs.declared.fault.ExpandFault.{ExpandFault}
 use Rattle.unit_scopes.specs.declared.scope.UnitScope.{UnitScope}
-use Rattle.unit_scopes.proofs.BindersStand.{bound_is, roots_stay, binders_stand, BindersStand}
+use Rattle.unit_scopes.proofs.BindersStand.{roots_stay}
+use Rattle.noted_steps.proofs.BindersStand.{bound_is, binders_stand, BindersStand}
 use Rattle.unit_scopes.proofs.OutcomeLaws.{grows_itself}
 use Rattle.expander.proofs.RowLaws.{ends_mapped}
 use Rattle.unit_scopes.proofs.CoreStandLaws.{binders_on}
@@ -48,14 +48,6 @@ use Rattle.noted_steps.specs.Outcomes.{Moves, Ends, Runs}
 use Rattle.noted_steps.proofs.OutcomeLaws.{ends_after, ends_fails}
 
 -- ---- names that are bound
-
-pub bound_searched : {B : Type 0} (known : Known) (f : Frames → Trees Identifier → Step Noting B) (ns : List (Named Identifier)) (fs : Frames) (ts : Trees Identifier) (s : Noting) →
-    bound (noting known) f ns fs ts s ≡ bound (counted known) f ns fs ts s
-bound_searched known f [] fs ts s = refl
-bound_searched {B} known f (n ∷ ns) fs ts s =
-    let v = next_number s s.locals in
-    ap (λ (r : Result (List Binder × B) Broken × Noting). r >>= λ q. done (record { bound = LocalNumber v; ident = n.name; occ = n.occ } ∷ q.0, q.1))
-    (bound_searched known f ns (Bind n.name v ∷ fs) ts (record s { locals = at_form s.form suc s.locals }))
 
 with_rest : {B : Type 0} (bs : List Binder) (r : Result B Broken × Noting) → ((r >>= with_binders bs) >>= λ q. done q.1) ≡ r
 with_rest bs (Ok x, s) = refl
@@ -73,7 +65,7 @@ procedure_is known f depth here fs c s =
     let v = next_number s s.locals in
     let ns = c.formals.names in
     let inner : Frames → Trees Identifier → Step Noting Core = λ d ts. f depth here d (body ts) in
-    ap (λ (r : Result (List Binder × Core) Broken × Noting). r >>= λ q. done {A = Binders × Core} (record { names = q.0; rest = c.formals.rest }, q.1)) (bound_searched known inner ns fs c.body s ∙ bound_is known inner ns fs c.body s)
+    ap (λ (r : Result (List Binder × Core) Broken × Noting). r >>= λ q. done {A = Binders × Core} (record { names = q.0; rest = c.formals.rest }, q.1)) (bound_is known inner ns fs c.body s)
     ∙ as_clause (bound_binders v ns) c.formals.rest (inner (bound_frames v ns fs) c.body (taken (length ns) s))
 
 -- the new scope is the newest, and the others keep their frames
@@ -131,14 +123,14 @@ macros_are true known f depth here fs m s rules_at inside outside =
     let inner : Frames → Trees Identifier → Step Noting Core = recursive f (noting known) depth here (numbers v m.names) m.names in
     let gs = bound_frames v m.names fs in
     let region : Trees Identifier = tree (list m.rules proper None) m.body in
-    ap (λ (r : Result (List Binder × Core) Broken × Noting). r >>= λ q. done q.1) (bound_searched known inner m.names fs region s ∙ bound_is known inner m.names fs region s)
+    ap (λ (r : Result (List Binder × Core) Broken × Noting). r >>= λ q. done q.1) (bound_is known inner m.names fs region s)
     ∙ (with_rest (bound_binders v m.names) (inner gs region (taken (length m.names) s))
     ∙ ap (λ (hs : Frames). local_macros f (noting known) depth here (numbers v m.names) m.names hs m.rules gs m.body (taken (length m.names) s)) (sym (inside refl)))
 macros_are false known f depth here fs m s rules_at inside outside =
     let v = next_number s s.locals in
     let inner : Frames → Trees Identifier → Step Noting Core = λ d ts. local_macros f (noting known) depth here (numbers v m.names) m.names fs m.rules d ts in
     let gs = bound_frames v m.names fs in
-    ap (λ (r : Result (List Binder × Core) Broken × Noting). r >>= λ q. done q.1) (bound_searched known inner m.names fs m.body s ∙ bound_is known inner m.names fs m.body s)
+    ap (λ (r : Result (List Binder × Core) Broken × Noting). r >>= λ q. done q.1) (bound_is known inner m.names fs m.body s)
     ∙ (with_rest (bound_binders v m.names) (inner gs m.body (taken (length m.names) s))
     ∙ ap (λ (hs : Frames). local_macros f (noting known) depth here (numbers v m.names) m.names hs m.rules gs m.body (taken (length m.names) s)) (sym (outside refl)))
 

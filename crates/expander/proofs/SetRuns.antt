@@ -29,7 +29,7 @@ use Rattle.unit_scopes.specs.declared.scope.UnitScope.{UnitScope}
 use Rattle.unit_scopes.proofs.CoreStandLaws.{target_on}
 use Rattle.expander.specs.Ready.{BeginsBelow, TestsVariable}
 use Rattle.expander.specs.declared.expressions.At as code_at
-use Rattle.expander.proofs.AskedRuns.{noted_knows}
+use Rattle.expander.proofs.AskedRuns.{noted_knows, stays_then}
 use Rattle.expander.proofs.BelowLaws.{below_at, below_knows, node_below, node_unbegun}
 use Rattle.expander.proofs.ReadLaws.{unless_goes, tested_fails, target_at}
 use Rattle.expander.proofs.RowLaws.{ends_mapped}
@@ -37,7 +37,7 @@ use Rattle.noted_steps.specs.Noting.{Noting, means_here, noting}
 use Rattle.noted_steps.specs.Outcomes.{Ends, Runs}
 use Rattle.noted_steps.specs.Standing.{Stands, with_notes}
 use Rattle.noted_steps.specs.Stepped.{spent}
-use Rattle.noted_steps.proofs.OutcomeLaws.{ends_after, ends_fails, here_ends, noted_stays}
+use Rattle.noted_steps.proofs.OutcomeLaws.{ends_fails, here_ends, noted_stays}
 
 -- the test is of the head alone
 tests_on : (work : Work) (s t : Noting) (here : Option Occ) (n : Named Identifier) (h : Head) (r : Result (Unit {0}) ExpandFault) → TestsVariable work s here n h r → TestsVariable work t here n h r
@@ -70,7 +70,7 @@ module _ (old new : Work) (region : Region) (u u1 v : UnitScope) (at : code_at.A
       let a = asked known fs s in
       let now = notes known ls s fs n stands there name in
       subst (λ (p : Result Core Broken × Noting). Ends Q old new region u v ls result p) (sym (unless_goes known at.here n (go known fs) a (head_of (noting known) fs s n.name) (tests known ls s fs n stands there name)))
-      (ends_after Q old old new region u u1 v ls a result (go known fs a) (noted_stays old region u u1 ls s a stands same now) (next known ls s fs (noted_knows u u1 known same knows) stands now there))
+      (stays_then Q old old new region u u1 v ls a result (go known fs a) (noted_stays old region u u1 ls s a stands same now) (next known ls s fs (noted_knows u u1 known same knows) stands now there))
 
   module _ (w : UnitScope) (below : code_at.At) (h : BeginsBelow u1 w at 1 (Ok below)) where
     abbrev pub ValueRuns : Result code_core.Core ExpandFault → Type 0
@@ -114,5 +114,5 @@ module _ (old : Work) (region : Region) (u u1 : UnitScope) (at : code_at.At) (x 
       let now = notes known ls s fs n stands there name in
       let k = head_of (noting known) fs s n.name in
       let then : Step Noting Core = node (noting known) at.here 1 at.depth (λ d r. expand (noting known) turns d at.here fs (whole tree) r >>= λ c. done (Set (target_of (noting known) fs r n.name n.occ) c)) in
-      ends_after (λ (layout : List Frames). P) old old old region u u1 u1 ls a (Err e) (unless_keyword (noting known) at.here k n then a) (noted_stays old region u u1 ls s a stands same now)
+      stays_then (λ (layout : List Frames). P) old old old region u u1 u1 ls a (Err e) (unless_keyword (noting known) at.here k n then a) (noted_stays old region u u1 ls s a stands same now)
       (here_ends P old old region u1 u1 ls (Err e) (unless_keyword (noting known) at.here k n then a) (tested_fails known old region u1 ls a at.here n then k P e now (tests_on old s a at.here n k (Err e) (tests known ls s fs n stands there name))))

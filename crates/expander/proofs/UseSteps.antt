@@ -31,7 +31,7 @@ use Rattle.noted_steps.specs.Noting.{Noting, noting}
 use Rattle.noted_steps.specs.Standing.{Stands, with_notes}
 use Rattle.noted_steps.specs.Outcomes.{EndsHere}
 use Rattle.noted_steps.proofs.OutcomeLaws.{bound_goes, bound_fails}
-use Rattle.noted_steps.proofs.MeetingLaws.{met_stays}
+use Rattle.noted_steps.proofs.UsesMet.{met_stays}
 
 -- ---- what is built is small
 

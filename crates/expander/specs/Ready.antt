@@ -122,7 +122,7 @@ IsHeadTarget work s fs (Some n) (Some x) = IsTarget work.symbols s.unit s.form x
 abbrev pub IsHeaded : Work → Known → ScopedState → Frames → Tree Identifier → code_headed.Headed → Type 0
 IsHeaded work known s fs t (headed.Macro keyword) = IsMacroKeyword work known s fs t (Some keyword)
 IsHeaded work known s fs t (headed.Core core keyword) = IsSettled known s fs t × IsCoreKeyword work known s fs t (Some (core, keyword))
-IsHeaded work known s fs t (headed.Plain name) = IsSettled known s fs t × IsPlain known s fs t × IsHeadTarget work s fs (head_name_of t) (Some name)
+IsHeaded work known s fs t (headed.Plain keyword) = IsSettled known s fs t × IsPlain known s fs t × IsHeadTarget work s fs (head_name_of t) (Some keyword)
 IsHeaded work known s fs t headed.Nameless = IsSettled known s fs t × IsPlain known s fs t × IsHeadTarget work s fs (head_name_of t) None
 
 -- the keyword of a core form at the head of a form of the code, or that there is none

@@ -34,7 +34,7 @@ use form_parts::names::name_at;
 use form_parts::places::here_at;
 use ls_base::{Mem, Text};
 use noted_steps::forms::note_form;
-use noted_steps::meeting::meet;
+use noted_steps::uses::meet;
 use noted_steps::noted::note;
 use scheme_model::Occ;
 use scope_env::ScopeNo;

@@ -13,7 +13,7 @@ use Rattle.expander.proofs.UseSteps.{use_ends, use_breaks}
 use Rattle.expander.proofs.expressions.make_use.Goals as goal
 use Rattle.noted_steps.specs.Noting.{noting}
 use Rattle.noted_steps.specs.Used.{compared_first}
-use Rattle.noted_steps.proofs.MeetingLaws.{left_behind}
+use Rattle.noted_steps.proofs.UsesMet.{left_behind}
 use Rattle.noted_steps.proofs.NodeLaws.{here_err}
 use Rattle.noted_steps.proofs.OutcomeLaws.{here_after, noted_stays}
 

@@ -19,7 +19,7 @@ use Rattle.expander.proofs.passes.pass_use.Goals as goal
 use Rattle.noted_steps.specs.Noting.{Noting, noting}
 use Rattle.noted_steps.specs.Outcomes.{EndsHere}
 use Rattle.noted_steps.specs.Used.{compared_first}
-use Rattle.noted_steps.proofs.MeetingLaws.{left_behind}
+use Rattle.noted_steps.proofs.UsesMet.{left_behind}
 use Rattle.noted_steps.proofs.OutcomeLaws.{noted_stays}
 
 abbrev Step : Type 0
