@@ -35,15 +35,16 @@ pub mod RowRuns  -- Loops that do a step for each of a list
 pub mod KeptKinds  -- What was set aside in the code stands for an item of the same kind
 pub mod BodyRuns  -- A body is gone through and then expanded; procedures and local macros, in whose scope one stands
 pub mod FormRuns  -- Core forms with parts, each by the calls that the code makes for it
-pub mod LocalRuns  -- Local macros by the calls that the code makes for them
 pub mod ItemRuns  -- What was set aside is expanded, each kind by the calls that the code makes for it
 pub mod CycleCalls  -- What can be done after each call of the cycle of cores that was made
 pub mod LooseLaws  -- What stands without notes stands for a state whose notes aren't told
 pub mod PassForms  -- A form that is gone through, by its head
 pub mod CorePass  -- A core form that is gone through
 pub mod UseNotes  -- What a macro use asks, noted
-pub mod RulesNotes  -- The rules of macros, read where what is asked is noted
+pub mod RulesNotes  -- The rules of macros, looked up where what is asked is noted
 pub mod MacroSteps  -- The definition of a macro
-pub mod NotedPass  -- x
-pub mod AskedRuns  -- x
-pub mod SetRuns  -- x
+pub mod NotedPass  -- Where notes alone were changed before a step, forms are gone through as before
+pub mod AskedRuns  -- Steps behind what was asked
+pub mod LocalRuns  -- Local macros by the calls that the code makes for them
+pub mod SetRuns  -- An assignment
+pub mod PartLaws  -- A part of a form that notes what it asks

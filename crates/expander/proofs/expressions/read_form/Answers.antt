@@ -23,6 +23,9 @@ use Rattle.noted_steps.specs.Noting.{state_of, noting}
 use Rattle.expander.proofs.LooseLaws.{look_on}
 use Rattle.noted_steps.proofs.NoteLaws.{plainly, plain_noted, plain_look}
 
+pub note_form-requires-clause-look : goal.note_form-requires-clause-look
+note_form-requires-clause-look c = plain_look c.args.work.now c.args.units.now c.args.at.scope c.requires.look
+
 pub marks-requires-clause-look : goal.marks-requires-clause-look
 marks-requires-clause-look c = plain_look c.args.work.now c.note_form.new.units c.args.at.scope (look_on c.args.work.now c.args.units.now c.note_form.new.units c.note_form.ensures.rest c.args.at.scope c.requires.look)
 
@@ -35,8 +38,8 @@ returns-in-Err-clause-read c = λ known region ls s fs k head ts end o knows e a
     let here = c.args.at.here in
     let t = list (tree head ts) end o in
     let refused = parsed_as w c.args.core k c.in_ok-marks.marks (mark_here (state_of s) fs) head ts end o (Err c.in-Err.fault) is (λ q. c.in_ok-marks.ensures.marks q ls (state_of s) fs t (plain_noted w c.args.units.now c.note_form.new.units ls (state_of s) c.note_form.ensures.rest (plainly w c.args.units.now ls s e)) at works.0) c.in_ok-marks.ensures.none (λ m are. c.in-Err.ensures.shape k m t is are works.0) in
-    noted_reads known c.args.at.depth here w region c.args.units.now c.note_form.new.units c.note_form.new.units ls fs s k ts end (Err c.misread.result) e c.note_form.ensures.rest (c.note_form.ensures.noted known ls s fs k head ts end o e at is works.0)
-    (misread_reads known c.args.at.depth here fs s k ts end w region c.note_form.new.units ls (c.note_form.ensures.noted known ls s fs k head ts end o e at is works.0) (told here (core_fault c.in-Err.fault)) (Err c.misread.result)
+    noted_reads known c.args.at.depth here w region c.args.units.now c.note_form.new.units c.note_form.new.units ls fs s k ts end (Err c.misread.result) e c.note_form.ensures.rest (c.note_form.ensures.noted known ls s fs k head ts end o knows e at is works.0)
+    (misread_reads known c.args.at.depth here fs s k ts end w region c.note_form.new.units ls (c.note_form.ensures.noted known ls s fs k head ts end o knows e at is works.0) (told here (core_fault c.in-Err.fault)) (Err c.misread.result)
     c.misread.ensures
     (misread_is w here c.in-Err.fault (shape_here known c.args.at.depth here fs s k ts end) refused))
 
@@ -61,10 +64,10 @@ returns-in_err-quote-in-Quote-clause-read c = λ known region ls s fs k head ts 
     let read = parsed_as w c.args.core k c.in_ok-marks.marks (mark_here (state_of s) fs) head ts end o (Ok c.in-Ok.shape) is (λ q. c.in_ok-marks.ensures.marks q ls (state_of s) fs t (plain_noted w c.args.units.now c.note_form.new.units ls (state_of s) c.note_form.ensures.rest (plainly w c.args.units.now ls s e)) at works.0) c.in_ok-marks.ensures.none (λ m are. c.in-Ok.ensures.shape k m t is are works.0) in
     let q = quoted_is w c.in-Ok.shape c.in-Quote.datum read.0 c.in-Quote.is read.2 in
     let t1 = form_asked known fs k ts end s in
-    noted_reads known depth here w region c.args.units.now c.note_form.new.units c.quote.new.units ls fs s k ts end c.from_residual-in_err-quote-in-Quote.result e c.note_form.ensures.rest (c.note_form.ensures.noted known ls s fs k head ts end o e at is works.0)
+    noted_reads known depth here w region c.args.units.now c.note_form.new.units c.quote.new.units ls fs s k ts end c.from_residual-in_err-quote-in-Quote.result e c.note_form.ensures.rest (c.note_form.ensures.noted known ls s fs k head ts end o knows e at is works.0)
     (here_unread (CoreStands w u.unit u.form.number) known depth here w region u c.quote.new.units ls fs (λ f. core_form f (noting known) depth here fs k ts end s) (quote (noting known) depth here q.0 t1) c.in_err-quote-in-Quote.field-0.0 c.from_residual-in_err-quote-in-Quote.result c.from_residual-in_err-quote-in-Quote.ensures.1
     (λ f. shaped_goes known depth here fs s k ts end f read.0 read.1 ∙ ap (λ (m : Shape). core_step f (noting known) depth here fs k m t1) q.1)
-    (c.in_err-quote-in-Quote.ensures.quoted known region ls t1 q.0 (c.note_form.ensures.noted known ls s fs k head ts end o e at is works.0) q.2))
+    (c.in_err-quote-in-Quote.ensures.quoted known region ls t1 q.0 (c.note_form.ensures.noted known ls s fs k head ts end o knows e at is works.0) q.2))
 
 pub returns-in-Quote-clause-read : goal.returns-in-Quote-clause-read
 returns-in-Quote-clause-read c = λ known region ls s fs k head ts end o knows e at is works.
@@ -76,10 +79,10 @@ returns-in-Quote-clause-read c = λ known region ls s fs k head ts end o knows e
     let read = parsed_as w c.args.core k c.in_ok-marks.marks (mark_here (state_of s) fs) head ts end o (Ok c.in-Ok.shape) is (λ q. c.in_ok-marks.ensures.marks q ls (state_of s) fs t (plain_noted w c.args.units.now c.note_form.new.units ls (state_of s) c.note_form.ensures.rest (plainly w c.args.units.now ls s e)) at works.0) c.in_ok-marks.ensures.none (λ m are. c.in-Ok.ensures.shape k m t is are works.0) in
     let q = quoted_is w c.in-Ok.shape c.in-Quote.datum read.0 c.in-Quote.is read.2 in
     let t1 = form_asked known fs k ts end s in
-    noted_reads known depth here w region c.args.units.now c.note_form.new.units c.quote.new.units ls fs s k ts end (Ok (ready.Core c.in_ok-quote-in-Quote.field-0)) e c.note_form.ensures.rest (c.note_form.ensures.noted known ls s fs k head ts end o e at is works.0)
+    noted_reads known depth here w region c.args.units.now c.note_form.new.units c.quote.new.units ls fs s k ts end (Ok (ready.Core c.in_ok-quote-in-Quote.field-0)) e c.note_form.ensures.rest (c.note_form.ensures.noted known ls s fs k head ts end o knows e at is works.0)
     (here_reads known depth here w region u c.quote.new.units ls fs (λ f. core_form f (noting known) depth here fs k ts end s) (quote (noting known) depth here q.0 t1) c.in_ok-quote-in-Quote.field-0
     (λ f. shaped_goes known depth here fs s k ts end f read.0 read.1 ∙ ap (λ (m : Shape). core_step f (noting known) depth here fs k m t1) q.1)
-    (c.in_ok-quote-in-Quote.ensures.quoted known region ls t1 q.0 (c.note_form.ensures.noted known ls s fs k head ts end o e at is works.0) q.2))
+    (c.in_ok-quote-in-Quote.ensures.quoted known region ls t1 q.0 (c.note_form.ensures.noted known ls s fs k head ts end o knows e at is works.0) q.2))
 
 pub name-requires : goal.name-requires
 name-requires c =
@@ -104,8 +107,8 @@ returns-in-SyntaxError-clause-read c = λ known region ls s fs k head ts end o k
     let same : c.in_ok-text-in-SyntaxError.text ≡ q.0 = c.in_ok-text-in-SyntaxError.ensures ∙ same_Some c.name.result.now q.0 (sym c.name.ensures ∙ q.2) in
     let told : c.fails_with.result ≡ text_fault here q.0 = c.fails_with.ensures ∙ ap (text_fault here) same in
     subst (λ (x : ExpandFault). Reads known depth here w region c.args.units.now v1 ls fs (Err x) (λ f. core_form f (noting known) depth here fs k ts end s)) (sym told)
-    (noted_reads known depth here w region c.args.units.now c.note_form.new.units v1 ls fs s k ts end (Err (text_fault here q.0)) e c.note_form.ensures.rest (c.note_form.ensures.noted known ls s fs k head ts end o e at is works.0)
-    (refused_reads known depth here fs s k ts end w region v1 ls (c.note_form.ensures.noted known ls s fs k head ts end o e at is works.0) (ErrorText q.0) (SyntaxError q.0) (text_fault here q.0) (read.1 ∙ ap (λ (m : Shape). Ok m) q.1) (λ f. refl) (record { code = refl; name = tt; place = refl; here = refl; text = refl })))
+    (noted_reads known depth here w region c.args.units.now c.note_form.new.units v1 ls fs s k ts end (Err (text_fault here q.0)) e c.note_form.ensures.rest (c.note_form.ensures.noted known ls s fs k head ts end o knows e at is works.0)
+    (refused_reads known depth here fs s k ts end w region v1 ls (c.note_form.ensures.noted known ls s fs k head ts end o knows e at is works.0) (ErrorText q.0) (SyntaxError q.0) (text_fault here q.0) (read.1 ∙ ap (λ (m : Shape). Ok m) q.1) (λ f. refl) (record { code = refl; name = tt; place = refl; here = refl; text = refl })))
 
 pub returns-in-Include-clause-read : goal.returns-in-Include-clause-read
 returns-in-Include-clause-read c = λ known region ls s fs k head ts end o knows e at is works.
@@ -117,8 +120,8 @@ returns-in-Include-clause-read c = λ known region ls s fs k head ts end o knows
     let read = parsed_as w c.args.core k c.in_ok-marks.marks (mark_here (state_of s) fs) head ts end o (Ok c.in-Ok.shape) is (λ q. c.in_ok-marks.ensures.marks q ls (state_of s) fs t (plain_noted w c.args.units.now c.note_form.new.units ls (state_of s) c.note_form.ensures.rest (plainly w c.args.units.now ls s e)) at works.0) c.in_ok-marks.ensures.none (λ m are. c.in-Ok.ensures.shape k m t is are works.0) in
     let q = inclusion_is w c.in-Ok.shape read.0 c.in-Include.is read.2 in
     subst (λ (x : ExpandFault). Reads known depth here w region c.args.units.now v1 ls fs (Err x) (λ f. core_form f (noting known) depth here fs k ts end s)) (sym c.fails.ensures)
-    (noted_reads known depth here w region c.args.units.now c.note_form.new.units v1 ls fs s k ts end (Err (plain_fault here 48)) e c.note_form.ensures.rest (c.note_form.ensures.noted known ls s fs k head ts end o e at is works.0)
-    (refused_reads known depth here fs s k ts end w region v1 ls (c.note_form.ensures.noted known ls s fs k head ts end o e at is works.0) Inclusion IncludeRefused (plain_fault here 48) (read.1 ∙ ap (λ (m : Shape). Ok m) q) (λ f. refl) (plain_is w.symbols here IncludeRefused refl refl)))
+    (noted_reads known depth here w region c.args.units.now c.note_form.new.units v1 ls fs s k ts end (Err (plain_fault here 48)) e c.note_form.ensures.rest (c.note_form.ensures.noted known ls s fs k head ts end o knows e at is works.0)
+    (refused_reads known depth here fs s k ts end w region v1 ls (c.note_form.ensures.noted known ls s fs k head ts end o knows e at is works.0) Inclusion IncludeRefused (plain_fault here 48) (read.1 ∙ ap (λ (m : Shape). Ok m) q) (λ f. refl) (plain_is w.symbols here IncludeRefused refl refl)))
 
 pub returns : goal.returns
 returns c = record {
@@ -127,8 +130,8 @@ returns c = record {
       let t = list (tree head ts) end o in
       let read = parsed_as w c.args.core k c.in_ok-marks.marks (mark_here (state_of s) fs) head ts end o (Ok c.in-Ok.shape) is (λ q. c.in_ok-marks.ensures.marks q ls (state_of s) fs t (plain_noted w c.args.units.now c.note_form.new.units ls (state_of s) c.note_form.ensures.rest (plainly w c.args.units.now ls s e)) at works.0) c.in_ok-marks.ensures.none (λ m are. c.in-Ok.ensures.shape k m t is are works.0) in
       let few : trees_size ts ≤ 4194304 = omega (arith, c.trees_fit.ensures.nodes c.args.form t works.0) in
-      noted_reads known c.args.at.depth c.args.at.here w region c.args.units.now c.note_form.new.units c.note_form.new.units ls fs s k ts end (Ok (ready.Shape c.args.core c.in-Ok.shape)) e c.note_form.ensures.rest (c.note_form.ensures.noted known ls s fs k head ts end o e at is works.0)
-      (shape_reads known c.args.at.depth c.args.at.here fs s k ts end w region c.note_form.new.units ls (c.note_form.ensures.noted known ls s fs k head ts end o e at is works.0) c.args.core c.in-Ok.shape read.0 is read.1 read.2 (c.in-Ok.ensures.named region works.1) few
+      noted_reads known c.args.at.depth c.args.at.here w region c.args.units.now c.note_form.new.units c.note_form.new.units ls fs s k ts end (Ok (ready.Shape c.args.core c.in-Ok.shape)) e c.note_form.ensures.rest (c.note_form.ensures.noted known ls s fs k head ts end o knows e at is works.0)
+      (shape_reads known c.args.at.depth c.args.at.here fs s k ts end w region c.note_form.new.units ls (c.note_form.ensures.noted known ls s fs k head ts end o knows e at is works.0) c.args.core c.in-Ok.shape read.0 is read.1 read.2 (c.in-Ok.ensures.named region works.1) few
       (shape_left w c.in-Ok.shape read.0 read.2 c.in_default.not-Quote c.in_default.not-SyntaxError c.in_default.not-Include));
   locals = ap (λ (x : UnitScope). x.form.budget.locals) c.note_form.ensures.rest;
 }

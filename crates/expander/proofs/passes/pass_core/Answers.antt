@@ -64,7 +64,8 @@ note_form-requires-clause-look c =
     let region = c.requires.can.0 in
     let target = c.requires.keyword in
     let can = can_pass_met work region u c.args.spot (tree_size f.0) 0 c.args.pending.now c.args.asked.now c.args.keyword target.0 (c.requires.can.1 f.0 f.1) target.1 (omega arith) in
-    subst (λ (w : UnitScope). CanLook work w c.args.spot.scope) (sym (ap (with_keywords u) c.in_ok-push-2.ensures.ok)) (can_look work region (with_keyword u c.args.keyword) c.args.spot 0 c.args.pending.now c.args.asked.now can)
+    plain_look work (with_keywords u c.push-2.new.self) c.args.spot.scope
+    (subst (λ (w : UnitScope). CanLook work w c.args.spot.scope) (sym (ap (with_keywords u) c.in_ok-push-2.ensures.ok)) (can_look work region (with_keyword u c.args.keyword) c.args.spot 0 c.args.pending.now c.args.asked.now can))
 
 pub pass_shape-requires : goal.pass_shape-requires
 pass_shape-requires c =
@@ -119,7 +120,7 @@ returns-in-Err c = λ known region ls s fs k t m head ts tail o p knows stands p
     let w0 = with_keywords u c.push-2.new.self in
     let meets : w0 ≡ with_keyword u c.args.keyword = ap (with_keywords u) c.in_ok-push-2.ensures.ok in
     let after = subst (λ (v : UnitScope). Stands work v ls (met t s)) (sym meets) (keyword_stays work region u ls s c.args.keyword t target stands).stands in
-    let now = c.note_form.ensures.noted known ls (met t s) fs k head ts tail o after placed.at is (subst (StandsFor work c.args.form.tree) split on.1.0) in
+    let now = c.note_form.ensures.noted known ls (met t s) fs k head ts tail o knows after placed.at is (subst (StandsFor work c.args.form.tree) split on.1.0) in
     core_misread known work region u w0 c.note_form.new.units ls c.args.spot fs s p k c.args.keyword t m c.args.here head ts tail o (tree_size m.tree) c.args.pending.now c.args.asked.now unmarked effect split meets c.note_form.ensures.rest target stands now
     c.in-Err.fault c.misread.result c.misread.ensures refused placed notes
 
@@ -134,7 +135,7 @@ returns c = λ known region ls s fs k t m head ts tail o p knows stands placed i
     let h = c.in-Ok.ensures.shape k unmarked m.tree is (no_marks work c.new.result c.new.ensures) on.1.0 in
     let size = c.trees_fit.ensures.nodes c.args.form.tree m.tree on.1.0 in
     let after = subst (λ (v : UnitScope). Stands work v ls (met t s)) (sym meets) (keyword_stays work region u ls s c.args.keyword t target stands).stands in
-    let now = c.note_form.ensures.noted known ls (met t s) fs k head ts tail o after placed.at is (subst (StandsFor work c.args.form.tree) split on.1.0) in
+    let now = c.note_form.ensures.noted known ls (met t s) fs k head ts tail o knows after placed.at is (subst (StandsFor work c.args.form.tree) split on.1.0) in
     let there = asked_placed known work region u w0 w ls c.args.spot fs s p k c.args.keyword t m c.args.here head ts tail o (tree_size m.tree) c.pass_shape.new.pending c.pass_shape.new.asked unmarked effect split meets c.note_form.ensures.rest target stands now placed in
     let same : w ≡ with_keyword_notes u c.args.keyword w.form.trace.notes = c.note_form.ensures.rest ∙ ap (λ (y : UnitScope). with_notes y w.form.trace.notes) meets in
     core_goes known work region u w0 w ls c.args.spot fs s p k c.args.keyword t m c.args.here head ts tail o (tree_size m.tree) c.pass_shape.new.pending c.pass_shape.new.asked unmarked effect split meets c.note_form.ensures.rest target stands now
