@@ -104,7 +104,7 @@ ends_handed_on P old new region u v ls (Err f) e p same h = subst (λ (g : Expan
 -- ---- the form to which work goes
 
 pub note_turned : (work : Work) (u u1 : UnitScope) (number : ℕ) (budget : Budget) (trace : Trace) (editions : Editions) (ms : List Noted) (s : ScopedState) → u1 ≡ record u { form = form_at number budget trace } → CanNote work u trace editions ms s → CanNote work u1 u1.form.trace editions ms s
-note_turned work u u1 number budget trace editions ms s turn h = subst (λ (x : UnitScope). CanNote work x x.form.trace editions ms s) (sym turn) (record { editions = h.editions; notes = h.notes })
+note_turned work u u1 number budget trace editions ms s turn h = subst (λ (x : UnitScope). CanNote work x x.form.trace editions ms s) (sym turn) (record { tells = h.tells; notes = h.notes })
 
 -- ---- uses that are met
 

@@ -39,7 +39,7 @@ part_begun found editions ms s = going true (length found) (beginning s.unit s.f
 
 -- the editions tell the rules of macros, and these are the notes so far
 pub record CanNote (work : Work) (u : UnitScope) (trace : Trace) (editions : Editions) (ms : List Noted) (s : ScopedState) : Type 0 where
-  pub editions : EditionsTell work.symbols u.macros s editions
+  pub tells : EditionsTell work.symbols u.macros s editions
   pub notes : HaveNotes work.symbols (beginning s.unit s.form (s.uses s.form) editions) trace.notes.notes ms
 
 -- the notes where it has ended

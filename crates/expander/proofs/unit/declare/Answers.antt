@@ -54,7 +54,7 @@ pub returns-clause-noted : goal.returns-clause-noted
 returns-clause-noted c = λ known ls s notes t editions ms knows stands asked for can.
     let u = c.args.units.now in let u1 = c.begin_notes.new.units in let v = c.go_through-left.new.units in let w = c.args.work.now in let new = c.go_through-left.new.work in let region = c.args.region.now in let same = c.begin_notes.ensures.rest in
     let start = part_begun notes editions ms s in
-    let begun = c.begin_notes.ensures.begun w ls s true (length notes) editions ms stands (λ h. can.editions) (λ h. can.notes) in
+    let begun = c.begin_notes.ensures.begun w ls s true (length notes) editions ms stands (λ h. can.tells) (λ h. can.notes) in
     let asked1 = subst (λ (x : UnitScope). NotesFor w ls x.asked notes) (sym same) asked in
     let p = set_noting known t notes start in
     let h = c.go_through-left.ensures.sets known ls start notes t (noted_knows u u1 known same knows) begun asked1 for in

@@ -64,7 +64,7 @@ pub returns-clause-noted : goal.returns-clause-noted
 returns-clause-noted c = λ known ls s notes i editions ms knows stands item can.
     let u = c.args.units.now in let u1 = c.begin_notes.new.units in let v = c.expand_at_root-part.new.units in let w = c.args.work.now in let new = c.expand_at_root-part.new.work in let region = c.args.region.now in let same = c.begin_notes.ensures.rest in
     let start = part_begun notes editions ms s in
-    let begun = c.begin_notes.ensures.begun w ls s true (length notes) editions ms stands (λ h. can.editions) (λ h. can.notes) in
+    let begun = c.begin_notes.ensures.begun w ls s true (length notes) editions ms stands (λ h. can.tells) (λ h. can.notes) in
     let item1 = subst (λ (x : UnitScope). ItemFor w region x.unit x.form.number c.args.item.now i) (sym same) item in
     let p = expand_noting known i start in
     let h = c.expand_at_root-part.ensures.part known ls start i (noted_knows u u1 known same knows) begun item1 in
