@@ -112,7 +112,7 @@ module _ (known : Known) (s : Noting) where
   one_same ms (Assigns fs i) = refl
   one_same ms (Library l) = refl
 
-  all_same : (ms : List Noted) (qs : Questions) (ns : List Noted) → noted_with known (record s { noted = ms }) qs ns ≡ noted_with known s qs ns
+  pub all_same : (ms : List Noted) (qs : Questions) (ns : List Noted) → noted_with known (record s { noted = ms }) qs ns ≡ noted_with known s qs ns
   all_same ms [] ns = refl
   all_same ms (q ∷ qs) ns = let here = one_same ms q in let rest = all_same ms qs ns in λ j. here j ++ rest j
 

@@ -8,7 +8,8 @@ use Rattle.scheme_model.specs.ExpansionFaults.{Named, KeywordRedefined, Duplicat
 use Rattle.scheme_model.specs.Meaning as model
 use Rattle.scheme_model.specs.RulesShape.{Rules}
 use Rattle.scheme_model.specs.Steps.{Broken}
-use Rattle.scheme_model.specs.Order.{Here, Pending, Renamed, is_some, told}
+use Rattle.scheme_model.specs.Order.{Here, Assigns, Pending, Renamed, is_some, told}
+use Rattle.scheme_model.specs.Requirements.{Known}
 use Rattle.scheme_model.specs.Questions.{Outcome, Stands as stands_outcome, Redefines, StoodBefore, outcome_by}
 use Rattle.scheme_model.specs.Substitution.{Defined, Table, defined_in, unchanged}
 use Rattle.scheme_model.specs.ScopedExpansion.{Frames, FramedIdent, ScopedState, body_around, definition_added, is_defined}
@@ -23,7 +24,7 @@ use Rattle.core_forms.specs.declared.shape.NamePart.{NamePart}
 use Rattle.core_tree.specs.Traces.{IsFault}
 use Rattle.core_tree.specs.declared.traces.FormFault.{FormFault}
 use Rattle.question_laws.specs.Noted.{is_defined_in}
-use Rattle.form_notes.specs.Noted.{Noted, Since, is_own, defined_as, defining}
+use Rattle.form_notes.specs.Noted.{Noted, Since, assigned_as, defined_as, defining}
 use Rattle.form_notes.specs.Standing.{NotingStands, outcome_as}
 use Rattle.form_notes.specs.declared.noting.Noting as code_noting
 use Rattle.feature_requirements.specs.declared.fault.ExpandFault.{ExpandFault}
@@ -42,7 +43,7 @@ use Rattle.unit_scopes.proofs.DefineLaws.{is_in_on}
 use Rattle.unit_scopes.proofs.OutcomeLaws.{same_itself}
 use Rattle.noted_steps.specs.Defined.{failed_as}
 use Rattle.noted_steps.specs.Kept.{SpotFor, GoesTo, EndsIn}
-use Rattle.noted_steps.specs.Noting.{Noting, state_of, with_state, next_number, refused, own_notes, ended, owned, define_by, define_noting}
+use Rattle.noted_steps.specs.Noting.{Noting, state_of, with_state, next_number, assigned, in_unit, noting, refused, own_notes, ended, owned, define_by, define_noting}
 use Rattle.noted_steps.specs.Outcomes.{Breaks}
 use Rattle.noted_steps.specs.Standing.{Stands, EditionsStand, with_notes}
 use Rattle.noted_steps.proofs.EditionLaws.{editions_beside, local_apart, global_apart, others_stay}
@@ -51,7 +52,7 @@ use Rattle.noted_steps.proofs.NoteLaws.{plain_notes, notes_stand}
 clash : {P : Type 0} → false ≡ true → P
 clash h = absurd cc
 
-abbrev Same : Pending Identifier FramedIdent → Unit {0} → Renamed Identifier FramedIdent → Type 0
+abbrev pub Same : Pending Identifier FramedIdent → Unit {0} → Renamed Identifier FramedIdent → Type 0
 Same p done made = made ≡ unchanged p
 
 -- ---- what the step comes to, by whether the definition is refused and whether it is the second
@@ -91,6 +92,28 @@ module _ (here : Here) (b : Option Number) (n : Named Identifier) (r : Option (R
   failed_by false true e f h is = ap (λ (k : ℕ). outcome_as (failed_as k)) (is ∙ ap code_of (sym h))
   failed_by false false e f h is = absurd cc
 
+-- ---- whether it is an assignment
+
+pub assigned_ends : (known : Known) (work : Work) (u w : UnitScope) (ls : List Frames) (s : Noting) (spot : Spot) (fs : Frames) (i : Identifier) (answer : Bool) → Stands work u ls s → SpotFor work u ls s spot fs → w ≡ with_notes u w.form.trace.notes → (spot.in_body ≡ true → w ≡ u) →
+    answer ≡ assigned s (body_around fs) i →
+    ((r : Since) (ms : List Noted) → spot.in_body ≡ false → NotingStands work.symbols u.form.trace.notes r ms → NotingStands work.symbols w.form.trace.notes r (assigned_as r i answer ++ ms)) → Stands work w ls ((noting known).ask (Assigns fs i ∷ []) s)
+assigned_ends known work u w ls s spot fs i answer e placed rest inside tells noted = go spot.in_body refl placed.inside
+  where
+    After : Option Number → Type 0
+    After b = Stands work w ls (record s { noted = in_unit b (assigned_as s.since i (assigned s None i)) ++ s.noted })
+
+    go : (b : Bool) → spot.in_body ≡ b → IsIn work u ls (state_of s) spot.scope fs b → Stands work w ls ((noting known).ask (Assigns fs i ∷ []) s)
+    go false out h =
+        let none : body_around fs ≡ None = ap body_around h.1 in
+        let told_so : answer ≡ assigned s None i = tells ∙ ap (λ (b : Option Number). assigned s b i) none in
+        let ms = assigned_as s.since i (assigned s None i) ++ s.noted in
+        subst After (sym none)
+        (subst (λ (y : UnitScope). Stands work y ls (record s { noted = ms })) (sym rest)
+        (notes_stand work u ls s w.form.trace.notes ms (λ exact. subst (λ (b : Bool). NotingStands work.symbols w.form.trace.notes s.since (assigned_as s.since i b ++ s.noted)) told_so (noted s.since s.noted out (e.notes exact))) e))
+    go true within h =
+        let body : body_around fs ≡ Some h.body = ap body_around h.frames in
+        subst After (sym body) (subst (λ (y : UnitScope). Stands work y ls s) (sym (inside within)) e)
+
 -- ---- it stands in a unit
 
 defined_too : (q : Bool) (d c : Defined) (o p : Option Defined) → (is_some o ≡ true → is_some p ≡ true) → is_some (cond q (Some d) o) ≡ true → is_some (cond q (Some c) p) ≡ true
@@ -101,24 +124,24 @@ module _ (work : Work) (apart : AreToldApart work.symbols.idents) (told_apart : 
     (e : Stands work u ls s) where
   module _ (x : code_noting.Noting) (o : List Noted)
       (others : (f : ℕ) (m : code_meaning.Meaning) → same_key u.form.number (code.Global u.unit ident) f m ≡ false → macro_in v.macros f m ≡ macro_in u.macros f m) where
-    abbrev in_unit : Noting
-    in_unit = owned None n (is_some r) (with_state (record s { noted = o }) (definition_added None n r fs (state_of s)))
+    abbrev unit_state : Noting
+    unit_state = owned None n (is_some r) (with_state (record s { noted = o }) (definition_added None n r fs (state_of s)))
 
-    made_in_unit : (i : Identifier) → is_defined_in (defining s.since n (is_some r)).own s.unit i ≡ true → is_some (defined_in in_unit.table s.unit i) ≡ true
+    made_in_unit : (i : Identifier) → is_defined_in (defining s.since n (is_some r)).own s.unit i ≡ true → is_some (defined_in unit_state.table s.unit i) ≡ true
     made_in_unit i h =
         let same : (s.since.unit == s.unit && same_ident n.name i) ≡ (s.unit == s.unit && same_ident n.name i) = ap (λ (k : ℕ). k == s.unit && same_ident n.name i) e.since_unit in
         let d : Defined = record { unit = s.since.unit; form = s.since.form; ident = n.name; keyword = is_some r; occ = n.occ } in
         let c : Defined = record { unit = s.unit; form = s.form; ident = n.name; keyword = is_some r; occ = n.occ } in
         defined_too (s.unit == s.unit && same_ident n.name i) d c (defined_in s.since.own s.unit i) (defined_in s.table s.unit i) (e.made i) (ap (λ (q : Bool). is_some (cond q (Some d) (defined_in s.since.own s.unit i))) (sym same) ∙ h)
 
-    editions_in_unit : s.exact ≡ true → EditionsStand work.symbols v.macros in_unit
+    editions_in_unit : s.exact ≡ true → EditionsStand work.symbols v.macros unit_state
     editions_in_unit exact =
         let l = model.Global s.unit n.name in
-        editions_beside work.symbols apart told_apart u.macros v.macros s in_unit u.form.number (code.Global u.unit ident) l tt (e.unit, is) refl refl others
+        editions_beside work.symbols apart told_apart u.macros v.macros s unit_state u.form.number (code.Global u.unit ident) l tt (e.unit, is) refl refl others
         (λ m free. let q = global_apart s.since n (is_some r) m free in (q.0, ap (λ (k : ℕ). model.same_meaning (model.Global k n.name) m) (sym e.since_unit) ∙ q.1))
         (λ m other. others_stay l m fs r s.macros other) (e.editions exact)
 
-    pub unit_stands : plain_state.Stands work v ls (definition_added None n r fs (state_of s)) → (s.exact ≡ true → NotingStands work.symbols x (defining s.since n (is_some r)) o) → Stands work (with_notes v x) ls in_unit
+    pub unit_stands : plain_state.Stands work v ls (definition_added None n r fs (state_of s)) → (s.exact ≡ true → NotingStands work.symbols x (defining s.since n (is_some r)) o) → Stands work (with_notes v x) ls unit_state
     unit_stands q notes =
         let p = plain_notes work v ls (definition_added None n r fs (state_of s)) x q in
         record {
@@ -218,7 +241,7 @@ module _ (work : Work) (u v w : UnitScope) (ls : List Frames) (s : Noting) (spot
         let stands = unit_stands work apart told_apart u v ls s name.ident n is.0 r fs e x o at_root q.stands
         (λ exact. noted s.since s.noted (is_some r) out (subst (λ (y : code_noting.Noting). NotingStands work.symbols y s.since s.noted) (sym notes) (e.notes exact)) (not_own first)) in
         subst (λ (y : Result (Renamed Identifier FramedIdent) Broken × Noting). EndsIn (Same p) work u w ls spot fs (Ok tt) y) (λ j. noting_by (sym none j) (sym first_refused j) (sym second j))
-        (unchanged p, record { stands = subst (λ (y : UnitScope). Stands work y ls (in_unit work apart told_apart u v ls s name.ident n is.0 r fs e x o at_root)) (sym rest) stands; placed = spot_on work v w ls (definition_added None n r fs (state_of s)) spot fs rest q.placed; same = same_on u v w rest q.same }, refl, refl)
+        (unchanged p, record { stands = subst (λ (y : UnitScope). Stands work y ls (unit_state work apart told_apart u v ls s name.ident n is.0 r fs e x o at_root)) (sym rest) stands; placed = spot_on work v w ls (definition_added None n r fs (state_of s)) spot fs rest q.placed; same = same_on u v w rest q.same }, refl, refl)
     made true within h first_refused second g =
         let body : around ≡ Some h.body = ap body_around h.frames in
         let q = subst goes body g in

@@ -20,7 +20,8 @@ use Rattle.syntax_tree.specs.declared.meaning.Meaning.TheVariants as code
 use Rattle.syntax_tree.specs.declared.trees.Work.{Work}
 use Rattle.syntax_tree.proofs.Places.{get_within}
 use Rattle.question_laws.specs.Noted.{is_defined_in}
-use Rattle.form_notes.specs.Noted.{Since, is_own, defining}
+use Rattle.scheme_model.specs.Questions.{UsesRules, Expands}
+use Rattle.form_notes.specs.Noted.{Noted, Since, is_own, at_start, rules_used, defining}
 use Rattle.unit_scopes.specs.Macros.{macro_in, edition_of, edition_in, same_key, IsBound}
 use Rattle.unit_scopes.specs.State.{IsMacroIfAny}
 use Rattle.unit_scopes.specs.State as plain
@@ -127,3 +128,11 @@ global_apart r x keyword (Free y) h = (h, refl)
 pub others_stay : (l m : Meaning) (fs : Frames) (r : Option (Rules Identifier)) (ks : List ScopedMacro) → same_meaning l m ≡ false → macro_at (macro_added l fs r ks) m ≡ macro_at ks m
 others_stay l m fs None ks h = refl
 others_stay l m fs (Some r) ks h = ap (λ (b : Bool). cond b (Some (record { env = fs; rules = r })) (macro_at ks m)) h
+
+-- what is noted of rules, by their edition
+pub use_told : (r : Since) (m : Meaning) (t u : Option (Transformer Frames Identifier)) → (is_own r m ≡ false → t ≡ u) → rules_used r m t ≡ rules_used r m u
+use_told r m t u h = by (is_own r m) refl
+  where
+    by : (b : Bool) → is_own r m ≡ b → rules_used r m t ≡ rules_used r m u
+    by true is = ap (λ (q : Bool). cond q [] (at_start (UsesRules m) (Expands t))) is ∙ sym (ap (λ (q : Bool). cond q [] (at_start (UsesRules m) (Expands u))) is)
+    by false is = ap (rules_used r m) (h is)

@@ -12,3 +12,4 @@ pub mod KeptStands  -- A macro that is kept while what is asked is noted
 pub mod UseLaws  -- A macro use of which the comparisons were asked before, and rules that are read where they are defined
 pub mod UsesMet  -- Macro uses that waited are met, one after another, and what their literals mean is noted
 pub mod DefineSteps  -- A definition while what is asked is noted
+pub mod RulesLaws  -- The rules of macros while what is asked is noted

@@ -12,13 +12,15 @@ use Rattle.scheme_model.specs.RulesShape.{option_map as map_option}
 use Rattle.scheme_model.specs.Substitution.{defined_in, definition_count}
 use Rattle.scheme_model.specs.ScopedExpansion.{Frames, macro_at}
 use Rattle.scheme_model.specs.ExpansionFaults.{Named}
+use Rattle.scheme_model.specs.Cores.{Binder}
+use Rattle.scheme_model.specs.Expression.{meaning_of}
 use Rattle.syntax_tree.specs.Macros.{IsIdent}
 use Rattle.syntax_tree.specs.Meant.{IsMeaning}
 use Rattle.syntax_tree.specs.Names.{Names}
 use Rattle.syntax_tree.specs.declared.meaning.Meaning as code_meaning
 use Rattle.syntax_tree.specs.declared.trees.Work.{Work}
-use Rattle.core_tree.specs.Names.{AllMatch, IsTarget}
-use Rattle.core_tree.specs.declared.cores.MacroDef as code_def
+use Rattle.core_tree.specs.Names.{IsBinder, IsTarget}
+use Rattle.core_tree.specs.declared.cores.Binder as code_binder
 use Rattle.core_tree.specs.declared.cores.RuleLeaf as code_leaf
 use Rattle.core_tree.specs.declared.cores.Target as code_target
 use Rattle.question_laws.specs.Noted.{is_defined_in}
@@ -72,9 +74,15 @@ pub record ComparedFor (work : Work) (s : Noting) (gs fs : Frames) (c : code_com
   pub ident : IsIdent work.symbols c.pair.ident q.1
   pub held : c.held ≡ same_meaning (means_here s gs q.0) (means_here s fs q.1)
 
--- a leaf of rules in the code, inside some frames; and a macro, whose leaves were found where it was defined
+-- a leaf of rules in the code, inside some frames
 abbrev pub LeafFor : Work → Noting → Frames → code_leaf.RuleLeaf → Named Identifier → Type 0
 LeafFor work s fs l n = TargetFor work s fs l.target n
 
-abbrev pub MacroFor : Work → Noting → code_def.MacroDef → Type 0
-MacroFor work s d = (fs : Frames) × (ns : List (Named Identifier)) × AllMatch (LeafFor work s fs) d.leaves.items ns
+-- a binder with what it means, in some state that the scopes of the code and its notes stand for
+pub record CanNote (work : Work) (u : code.UnitScope) (b : code_binder.Binder) (c : code_meaning.Meaning) : Type 0 where
+  pub layout : List Frames
+  pub state : Noting
+  pub binder : Binder
+  pub stands : Stands work u layout state
+  pub is : IsBinder work.symbols state.unit state.form b binder
+  pub means : IsMeaning work.symbols state.unit state.form c (meaning_of binder.bound binder.ident)

@@ -1,5 +1,5 @@
 //! Definitions while what is asked is noted (R7RS 5.3): how each of the unit's ends, and whether one is an assignment.
-ghost use Rattle.std.specs.Prelude.{◌≡◌, ◌+◌, ◌++◌, ◌≤◌, List, Bool, true, false, Option, OnOk};
+ghost use Rattle.std.specs.Prelude.{◌≡◌, ◌+◌, ◌++◌, ◌≤◌, List, [], ◌∷◌, Bool, true, false, Option, OnOk};
 ghost use Rattle.scheme_model.specs.ExpansionFaults.{Named};
 ghost use Rattle.scheme_model.specs.Ident.{Ident as Identifier};
 ghost use Rattle.scheme_model.specs.Order.{Assigns, Note as Asking, Pending, Renamed, told};
@@ -13,7 +13,7 @@ ghost use Rattle.syntax_tree.specs.Names.{Names};
 ghost use Rattle.syntax_tree.specs.declared.trees.Work.{Work as AnyWork};
 ghost use Rattle.core_forms.specs.Parts.{IsName};
 ghost use Rattle.question_laws.specs.Noted.{is_defined_in};
-ghost use Rattle.form_notes.specs.Noted.{Noted, Since, defined_as, defining};
+ghost use Rattle.form_notes.specs.Noted.{Noted, Since, assigned_as, defined_as, defining};
 ghost use Rattle.form_notes.specs.Standing.{NotingStands, outcome_as};
 ghost use Rattle.unit_scopes.specs.Defining.{HasNumber, IsKept, Takes};
 ghost use Rattle.unit_scopes.specs.Kept.{NotesFor};
@@ -43,10 +43,21 @@ pub fn is_assigned(units: &mut UnitScope, spot: Spot, ident: IdNo) -> bool
     ensures rest { units.new ≡ with_notes units.old units.new.form.trace.notes }
 {
     let answer = units.is_assigned(spot, ident);
-    if !spot.in_body {
-        units.form.trace.notes.assign(ident, answer);
-    }
+    note_assigned(units, spot, ident, answer);
     answer
+}
+
+/// Notes whether a definition in a unit is an assignment.
+fn note_assigned(units: &mut UnitScope, spot: Spot, ident: IdNo, answer: bool)
+    ensures inside { spot.in_body ≡ true → units.new ≡ units.old }
+    ensures noted { (names : Names) (r : Since) (ms : List Noted) (i : Identifier) → spot.in_body ≡ false → NotingStands names units.old.form.trace.notes r ms → IsIdent names ident i →
+        NotingStands names units.new.form.trace.notes r (assigned_as r i answer ++ ms) }
+    ensures rest { units.new ≡ with_notes units.old units.new.form.trace.notes }
+{
+    if spot.in_body {
+        return;
+    }
+    units.form.trace.notes.assign(ident, answer);
 }
 
 /// Defines a name, as a macro where one is handed in. How that ends in a unit is noted.

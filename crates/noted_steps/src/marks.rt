@@ -170,7 +170,7 @@ fn note_first(
     match look_at(work, part) {
         Look::Name(ident) => {
             let keyword = note_mark(units, work, scope, ident);
-            behind(keyword, level)
+            level_behind(keyword, level)
         }
         Look::Atom(_) => Behind::Level(level),
         Look::List(_, _) => Behind::Level(level),
@@ -200,7 +200,7 @@ fn note_mark(
 }
 
 /// What comes behind what marks this.
-fn behind(keyword: Option<CoreKeyword>, level: u32) -> Behind
+fn level_behind(keyword: Option<CoreKeyword>, level: u32) -> Behind
     requires { level + 1 < 2 ^ 32 }
     ensures behind { (m : Option Mark) → keyword ≡ mark_word m → result ≡ behind_by m level }
     ensures near { IsNear level result }

@@ -1,8 +1,8 @@
 //! The rules of macros where they are defined, while what is asked is noted (R7RS 4.3.1, 5.4): what their head means, and what their
 //! leaves do.
-ghost use Rattle.std.specs.Prelude.{◌≡◌, List, map, IfOk, OnOk, Option, Some};
+ghost use Rattle.std.specs.Prelude.{◌≡◌, ℕ, List, map, IfOk, OnOk, Option, Some};
 ghost use Rattle.scheme_model.specs.ExpansionFaults.{Named};
-ghost use Rattle.scheme_model.specs.Cores.{Binder as ModelBinder};
+ghost use Rattle.scheme_model.specs.Cores.{Binder as ModelBinder, MacroDef as ModelMacro, RuleLeaf as ModelLeaf};
 ghost use Rattle.scheme_model.specs.Expression.{local_defs, locals_asked, macro_asked, macro_def, meaning_of};
 ghost use Rattle.scheme_model.specs.Ident.{Ident as Identifier};
 ghost use Rattle.scheme_model.specs.Identifiers.{Number};
@@ -13,13 +13,12 @@ ghost use Rattle.scheme_model.specs.Trees.{Tree as ModelTree};
 ghost use Rattle.syntax_tree.specs.Meant.{IsMeaning};
 ghost use Rattle.syntax_tree.specs.Works.{IsStanding, StandsFor};
 ghost use Rattle.syntax_tree.specs.declared.trees.table.Region.{Region as AnyRegion};
-ghost use Rattle.core_tree.specs.Names.{AllMatch, IsBinder, IsMacro as IsMacroDef};
+ghost use Rattle.core_tree.specs.Names.{AllMatch, IsBinder, IsLeaf, IsMacro as IsMacroDef};
 ghost use Rattle.unit_scopes.specs.Outcomes.{At, CanLook};
-ghost use Rattle.unit_scopes.specs.RulesTold.{CanTell};
 ghost use Rattle.noted_steps.specs.Asked.{head_asked};
 ghost use Rattle.noted_steps.specs.Noting.{Noting, noting};
 ghost use Rattle.noted_steps.specs.Outcomes.{EndsHere};
-ghost use Rattle.noted_steps.specs.Standing.{LeafFor, MacroFor, Stands, with_notes};
+ghost use Rattle.noted_steps.specs.Standing.{CanNote, LeafFor, Stands, with_notes};
 
 use crate::noted::{named, note, note_use};
 use core_tree::cores::{Binder, MacroDef, RuleLeaf};
@@ -74,7 +73,7 @@ pub fn macro_def(
     binder: Binder,
     meaning: Meaning,
 ) -> Mem<MacroDef>
-    requires { CanTell work.now units.old meaning }
+    requires { CanNote work.now units.old binder meaning }
     ensures def { (known : Known) (ls : List Frames) (s : Noting) (b : ModelBinder) → Stands work.now units.old ls s → IsBinder work.now.symbols s.unit s.form binder b →
         IsMeaning work.now.symbols s.unit s.form meaning (meaning_of b.bound b.ident) → IfOk result (λ d. IsMacroDef work.now s.unit s.form d (macro_def (noting known) s b)) }
     ensures noted { (known : Known) (ls : List Frames) (s : Noting) (b : ModelBinder) → Stands work.now units.old ls s → IsBinder work.now.symbols s.unit s.form binder b →
@@ -88,7 +87,7 @@ pub fn macro_def(
 
 /// Notes the rules of a macro, and what their leaves mean.
 fn note_macro(units: &mut UnitScope, work: &Work, meaning: Meaning, def: &MacroDef)
-    requires { (s : Noting) × MacroFor work.now s def.now }
+    requires { (unit : ℕ) × (form : ℕ) × (m : ModelMacro) × IsMacroDef work.now unit form def.now m }
     ensures noted { (known : Known) (ls : List Frames) (s : Noting) (b : ModelBinder) → Stands work.now units.old ls s → IsMacroDef work.now s.unit s.form def.now (macro_def (noting known) s b) →
         IsMeaning work.now.symbols s.unit s.form meaning (meaning_of b.bound b.ident) → Stands work.now units.new ls ((noting known).ask (macro_asked (noting known) s b) s) }
     ensures rest { units.new ≡ with_notes units.old units.new.form.trace.notes }
@@ -99,7 +98,7 @@ fn note_macro(units: &mut UnitScope, work: &Work, meaning: Meaning, def: &MacroD
 
 /// Notes what the leaves of rules mean.
 fn note_leaves(units: &mut UnitScope, work: &Work, leaves: &[RuleLeaf])
-    requires { (s : Noting) × (fs : Frames) × (ns : List (Named Identifier)) × AllMatch (LeafFor work.now s fs) leaves.now ns }
+    requires { (unit : ℕ) × (form : ℕ) × (ms : List ModelLeaf) × AllMatch (IsLeaf work.now.symbols unit form) leaves.now ms }
     ensures noted { (known : Known) (ls : List Frames) (s : Noting) (fs : Frames) (ns : List (Named Identifier)) → Stands work.now units.old ls s →
         AllMatch (LeafFor work.now s fs) leaves.now ns → Stands work.now units.new ls ((noting known).ask (map (λ n. Meant fs n.name) ns) s) }
     ensures rest { units.new ≡ with_notes units.old units.new.form.trace.notes }
@@ -113,7 +112,7 @@ fn note_leaves(units: &mut UnitScope, work: &Work, leaves: &[RuleLeaf])
 
 /// Notes the rules of local macros, and what their leaves mean.
 pub fn note_locals(units: &mut UnitScope, work: &Work, defs: &[MacroDef])
-    requires { (s : Noting) × (known : Known) × (vs : List Number) × (ns : List (Named Identifier)) × AllMatch (IsMacroDef work.now s.unit s.form) defs.now (local_defs (noting known) s vs ns) }
+    requires { (unit : ℕ) × (form : ℕ) × (ms : List ModelMacro) × AllMatch (IsMacroDef work.now unit form) defs.now ms }
     ensures noted { (known : Known) (ls : List Frames) (s : Noting) (vs : List Number) (ns : List (Named Identifier)) → Stands work.now units.old ls s →
         AllMatch (IsMacroDef work.now s.unit s.form) defs.now (local_defs (noting known) s vs ns) → Stands work.now units.new ls ((noting known).ask (locals_asked (noting known) s vs ns) s) }
     ensures rest { units.new ≡ with_notes units.old units.new.form.trace.notes }
