@@ -4,14 +4,19 @@ use Rattle.scheme_model.specs.Identifiers.{Number}
 use Rattle.scheme_model.specs.ExpansionFaults.{Named}
 use Rattle.scheme_model.specs.Ident.{Ident as Identifier}
 use Rattle.scheme_model.specs.Requirements.{Known}
-use Rattle.scheme_model.specs.Cores.{LocalNumber, MacroDef as ModelDef}
+use Rattle.scheme_model.specs.Cores.{Binder, LocalNumber, MacroDef as ModelDef}
 use Rattle.scheme_model.specs.Expression.{local_defs, macro_def}
 use Rattle.syntax_tree.specs.declared.trees.Work.{Work}
 use Rattle.core_tree.specs.Names.{AllMatch, IsBinder, IsMacro}
 use Rattle.core_tree.specs.declared.cores.Binder as code_binder
 use Rattle.core_tree.specs.declared.cores.MacroDef.{MacroDef}
+use Rattle.unit_scopes.specs.Searched.{searched}
 use Rattle.expander.specs.Bodies.{AreLocalMacros}
-use Rattle.noted_steps.specs.Noting.{Noting, noting}
+use Rattle.noted_steps.specs.Noting.{Noting, state_of, noting}
+
+-- a macro is told as it is without notes
+pub macro_def_is : (known : Known) (s : Noting) (b : Binder) → macro_def (noting known) s b ≡ macro_def (searched known) (state_of s) b
+macro_def_is known s b = refl
 
 pub record LocalThere (work : Work) (s : Noting) (vs : List Number) (ns : List (Named Identifier)) (k : ℕ) (b : code_binder.Binder) : Type 0 where
   pub number : Number

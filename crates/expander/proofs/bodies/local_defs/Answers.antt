@@ -9,11 +9,10 @@ use Rattle.scheme_model.specs.Expression.{local_defs}
 use Rattle.core_tree.specs.Names.{AllMatch, IsMacro}
 use Rattle.core_tree.specs.declared.cores.Binder as code_binder
 use Rattle.core_tree.specs.declared.cores.MacroDef.{MacroDef}
-use Rattle.expander.proofs.LocalDefs.{DefsSoFar, local_there, locals_past, one_def_more, all_defs}
+use Rattle.expander.proofs.LocalDefs.{DefsSoFar, macro_def_is, local_there, locals_past, one_def_more, all_defs}
 use Rattle.expander.proofs.bodies.local_defs.Goals as goal
 use Rattle.noted_steps.specs.Noting.{state_of, noting}
 use Rattle.noted_steps.proofs.NoteLaws.{plainly}
-use Rattle.noted_steps.proofs.MacroLaws.{macro_def_is}
 
 abbrev no_binder : code_binder.Binder
 no_binder = record { number = 0; ident = 0; occ = None }
