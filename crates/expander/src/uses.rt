@@ -53,20 +53,20 @@ pub(crate) fn apply_use(
     work: &mut Work,
     region: &Region,
     at: Use,
-    comparisons: &[Comparison],
+    compared: &[Comparison],
 ) -> Result<Instance, ExpandFault>
     requires opened { IsOpened work.old region.now }
     requires usable { CanUse work.old units.old at }
     requires named { CanName work.old region.now at.form }
     ensures used { (known : Known) (ls : List Frames) (s : Noting) (fs : Frames) (keyword : ModelTarget) (m : Transformer Frames Identifier) (ts : Trees Identifier) (tail : Tail Identifier) (scope : ℕ) →
         Stands work.old units.old ls (compared_first (noting known) fs m ts tail s) → Stand ls at.scope fs → UseFor work.old s at keyword m ts tail →
-        AllMatch (ComparisonFor work.old ls scope at.scope) comparisons.now (comparisons (noting known) fs m ts tail s) →
+        AllMatch (ComparisonFor work.old ls scope at.scope) compared.now (comparisons (noting known) fs m ts tail s) →
         EndsHere (InstanceFor work.new region.now units.new.unit units.new.form.number) work.old work.new region.now units.old units.new ls result (use_of (noting known) at.here fs keyword m ts tail s) }
     ensures counted { OnOk result (units.new.form.budget.uses ≡ units.old.form.budget.uses + 1) }
     ensures locals { OnOk result (units.new.form.budget.locals ≡ units.old.form.budget.locals) }
     ensures scopes { units.new.env.scopes ≡ units.old.env.scopes }
 {
-    let same = held(alloc, comparisons)?;
+    let same = held(alloc, compared)?;
     let given = units.apply(alloc, work, region, at, &same);
     work.symbols.told_apart();
     given

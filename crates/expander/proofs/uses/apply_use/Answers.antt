@@ -28,5 +28,5 @@ returns-clause-used c = λ known ls s fs keyword m ts tail scope e at for are.
     let v = c.apply-given.new.self in
     let region = c.args.region.now in
     let a = compared_first (noting known) fs m ts tail s in
-    let ends = c.apply-given.ensures.used known ls (state_of s) fs keyword m ts tail (plainly old u ls a e) at for (are_held old known ls (state_of s) fs m scope c.args.at.scope c.args.comparisons.now c.in_ok-same.same ts tail are c.in_ok-same.ensures) in
+    let ends = c.apply-given.ensures.used known ls (state_of s) fs keyword m ts tail (plainly old u ls a e) at for (are_held old known ls (state_of s) fs m scope c.args.at.scope c.args.compared.now c.in_ok-same.same ts tail are c.in_ok-same.ensures) in
     use_noted (InstanceFor new region v.unit v.form.number) known c.args.at.here fs keyword m ts tail s old new region u v ls c.apply-given.result e c.told_apart.ensures.idents c.apply-given.ensures.trace c.apply-given.ensures.macros ends
