@@ -13,3 +13,6 @@ pub mod UseLaws  -- A macro use of which the comparisons were asked before, and 
 pub mod UsesMet  -- Macro uses that waited are met, one after another, and what their literals mean is noted
 pub mod DefineSteps  -- A definition while what is asked is noted
 pub mod RulesLaws  -- The rules of macros while what is asked is noted
+pub mod MarkLaws  -- What the heads within a quasiquotation mark, asked one after another (R7RS 4.2.8)
+pub mod LibraryLaws  -- The libraries that the requirements of a `cond-expand` ask for, one after another (R7RS 4.2.1)
+pub mod FormLaws  -- What a core form asks before it is read, by its keyword

@@ -82,6 +82,13 @@ notes_stand work u ls s x ms h e =
 pub notes_again : (work : Work) (u : UnitScope) (ls : List Frames) (s : Noting) (ms : List Noted) → (s.exact ≡ true → NotingStands work.symbols u.form.trace.notes s.since ms) → Stands work u ls s → Stands work u ls (record s { noted = ms })
 notes_again work u ls s ms h e = notes_stand work u ls s u.form.trace.notes ms h e
 
+-- where one was lost, whatever was asked
+pub lost_stands : (work : Work) (u : UnitScope) (ls : List Frames) (s : Noting) (ms : List Noted) → Stands work u ls s → Stands work (with_notes u (record u.form.trace.notes { lost = true })) ls (record s { noted = ms })
+lost_stands work u ls s ms e =
+    notes_stand work u ls s (record u.form.trace.notes { lost = true }) ms
+    (λ exact. let h = (e.notes exact).since in record { since = record { unit = h.unit; form = h.form; uses = h.uses }; stands = λ kept. absurd cc })
+    e
+
 -- where notes alone changed an identifier can be looked up as before
 pub plain_notes : (work : Work) (u : UnitScope) (ls : List Frames) (s : ScopedState) (x : code_noting.Noting) → plain.Stands work u ls s → plain.Stands work (with_notes u x) ls s
 plain_notes work u ls s x e =

@@ -93,6 +93,14 @@ module _ (known : Known) (s : Noting) where
   pub def_same : (b : Binder) → macro_def (noting known) s b ≡ macro_def (searched known) (state_of s) b
   def_same b = with_same b ((searched known).transformer (state_of s) _)
 
+  with_again : (ms : List Noted) (b : Binder) (o : Option (Transformer Frames Identifier)) → macro_with (noting known) (record s { noted = ms }) b o ≡ macro_with (noting known) s b o
+  with_again ms b None = refl
+  with_again ms b (Some m) = refl
+
+  -- whatever was noted
+  pub def_again : (ms : List Noted) (b : Binder) → macro_def (noting known) (record s { noted = ms }) b ≡ macro_def (noting known) s b
+  def_again ms b = with_again ms b ((noting known).transformer s _)
+
   pub binder_same : (b : Binder) (o : Option (Transformer Frames Identifier)) → (macro_with (noting known) s b o).binder ≡ b
   binder_same b None = refl
   binder_same b (Some m) = refl
@@ -102,11 +110,11 @@ module _ (known : Known) (s : Noting) where
   abbrev leaf_names : List (Leaf Identifier) → List (Named Identifier)
   leaf_names xs = map (λ l. l.leaf) xs
 
-  abbrev names_of : Option (Transformer Frames Identifier) → List (Named Identifier)
+  abbrev pub names_of : Option (Transformer Frames Identifier) → List (Named Identifier)
   names_of None = []
   names_of (Some m) = leaf_names (leaves_of identifiers m.rules)
 
-  abbrev frames_of : Option (Transformer Frames Identifier) → Frames
+  abbrev pub frames_of : Option (Transformer Frames Identifier) → Frames
   frames_of None = []
   frames_of (Some m) = m.env
 
@@ -148,7 +156,7 @@ module _ (known : Known) (s : Noting) where
       let behind = noted_with known s qs s.noted in
       ap (λ (ms : List Noted). record s { noted = ms }) (all_same known s behind ps behind ∙ append_noted ps qs s.noted)
 
-  abbrev local_binder : Number → Named Identifier → Binder
+  abbrev pub local_binder : Number → Named Identifier → Binder
   local_binder v n = record { bound = LocalNumber v; ident = n.name; occ = n.occ }
 
   pub record LocalAt (work : Work) (vs : List Number) (ns : List (Named Identifier)) (k : ℕ) (d : code_def.MacroDef) : Type 0 where

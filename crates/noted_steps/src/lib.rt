@@ -2,6 +2,7 @@
 #![tactic(auto)]
 
 pub mod defining;
+pub mod forms;
 mod laws;
 pub mod libraries;
 pub mod marks;

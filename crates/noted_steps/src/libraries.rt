@@ -56,11 +56,16 @@ fn note_clause(units: &mut UnitScope, alloc: Global, work: &Work, clause: Tree)
 {
     match look_at(work, clause) {
         Look::List(parts, end) => {
-            if end.is_some() || parts.is_empty() {
+            if end.is_some() {
                 return;
             }
-            let depth = work.depth(parts[0]);
-            note_requirement(units, alloc, work, parts[0], depth);
+            match parts.first() {
+                None => {}
+                Some(requirement) => {
+                    let depth = work.depth(*requirement);
+                    note_requirement(units, alloc, work, *requirement, depth);
+                }
+            }
         }
         Look::Name(_) => {}
         Look::Atom(_) => {}

@@ -41,10 +41,13 @@ pub fn note_marks(units: &mut UnitScope, work: &Work, scope: ScopeNo, form: Tree
         At ls scope fs → StandsFor work.now form (list (tree head ts) tail o) → Stands work.now units.new ls (marks_asked known fs ts tail s) }
     ensures rest { units.new ≡ with_notes units.old units.new.form.trace.notes }
 {
-    if let Some(datum) = operand(work, form) {
-        let depth = work.depth(datum);
-        let _size = work.size(datum);
-        note_datum(units, work, scope, datum, 0, depth);
+    match operand(work, form) {
+        None => {}
+        Some(datum) => {
+            let depth = work.depth(datum);
+            let _size = work.size(datum);
+            note_datum(units, work, scope, datum, 0, depth);
+        }
     }
 }
 

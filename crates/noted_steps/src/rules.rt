@@ -20,7 +20,7 @@ ghost use Rattle.noted_steps.specs.Noting.{Noting, noting};
 ghost use Rattle.noted_steps.specs.Outcomes.{EndsHere};
 ghost use Rattle.noted_steps.specs.Standing.{CanNote, LeafFor, Stands, with_notes};
 
-use crate::noted::{named, note, note_use};
+use crate::noted::{named, note, note_name, note_use};
 use core_tree::cores::{Binder, MacroDef, RuleLeaf};
 use feature_requirements::fault::ExpandFault;
 use form_parts::heads::rules_head;
@@ -59,9 +59,9 @@ fn note_rules_head(units: &mut UnitScope, work: &Work, scope: ScopeNo, rules: Tr
         Stands work.now units.new ls (head_asked known fs (rules_parts_of t) s) }
     ensures rest { units.new ≡ with_notes units.old units.new.form.trace.notes }
 {
-    if let Some(ident) = rules_head(work, rules) {
-        let target = units.target(work, scope, named(ident));
-        note(units, work, target);
+    match rules_head(work, rules) {
+        None => {}
+        Some(ident) => note_name(units, work, scope, named(ident)),
     }
 }
 
@@ -120,7 +120,7 @@ pub fn note_locals(units: &mut UnitScope, work: &Work, defs: &[MacroDef])
     let mut left = defs.len();
     while 0 < left {
         left -= 1;
-        let number = defs[left].binder.number;
-        note_macro(units, work, Meaning::Local(number), &defs[left]);
+        let def = &defs[left];
+        note_macro(units, work, Meaning::Local(def.binder.number), def);
     }
 }

@@ -113,6 +113,7 @@ impl Macros {
         };
         let mut kept = kept;
         kept.edition = edition;
+        self.editions = edition;
         match meaning {
             Meaning::Local(number) => {
                 self.locals.insert((form, number), kept)?;
@@ -125,7 +126,6 @@ impl Macros {
             }
             Meaning::Free(_) => {}
         }
-        self.editions = edition;
         Ok(())
     }
 }

@@ -31,3 +31,10 @@ returns-in-Err-At-clause-defined c = λ known ls s fs n r p e placed is kept not
     let g = subst (λ (x : ExpandFault). plain_define.EndsIn (Same p) work u v ls c.args.spot fs (Err x) (told c.args.here (define_searched (body_around fs) n r fs p (state_of s)))) c.in-Err-At.field-0-is h in
     failed_ends work u v c.note_failed.new.units ls s c.args.spot fs c.args.here c.args.name n r p e placed is c.note_failed.ensures.rest c.note_failed.ensures.inside
     c.in-Err-At.fault (c.in-Err-At.ensures.refused c.in-Err-At.fault (ap Err c.in-Err-At.field-0-is)) (λ rs ms out stood. c.note_failed.ensures.noted work.symbols rs ms fs n r _ out stood is.0) g
+
+pub returns-in-Err-Full-clause-defined : goal.returns-in-Err-Full-clause-defined
+returns-in-Err-Full-clause-defined c = λ known ls s fs n r p e placed is kept notes.
+    let work = c.args.work.now in
+    let u = c.args.units.now in
+    let h = c.in-Err-Full.ensures.defined known ls (state_of s) fs n r p (plainly work u ls s e) placed is kept notes in
+    subst (λ (x : ExpandFault). plain_define.EndsIn (Same p) work u c.define.new.self ls c.args.spot fs (Err x) (told c.args.here (define_searched (body_around fs) n r fs p (state_of s)))) c.in-Err-Full.field-0-is h
