@@ -10,6 +10,7 @@ use Rattle.expander.proofs.UseNotes.{noted_again}
 use Rattle.expander.proofs.bodies.test_all_rules.Goals as goal
 use Rattle.noted_steps.specs.Noting.{noting}
 use Rattle.noted_steps.proofs.NodeLaws.{here_err}
+use Rattle.noted_steps.proofs.NoteLaws.{plain_look}
 
 abbrev no_macro : LocalMacro
 no_macro = record { name = record { ident = 0; occ = None }; rules = record { number = 0 } }
@@ -24,7 +25,7 @@ pub test_rules-requires : goal.test_rules-requires
 test_rules-requires c =
     let h = c.requires.rules in
     let q = macro_there c.args.work.now c.args.macros.now h.0 h.1 c.loop-local.local-index no_macro h.2 c.loop-local-test.true in
-    record { look = look_on c.args.work.now c.args.units.now c.loop-local.units c.loop-local.invariant.rest c.args.scope c.requires.look; rules = (q.rules, q.stands) }
+    record { look = plain_look c.args.work.now c.loop-local.units c.args.scope (look_on c.args.work.now c.args.units.now c.loop-local.units c.loop-local.invariant.rest c.args.scope c.requires.look); rules = (q.rules, q.stands) }
 
 pub loop-local-preserved : goal.loop-local-preserved
 loop-local-preserved c = record {

@@ -29,8 +29,8 @@ look_at_head-requires-clause-form c = (c.uses.invariant.form.0.0, c.uses.invaria
 
 -- ---- a use at the head
 
-pub note-requires-in-Macro : goal.note-requires-in-Macro
-note-requires-in-Macro c =
+pub note-requires : goal.note-requires
+note-requires c =
     let l = c.requires.look in
     let k = all_known c.args.units.now.libraries in
     let f = c.requires.form in
