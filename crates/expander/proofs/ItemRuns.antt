@@ -25,18 +25,16 @@ use Rattle.core_tree.specs.declared.cores.Core as code_core
 use Rattle.core_tree.specs.declared.cores.CorePart as code_part
 use Rattle.core_tree.specs.declared.cores.CorePart.TheVariants as parts
 use Rattle.unit_scopes.specs.Outcomes.{Grows, SameForm, IsEnough, IsEnoughBelow}
-use Rattle.unit_scopes.specs.RulesTold.{CanTell}
 use Rattle.expander.specs.declared.expressions.At as code_at
 use Rattle.feature_requirements.specs.declared.fault.ExpandFault.{ExpandFault}
 use Rattle.unit_scopes.specs.declared.scope.UnitScope.{UnitScope}
 use Rattle.unit_scopes.proofs.CoreStandLaws.{binder_on, binders_on}
 use Rattle.expander.proofs.RowRuns.{at_form}
 use Rattle.expander.proofs.StepLaws.{runs_mapped, runs_fails}
-use Rattle.noted_steps.specs.Noting.{Noting, state_of, noting}
+use Rattle.noted_steps.specs.Noting.{Noting, noting}
 use Rattle.noted_steps.specs.Outcomes.{Runs}
-use Rattle.noted_steps.specs.Standing.{Stands, with_notes}
+use Rattle.noted_steps.specs.Standing.{CanNote, Stands, with_notes}
 use Rattle.noted_steps.proofs.NodeLaws.{here_done}
-use Rattle.noted_steps.proofs.NoteLaws.{plainly}
 use Rattle.noted_steps.proofs.OutcomeLaws.{here_ends, stays_itself, moves_here, noted_stays}
 use Rattle.noted_steps.specs.Kept.{CanLook}
 
@@ -131,12 +129,13 @@ module _ (work : Work) (region : Region) (u : UnitScope) (scope turns depth : �
   record_runs r bs fs ms us binders fields modified used =
       given_runs (PartStands work u.unit u.form.number) work region u scope (parts.Fields bs fs ms us) (λ known fs s. fields_part r) (λ known ls s frames e. (bs, fs, ms, us, refl, binders, fields, modified, used))
 
-pub macro_told : (work : Work) (u : UnitScope) (scope : ℕ) (m : code_meaning.Meaning) (d : Binder) → CanLook work u scope → IsMeaning work.symbols u.unit u.form.number m (meaning_of d.bound d.ident) → CanTell work u m
-macro_told work u scope m d l h = record {
+pub macro_told : (work : Work) (u : UnitScope) (scope : ℕ) (b : code_binder.Binder) (m : code_meaning.Meaning) (d : Binder) → CanLook work u scope → IsBinder work.symbols u.unit u.form.number b d → IsMeaning work.symbols u.unit u.form.number m (meaning_of d.bound d.ident) → CanNote work u b m
+macro_told work u scope b m d l binder h = record {
   layout = l.layout;
-  state = state_of l.state;
-  meaning = meaning_of d.bound d.ident;
-  stands = plainly work u l.layout l.state l.stands;
+  state = l.state;
+  binder = d;
+  stands = l.stands;
+  is = subst (λ (n : ℕ). IsBinder work.symbols n l.state.form b d) l.stands.unit (subst (λ (n : ℕ). IsBinder work.symbols u.unit n b d) l.stands.form.number binder);
   means = subst (λ (n : ℕ). IsMeaning work.symbols n l.state.form m (meaning_of d.bound d.ident)) l.stands.unit (subst (λ (n : ℕ). IsMeaning work.symbols u.unit n m (meaning_of d.bound d.ident)) l.stands.form.number h);
 }
 

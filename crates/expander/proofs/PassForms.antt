@@ -138,7 +138,7 @@ can_pass_noted work region u spot given todo old new can q notes = record {
 }
 
 -- the same where notes alone were changed
-pub can_pass_on : (work : Work) (region : Region) (u v : UnitScope) (spot : Spot) (given : ℕ) (todo : code_pending.Pending) (asked : Asked) → v ≡ with_notes u v.form.trace.notes → CanPass work region u spot given todo asked → CanPass work region v spot given todo asked
+unfoldable pub can_pass_on : (work : Work) (region : Region) (u v : UnitScope) (spot : Spot) (given : ℕ) (todo : code_pending.Pending) (asked : Asked) → v ≡ with_notes u v.form.trace.notes → CanPass work region u spot given todo asked → CanPass work region v spot given todo asked
 can_pass_on work region u v spot given todo asked same can =
     let w = with_notes u v.form.trace.notes in
     let t = loose (state_of can.state) in

@@ -18,6 +18,7 @@ use Rattle.expander.proofs.CorePass.{core_goes, core_misread, asked_placed}
 use Rattle.expander.proofs.DefinitionSteps.{goes_without}
 use Rattle.expander.proofs.PassForms.{in_weight, in_passes, in_fits, can_pass_met, can_pass_on, keyword_stays, sets_aside, can_look}
 use Rattle.expander.proofs.PassSteps.{set_aside}
+use Rattle.noted_steps.proofs.NoteLaws.{plain_look}
 use Rattle.expander.proofs.passes.pass_core.Goals as goal
 use Rattle.form_notes.specs.declared.noting.Noting as code_noting
 use Rattle.feature_requirements.specs.Judged.{Knows}

@@ -69,6 +69,7 @@ note_head-requires c =
     (record { name = n.ident; occ = n.place }, n.named)
 
 pub pass_core-requires : goal.pass_core-requires
+unfolding can_pass_on
 pass_core-requires c =
     let work = c.args.work.now in
     let u = c.args.units.now in
@@ -102,6 +103,7 @@ pass_core-requires c =
     }
 
 pub pass_use-requires : goal.pass_use-requires
+unfolding can_pass_on
 pass_use-requires c =
     let work = c.args.work.now in
     let u = c.args.units.now in

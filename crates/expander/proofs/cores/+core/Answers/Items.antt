@@ -20,7 +20,7 @@ use Rattle.core_tree.specs.declared.cores.FieldUse as code_field
 use Rattle.expander.specs.Expanded.{ClauseAtWork, KeptAtWork}
 use Rattle.unit_scopes.specs.Kept.{KeptFor}
 use Rattle.unit_scopes.specs.Outcomes.{IsAtWork, IsEnough, IsEnoughBelow, Spends}
-use Rattle.unit_scopes.specs.RulesTold.{CanTell}
+use Rattle.noted_steps.specs.Standing.{CanNote}
 use Rattle.expander.specs.declared.expressions.At as code_at
 use Rattle.feature_requirements.specs.declared.fault.ExpandFault.TheVariants as fault
 use Rattle.form_parts.specs.declared.items.Kept as code_kept
@@ -473,8 +473,8 @@ expand_kept_item-macro_def-requires t c =
     let region = c.args.region.now in
     let u = c.args.units.now in
     let i = c.requires.kept.0 in
-    as_macro a region u.unit u.form.number (λ x. CanTell a u c.in-Macro.meaning) c.in-Macro.binder c.in-Macro.meaning i (subst (λ (x : code_kept.Kept). KeptFor a region u.unit u.form.number x i) c.in-Macro.is c.requires.kept.1)
-    (λ d here binder meaning. macro_told a u c.args.at.scope c.in-Macro.meaning d c.requires.look meaning)
+    as_macro a region u.unit u.form.number (λ x. CanNote a u c.in-Macro.binder c.in-Macro.meaning) c.in-Macro.binder c.in-Macro.meaning i (subst (λ (x : code_kept.Kept). KeptFor a region u.unit u.form.number x i) c.in-Macro.is c.requires.kept.1)
+    (λ d here binder meaning. macro_told a u c.args.at.scope c.in-Macro.binder c.in-Macro.meaning d c.requires.look binder meaning)
 
 pub expand_kept_item-returns-in_ok-macro_def-in-Macro-clause-runs : goal.expand_kept_item-returns-in_ok-macro_def-in-Macro-clause-runs
 expand_kept_item-returns-in_ok-macro_def-in-Macro-clause-runs t c = λ i turns for enough.
