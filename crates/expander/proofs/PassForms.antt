@@ -51,8 +51,7 @@ use Rattle.expander.proofs.PassLaws.{spot_same, goes_misread, goes_so}
 use Rattle.expander.proofs.ReadLaws.{HeadNamed, head_named, target_at}
 use Rattle.expander.proofs.WeightLaws.{weight_less, shape_passes}
 use Rattle.noted_steps.specs.Noting.{means_here, Noting, state_of, noting}
-use Rattle.noted_steps.proofs.NoteLaws.{plainly, plain_notes}
-use Rattle.expander.proofs.LooseLaws.{loose, loosely}
+use Rattle.expander.proofs.LooseLaws.{loose, stand_on, place_on}
 use Rattle.noted_steps.specs.Standing.{Stands, with_notes}
 use Rattle.noted_steps.specs.Stepped.{met}
 use Rattle.noted_steps.specs.Outcomes.{Stays}
@@ -139,20 +138,17 @@ can_pass_noted work region u spot given todo old new can q notes = record {
 
 -- the same where notes alone were changed
 unfoldable pub can_pass_on : (work : Work) (region : Region) (u v : UnitScope) (spot : Spot) (given : ℕ) (todo : code_pending.Pending) (asked : Asked) → v ≡ with_notes u v.form.trace.notes → CanPass work region u spot given todo asked → CanPass work region v spot given todo asked
-can_pass_on work region u v spot given todo asked same can =
-    let w = with_notes u v.form.trace.notes in
-    let t = loose (state_of can.state) in
-    subst (λ (x : UnitScope). CanPass work region x spot given todo asked) (sym same) (record {
-      layout = can.layout;
-      state = t;
-      frames = can.frames;
-      left = can.left;
-      stands = loosely work w can.layout (state_of can.state) (plain_notes work u can.layout (state_of can.state) v.form.trace.notes (plainly work u can.layout can.state can.stands));
-      placed = spot_same work u w can.layout can.state t spot can.frames refl refl refl can.placed;
-      pending = record { todo = can.pending.todo; aside = can.pending.aside; uses = can.pending.uses };
-      notes = can.notes;
-      room = can.room;
-    })
+can_pass_on work region u v spot given todo asked same can = record {
+  layout = can.layout;
+  state = loose (state_of can.state);
+  frames = can.frames;
+  left = can.left;
+  stands = stand_on work u v same can.layout can.state can.stands;
+  placed = place_on work u v same can.layout can.state (loose (state_of can.state)) spot can.frames refl can.placed;
+  pending = subst (λ (x : UnitScope). PendingFor work region x.unit x.form.number todo can.left) (sym same) can.pending;
+  notes = can.notes;
+  room = subst (λ (x : UnitScope). x.form.budget.locals + left_with can.left.todo x.form.budget.uses + given ≤ most_locals x.form.budget.nodes) (sym same) can.room;
+}
 
 -- ---- a core form that is read
 
