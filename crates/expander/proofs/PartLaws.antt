@@ -1,5 +1,5 @@
 -- A part of a form that notes what it asks: what it comes to is what it comes to without notes, and where it ends its notes stand.
-use Rattle.std.proofs.Common.{◌≡◌, ℕ, List, [], ◌∷◌, false, None, Result, Ok, Err, refl, sym, ap, ◌∙◌, subst}
+use Rattle.std.proofs.Common.{◌≡◌, ℕ, List, [], ◌∷◌, true, false, None, Result, Ok, Err, refl, sym, ap, ◌∙◌, subst}
 use Rattle.std.specs.Result.{IsErrAnd}
 use Rattle.scheme_model.specs.Ident.{Ident as Identifier}
 use Rattle.scheme_model.specs.Requirements.{Known}
@@ -12,6 +12,7 @@ use Rattle.core_tree.specs.declared.traces.Trace.{Trace}
 use Rattle.feature_requirements.specs.declared.fault.ExpandFault.{ExpandFault}
 use Rattle.feature_requirements.specs.declared.fault.ExpandFault.TheVariants as fault
 use Rattle.form_notes.specs.Noted.{Noted, beginning}
+use Rattle.form_notes.specs.Standing.{HaveNotes}
 use Rattle.form_parts.specs.declared.items.Left as code_left
 use Rattle.unit_scopes.specs.Outcomes as plain
 use Rattle.unit_scopes.specs.Outcomes.{Leaves, MayFill}
@@ -25,7 +26,7 @@ use Rattle.noted_steps.specs.Outcomes.{Stays, Moves, Ends}
 use Rattle.noted_steps.specs.Standing.{Stands, with_notes}
 use Rattle.noted_steps.proofs.Lifts.{plain_stays}
 use Rattle.noted_steps.proofs.UsesMet.{MeetsAlone, left_behind}
-use Rattle.expander.specs.UnitNotes.{CanNote, Editions, OnEnded, SetsNoting}
+use Rattle.expander.specs.UnitNotes.{CanNote, Editions, HasNoted, OnEnded, SetsNoting}
 
 -- a part of which the notes aren't told
 abbrev pub plain_part : ScopedState → Noting
@@ -103,8 +104,12 @@ ends_handed_on P old new region u v ls (Err f) e p same h = subst (λ (g : Expan
 
 -- ---- the form to which work goes
 
-pub note_turned : (work : Work) (u u1 : UnitScope) (number : ℕ) (budget : Budget) (trace : Trace) (editions : Editions) (ms : List Noted) (s : ScopedState) → u1 ≡ record u { form = form_at number budget trace } → CanNote work u trace editions ms s → CanNote work u1 u1.form.trace editions ms s
-note_turned work u u1 number budget trace editions ms s turn h = subst (λ (x : UnitScope). CanNote work x x.form.trace editions ms s) (sym turn) (record { tells = h.tells; notes = h.notes })
+pub note_turned : (work : Work) (u u1 : UnitScope) (number : ℕ) (budget : Budget) (trace : Trace) (uses : ℕ) (editions : Editions) (ms : List Noted) (s : ScopedState) → u1 ≡ record u { form = form_at number budget trace } → CanNote work u trace uses editions ms s → CanNote work u1 u1.form.trace uses editions ms s
+note_turned work u u1 number budget trace uses editions ms s turn h = subst (λ (x : UnitScope). CanNote work x x.form.trace uses editions ms s) (sym turn) (record { tells = h.tells; notes = h.notes })
+
+-- the notes where a part has ended that noted all
+pub noted_ends : (work : Work) (v : UnitScope) (ls : List Frames) (s : Noting) → Stands work v ls s → s.exact ≡ true → HaveNotes work.symbols s.since v.form.trace.notes.notes s.noted → HasNoted work v.form.trace s
+noted_ends work v ls s e exact notes = record { notes = notes; begun = (e.notes exact).since.uses }
 
 -- ---- uses that are met
 

@@ -33,18 +33,19 @@ Editions = ℕ → Option (Transformer Frames Identifier)
 
 -- ---- a part of a form
 
--- it begins, behind these notes
-abbrev pub part_begun : List (Note FramedIdent) → Editions → List Noted → ScopedState → Noting
-part_begun found editions ms s = going true (length found) (beginning s.unit s.form (s.uses s.form) editions) ms s
+-- it begins, behind these notes, where the form has begun so many uses
+abbrev pub part_begun : (uses : ℕ) → List (Note FramedIdent) → Editions → List Noted → ScopedState → Noting
+part_begun uses found editions ms s = going true (length found) (beginning s.unit s.form uses editions) ms s
 
 -- the editions tell the rules of macros, and these are the notes so far
-pub record CanNote (work : Work) (u : UnitScope) (trace : Trace) (editions : Editions) (ms : List Noted) (s : ScopedState) : Type 0 where
+pub record CanNote (work : Work) (u : UnitScope) (trace : Trace) (uses : ℕ) (editions : Editions) (ms : List Noted) (s : ScopedState) : Type 0 where
   pub tells : EditionsTell work.symbols u.macros s editions
-  pub notes : HaveNotes work.symbols (beginning s.unit s.form (s.uses s.form) editions) trace.notes.notes ms
+  pub notes : HaveNotes work.symbols (beginning s.unit s.form uses editions) trace.notes.notes ms
 
--- the notes where it has ended
-abbrev pub HasNoted : Work → Trace → Noting → Type 0
-HasNoted work trace s = HaveNotes work.symbols s.since trace.notes.notes s.noted
+-- the notes where it has ended, and how many uses there were where it began
+pub record HasNoted (work : Work) (trace : Trace) (s : Noting) : Type 0 where
+  pub notes : HaveNotes work.symbols s.since trace.notes.notes s.noted
+  pub begun : trace.notes.begun ≡ s.since.uses
 
 -- a call that ended with its form, well or by a fault of the form
 abbrev pub OnEnded : {X : Type 0} → Result X ExpandFault → Type 0 → Type 0

@@ -14,7 +14,7 @@ use Rattle.unit_scopes.proofs.CallLaws.{all_known, sets_adds, sets_counts, sets_
 use Rattle.noted_steps.proofs.PlainSides.{run_same, run_exact}
 use Rattle.expander.specs.UnitNotes.{HasNoted, part_begun, set_noting}
 use Rattle.expander.proofs.AskedRuns.{noted_knows}
-use Rattle.expander.proofs.PartLaws.{plain_part, sets_from, sets_gone, ended_sets, sets_handed_on}
+use Rattle.expander.proofs.PartLaws.{plain_part, sets_from, sets_gone, ended_sets, noted_ends, sets_handed_on}
 use Rattle.expander.proofs.unit.declare.Goals as goal
 
 pub go_through-left-requires-clause-can : goal.go_through-left-requires-clause-can
@@ -53,12 +53,14 @@ returns-clause-sets c = λ known ls s notes t knows stands asked for.
 pub returns-clause-noted : goal.returns-clause-noted
 returns-clause-noted c = λ known ls s notes t editions ms knows stands asked for can.
     let u = c.args.units.now in let u1 = c.begin_notes.new.units in let v = c.go_through-left.new.units in let w = c.args.work.now in let new = c.go_through-left.new.work in let region = c.args.region.now in let same = c.begin_notes.ensures.rest in
-    let start = part_begun notes editions ms s in
+    let start = part_begun (s.uses s.form) notes editions ms s in
     let begun = c.begin_notes.ensures.begun w ls s true (length notes) editions ms stands (λ h. can.tells) (λ h. can.notes) in
     let asked1 = subst (λ (x : UnitScope). NotesFor w ls x.asked notes) (sym same) asked in
     let p = set_noting known t notes start in
     let h = c.go_through-left.ensures.sets known ls start notes t (noted_knows u u1 known same knows) begun asked1 for in
-    ended_sets w new region u1 v ls (HasNoted new v.form.trace p.1) c.go_through-left.result p h (λ st. c.in_ok-end_notes.ensures new ls p.1 st (run_exact known enough_turns (one_form t notes) start))
+    ended_sets w new region u1 v ls (HasNoted new v.form.trace p.1) c.go_through-left.result p h (λ st.
+    let exact = run_exact known enough_turns (one_form t notes) start in
+    noted_ends new v ls p.1 st exact (c.in_ok-end_notes.ensures new ls p.1 st exact))
 
 pub returns-clause-locals : goal.returns-clause-locals
 returns-clause-locals c =

@@ -14,7 +14,7 @@ use Rattle.noted_steps.specs.Standing.{with_notes}
 use Rattle.noted_steps.proofs.NoteLaws.{plainly}
 use Rattle.expander.specs.UnitNotes.{HasNoted, met_noting, part_begun}
 use Rattle.expander.proofs.DeclareLaws.{waits_turned}
-use Rattle.expander.proofs.PartLaws.{plain_part, note_turned, uses_plain, uses_exact, meets_behind, form_alone}
+use Rattle.expander.proofs.PartLaws.{plain_part, noted_ends, note_turned, uses_plain, uses_exact, meets_behind, form_alone}
 use Rattle.expander.proofs.unit.meet_uses.Goals as goal
 
 pub meet_all-requires-clause-look : goal.meet_all-requires-clause-look
@@ -60,12 +60,13 @@ returns-clause-noted c = λ known ls s notes us editions ms stands counts waits 
     let b = c.args.budget in
     let tr = c.args.trace.now in
     let e = turned_to work u u1 n b tr ls s notes c.turn.ensures stands counts in
-    let can1 = note_turned work u u1 n b tr editions ms (turned n s) c.turn.ensures can in
+    let can1 = note_turned work u u1 n b tr (s.uses n) editions ms (turned n s) c.turn.ensures can in
     let begun = c.begin_notes.ensures.begun work ls (turned n s) true (length notes) editions ms e (λ h. can1.tells) (λ h. can1.notes) in
     let waits1 = subst (λ (x : UnitScope). AllMatch (WaitsFor work x.unit x.form.number) c.args.uses.now us) (sym c.begin_notes.ensures.rest) (waits_turned work u u1 n b tr c.args.uses.now us c.turn.ensures waits) in
-    let start = part_begun notes editions ms (turned n s) in
+    let start = part_begun (s.uses n) notes editions ms (turned n s) in
     let met = c.in_ok-meet_all.ensures.met known ls start [] us begun e.root waits1 in
-    subst (λ (x : Trace). HasNoted work x (met_noting known us start)) (sym c.swap.ensures.y_after) (c.in_ok-end_notes.ensures work ls (met_noting known us start) met (uses_exact known [] us start))
+    subst (λ (x : Trace). HasNoted work x (met_noting known us start)) (sym c.swap.ensures.y_after)
+    (noted_ends work v ls (met_noting known us start) met (uses_exact known [] us start) (c.in_ok-end_notes.ensures work ls (met_noting known us start) met (uses_exact known [] us start)))
 
 pub returns-clause-scope : goal.returns-clause-scope
 returns-clause-scope c =
