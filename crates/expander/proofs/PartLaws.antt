@@ -29,8 +29,8 @@ use Rattle.noted_steps.proofs.UsesMet.{MeetsAlone, left_behind}
 use Rattle.expander.specs.UnitNotes.{CanNote, Editions, HasNoted, OnEnded, SetsNoting}
 
 -- a part of which the notes aren't told
-abbrev pub plain_part : ScopedState → Noting
-plain_part s = going false 0 (beginning s.unit s.form (s.uses s.form) (λ n. None)) [] s
+abbrev pub plain_part : (uses : ℕ) → ScopedState → Noting
+plain_part uses s = going false 0 (beginning s.unit s.form uses (λ n. None)) [] s
 
 -- ---- what is left, from where the part began
 

@@ -22,7 +22,7 @@ go_through-left-requires-clause-can c =
     let u = c.args.units.now in let w = c.args.work.now in let can = c.requires.can in let same = c.begin_notes.ensures.rest in
     record {
       layout = can.layout;
-      state = plain_part can.state;
+      state = plain_part (can.state.uses can.state.form) can.state;
       notes = can.notes;
       stands = c.begin_notes.ensures.begun w can.layout can.state false 0 (λ n. None) [] can.stands (λ h. absurd cc) (λ h. absurd cc);
       asked = subst (λ (x : UnitScope). NotesFor w can.layout x.asked can.notes) (sym same) can.asked;
@@ -37,18 +37,18 @@ returns-in_err-end_notes-clause-sets c = λ known ls s notes t knows stands aske
     let u = c.args.units.now in let u1 = c.begin_notes.new.units in let v = c.go_through-left.new.units in let w = c.args.work.now in let new = c.go_through-left.new.work in let region = c.args.region.now in let same = c.begin_notes.ensures.rest in
     let begun = c.begin_notes.ensures.begun w ls s false 0 (λ n. None) [] stands (λ h. absurd cc) (λ h. absurd cc) in
     let asked1 = subst (λ (x : UnitScope). NotesFor w ls x.asked notes) (sym same) asked in
-    let h = c.go_through-left.ensures.sets known ls (plain_part s) notes t (noted_knows u u1 known same knows) begun asked1 for in
+    let h = c.go_through-left.ensures.sets known ls (plain_part (s.uses s.form) s) notes t (noted_knows u u1 known same knows) begun asked1 for in
     sets_handed_on w new region u v ls c.from_residual.result fault.Memory (set_aside known t notes s) c.from_residual.ensures.1
-    (sets_gone w new region u u1 v same ls c.go_through-left.result (set_noting known t notes (plain_part s)) h)
+    (sets_gone w new region u u1 v same ls c.go_through-left.result (set_noting known t notes (plain_part (s.uses s.form) s)) h)
 
 pub returns-clause-sets : goal.returns-clause-sets
 returns-clause-sets c = λ known ls s notes t knows stands asked for.
     let u = c.args.units.now in let u1 = c.begin_notes.new.units in let v = c.go_through-left.new.units in let w = c.args.work.now in let new = c.go_through-left.new.work in let region = c.args.region.now in let same = c.begin_notes.ensures.rest in
     let begun = c.begin_notes.ensures.begun w ls s false 0 (λ n. None) [] stands (λ h. absurd cc) (λ h. absurd cc) in
     let asked1 = subst (λ (x : UnitScope). NotesFor w ls x.asked notes) (sym same) asked in
-    let h = c.go_through-left.ensures.sets known ls (plain_part s) notes t (noted_knows u u1 known same knows) begun asked1 for in
-    subst (λ (p : Pass Identifier FramedIdent × ScopedState). Sets w new region u v ls c.go_through-left.result p) (sym (run_same known enough_turns (one_form t notes) (plain_part s)))
-    (sets_from w new region u u1 v same ls c.go_through-left.result (set_noting known t notes (plain_part s)) h)
+    let h = c.go_through-left.ensures.sets known ls (plain_part (s.uses s.form) s) notes t (noted_knows u u1 known same knows) begun asked1 for in
+    subst (λ (p : Pass Identifier FramedIdent × ScopedState). Sets w new region u v ls c.go_through-left.result p) (sym (run_same known enough_turns (one_form t notes) (plain_part (s.uses s.form) s)))
+    (sets_from w new region u u1 v same ls c.go_through-left.result (set_noting known t notes (plain_part (s.uses s.form) s)) h)
 
 pub returns-clause-noted : goal.returns-clause-noted
 returns-clause-noted c = λ known ls s notes t editions ms knows stands asked for can.

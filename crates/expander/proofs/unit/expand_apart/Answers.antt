@@ -32,7 +32,7 @@ expand_at_root-part-requires-clause-can c =
     let w = c.args.work.now in let can = c.requires.can in
     record {
       layout = can.layout;
-      state = plain_part can.state;
+      state = plain_part c.args.units.now.form.trace.notes.begun can.state;
       notes = can.notes;
       stands = c.resume_notes.ensures.begun w can.layout can.state false 0 (λ n. None) [] can.stands (λ h. absurd cc) (λ h. absurd cc);
       asked = subst (λ (x : UnitScope). NotesFor w can.layout x.asked can.notes) (sym c.resume_notes.ensures.rest) can.asked;
@@ -46,18 +46,18 @@ returns-in_err-end_notes-clause-part c = λ known ls s i knows stands item.
     let u = c.args.units.now in let u1 = c.resume_notes.new.units in let v = c.expand_at_root-part.new.units in let w = c.args.work.now in let new = c.expand_at_root-part.new.work in let region = c.args.region.now in let same = c.resume_notes.ensures.rest in
     let begun = c.resume_notes.ensures.begun w ls s false 0 (λ n. None) [] stands (λ h. absurd cc) (λ h. absurd cc) in
     let item1 = subst (λ (x : UnitScope). ItemFor w region x.unit x.form.number c.args.item.now i) (sym same) item in
-    let h = c.expand_at_root-part.ensures.part known ls (plain_part s) i (noted_knows u u1 known same knows) begun item1 in
+    let h = c.expand_at_root-part.ensures.part known ls (plain_part u.form.trace.notes.begun s) i (noted_knows u u1 known same knows) begun item1 in
     ends_handed_on (λ layout. PartStands new v.unit v.form.number) w new region u v ls c.from_residual.result fault.Memory (item_part (expand (searched known) enough_turns) (searched known) max_depth [] i s) c.from_residual.ensures.1
-    (ends_gone w new region u u1 v same (λ layout. PartStands new v.unit v.form.number) ls c.expand_at_root-part.result (expand_noting known i (plain_part s)) h)
+    (ends_gone w new region u u1 v same (λ layout. PartStands new v.unit v.form.number) ls c.expand_at_root-part.result (expand_noting known i (plain_part u.form.trace.notes.begun s)) h)
 
 pub returns-clause-part : goal.returns-clause-part
 returns-clause-part c = λ known ls s i knows stands item.
     let u = c.args.units.now in let u1 = c.resume_notes.new.units in let v = c.expand_at_root-part.new.units in let w = c.args.work.now in let new = c.expand_at_root-part.new.work in let region = c.args.region.now in let same = c.resume_notes.ensures.rest in
     let begun = c.resume_notes.ensures.begun w ls s false 0 (λ n. None) [] stands (λ h. absurd cc) (λ h. absurd cc) in
     let item1 = subst (λ (x : UnitScope). ItemFor w region x.unit x.form.number c.args.item.now i) (sym same) item in
-    let h = c.expand_at_root-part.ensures.part known ls (plain_part s) i (noted_knows u u1 known same knows) begun item1 in
-    let p = expand_noting known i (plain_part s) in
-    subst (λ (q : Result Part Broken × ScopedState). Ends (λ layout. PartStands new v.unit v.form.number) w new region u v ls c.expand_at_root-part.result q) (sym (item_same known enough_turns i (plain_part s)))
+    let h = c.expand_at_root-part.ensures.part known ls (plain_part u.form.trace.notes.begun s) i (noted_knows u u1 known same knows) begun item1 in
+    let p = expand_noting known i (plain_part u.form.trace.notes.begun s) in
+    subst (λ (q : Result Part Broken × ScopedState). Ends (λ layout. PartStands new v.unit v.form.number) w new region u v ls c.expand_at_root-part.result q) (sym (item_same known enough_turns i (plain_part u.form.trace.notes.begun s)))
     (ends_from w new region u u1 v same (λ layout. PartStands new v.unit v.form.number) ls c.expand_at_root-part.result (unnoted p) (plain_ends (λ layout. PartStands new v.unit v.form.number) w new region u1 v ls c.expand_at_root-part.result p h))
 
 pub returns-clause-noted : goal.returns-clause-noted

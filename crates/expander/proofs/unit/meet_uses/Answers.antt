@@ -21,7 +21,7 @@ pub meet_all-requires-clause-look : goal.meet_all-requires-clause-look
 meet_all-requires-clause-look c =
     let work = c.args.work.now in
     let can = can_set work c.args.units.now c.turn.new.units c.args.number c.args.budget c.args.trace.now c.turn.ensures c.requires.stands in
-    record { layout = can.layout; state = plain_part can.state; frames = []; stands = c.begin_notes.ensures.begun work can.layout can.state false 0 (λ n. None) [] can.stands (λ h. absurd cc) (λ h. absurd cc); at = can.stands.root }
+    record { layout = can.layout; state = plain_part (can.state.uses can.state.form) can.state; frames = []; stands = c.begin_notes.ensures.begun work can.layout can.state false 0 (λ n. None) [] can.stands (λ h. absurd cc) (λ h. absurd cc); at = can.stands.root }
 
 pub meet_all-requires-clause-waits : goal.meet_all-requires-clause-waits
 meet_all-requires-clause-waits c =
@@ -44,7 +44,7 @@ returns-clause-met c = λ known ls s notes us stands counts waits.
     let e = turned_to work u u1 n b tr ls s notes c.turn.ensures stands counts in
     let begun = c.begin_notes.ensures.begun work ls (turned n s) false 0 (λ x. None) [] e (λ h. absurd cc) (λ h. absurd cc) in
     let waits1 = subst (λ (x : UnitScope). AllMatch (WaitsFor work x.unit x.form.number) c.args.uses.now us) (sym c.begin_notes.ensures.rest) (waits_turned work u u1 n b tr c.args.uses.now us c.turn.ensures waits) in
-    let start = plain_part (turned n s) in
+    let start = plain_part (s.uses n) (turned n s) in
     let noted = c.in_ok-meet_all.ensures.met known ls start [] us begun e.root waits1 in
     let met = subst (λ (t : ScopedState). Stands work v ls t) (uses_plain known [] us start) (plainly work v ls (met_noting known us start) noted) in
     met_rests work u (with_notes u1 ns) v (record v { form = record v.form { trace = c.swap.new.x } }) n b (record tr { notes = ns }) c.swap.new.y c.swap.new.x ls notes (uses_met known n us s)
