@@ -16,6 +16,10 @@ ghost use Rattle.core_forms.specs.Parts.{AreMacros};
 ghost use Rattle.core_tree.specs.Names.{AllMatch, IsMacro as IsMacroDef};
 ghost use Rattle.expander.specs.Bodies.{AreLocalMacros, BodyFor, CanEnter, CanKeep, HaveHeads, HaveNumbers, HaveRules, RulesAre, body_pass};
 ghost use Rattle.unit_scopes.specs.Outcomes.{At as Stand};
+ghost use Rattle.noted_steps.specs.Noting.{Noting, noting};
+ghost use Rattle.noted_steps.specs.Standing.{Stands, with_notes};
+ghost use Rattle.noted_steps.specs.Outcomes.{EndsHere, Runs};
+ghost use Rattle.noted_steps.specs.Kept.{CanLook};
 
 use crate::expressions::At;
 use crate::passes::pass;
@@ -33,10 +37,6 @@ use syntax_tree::meaning::Meaning;
 use syntax_tree::trees::{Region, Tree, Work};
 use unit_scopes::asked::Asked;
 use unit_scopes::scope::UnitScope;
-ghost use Rattle.noted_steps.specs.Noting.{Noting, noting};
-ghost use Rattle.noted_steps.specs.Standing.{Stands, with_notes};
-ghost use Rattle.noted_steps.specs.Outcomes.{EndsHere, Runs};
-ghost use Rattle.noted_steps.specs.Kept.{CanLook};
 
 /// Where a form stands that was set aside: the scope of its body, and the place that it keeps.
 pub fn in_place(at: At, here: Option<Occ>) -> At

@@ -20,6 +20,9 @@ ghost use Rattle.unit_scopes.specs.Kept.{ClauseFor, KeptFor};
 ghost use Rattle.expander.specs.Passed.{ShapeFits};
 ghost use Rattle.unit_scopes.specs.Outcomes.{IsAtWork, IsEnough, IsEnoughBelow, HasRoom, Spends};
 ghost use Rattle.expander.specs.Expanded.{AreAtWork, BodyAtWork, ClauseStands, macros_step, ShapeAtWork, ClauseAtWork, ClausesAtWork, KeptAtWork, AreKeptAtWork, MacrosAtWork};
+ghost use Rattle.noted_steps.specs.Noting.{noting};
+ghost use Rattle.noted_steps.specs.Outcomes.{Runs};
+ghost use Rattle.noted_steps.specs.Kept.{CanLook};
 
 use crate::bodies::{in_place, keep_all, local_defs, pass_body, test_all_rules};
 use crate::expressions::{At, Ready, below, prepare, variable};
@@ -35,9 +38,6 @@ use noted_steps::rules::macro_def;
 use std::alloc::Global;
 use syntax_tree::trees::{Region, Tree, Work};
 use unit_scopes::scope::UnitScope;
-ghost use Rattle.noted_steps.specs.Noting.{noting};
-ghost use Rattle.noted_steps.specs.Outcomes.{Runs};
-ghost use Rattle.noted_steps.specs.Kept.{CanLook};
 
 /// The core of an expression.
 #[cycle(core)]
@@ -133,9 +133,7 @@ fn expand_shape(
         CoreShape::Lambda(clause) => lambda(units, alloc, work, region, at, &clause),
         CoreShape::CaseLambda(clauses) => { case_lambda(units, alloc, work, region, at, &clauses) }
         CoreShape::If(parts) => conditional(units, alloc, work, region, at, &parts),
-        CoreShape::Set { name, value } => {
-            set(units, alloc, work, region, at, name, value)
-        }
+        CoreShape::Set { name, value } => { set(units, alloc, work, region, at, name, value) }
         CoreShape::Begin(forms) => sequence(units, alloc, work, region, at, &forms),
         CoreShape::CondExpand(choices) => {
             let forms = chosen_forms(judge(units, alloc, work), at.here, &choices)?;

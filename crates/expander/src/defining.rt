@@ -18,6 +18,10 @@ ghost use Rattle.unit_scopes.specs.Outcomes.{WorksOn};
 ghost use Rattle.unit_scopes.specs.Defining.{HasNumber, Takes, define_each};
 ghost use Rattle.expander.specs.Passed.{GoesOn};
 ghost use Rattle.form_parts.specs.Records.{IsRecordFor};
+ghost use Rattle.noted_steps.specs.Noting.{Noting, noting};
+ghost use Rattle.noted_steps.specs.Standing.{Stands};
+ghost use Rattle.noted_steps.specs.Kept.{SpotFor, EndsIn};
+ghost use Rattle.noted_steps.specs.Kept.{CanGo};
 
 use core_forms::{ClauseShape, Formals, NamePart};
 use core_tree::cores::Binder;
@@ -31,10 +35,6 @@ use std::alloc::Global;
 use syntax_tree::trees::{Tree, Work};
 use unit_scopes::asked::Asked;
 use unit_scopes::scope::UnitScope;
-ghost use Rattle.noted_steps.specs.Noting.{Noting, noting};
-ghost use Rattle.noted_steps.specs.Standing.{Stands};
-ghost use Rattle.noted_steps.specs.Kept.{SpotFor, EndsIn};
-ghost use Rattle.noted_steps.specs.Kept.{CanGo};
 
 /// `(define id e)`, or a later one of a program's variable.
 pub(crate) fn define_variable(

@@ -24,6 +24,11 @@ ghost use Rattle.unit_scopes.specs.Defining.{HasNumber};
 ghost use Rattle.unit_scopes.specs.Stepped.{with_keyword};
 ghost use Rattle.form_parts.specs.FormsSeen.{head_name_of};
 ghost use Rattle.expander.specs.Ready.{use_met, head_asked, IsSettled, IsHeaded, HasCore, IsCall, Prepares, Settles, come_to, Reads, TestsVariable, passed, BeginsBelow};
+ghost use Rattle.noted_steps.specs.Noting.{Noting, state_of, means_here, noting};
+ghost use Rattle.noted_steps.specs.Standing.{Stands, with_notes};
+ghost use Rattle.noted_steps.specs.Outcomes.{EndsHere};
+ghost use Rattle.noted_steps.specs.Kept.{UseFor};
+ghost use Rattle.noted_steps.specs.Kept.{CanUse, CanLook};
 
 use crate::uses::{apply_use, compare_use};
 use core_forms::{CoreKeyword, CoreShape, NamePart, parse_core};
@@ -34,8 +39,8 @@ use form_parts::names::name_at;
 use form_parts::places::here_at;
 use ls_base::{Mem, Text};
 use noted_steps::forms::note_form;
-use noted_steps::uses::meet;
 use noted_steps::noted::note;
+use noted_steps::uses::meet;
 use scheme_model::Occ;
 use scope_env::ScopeNo;
 use std::alloc::Global;
@@ -44,11 +49,6 @@ use syntax_tree::trees::{Region, Tree, Work};
 use unit_scopes::counting::{fails_at, misread};
 use unit_scopes::scope::UnitScope;
 use unit_scopes::uses::{Instance, Use};
-ghost use Rattle.noted_steps.specs.Noting.{Noting, state_of, means_here, noting};
-ghost use Rattle.noted_steps.specs.Standing.{Stands, with_notes};
-ghost use Rattle.noted_steps.specs.Outcomes.{EndsHere};
-ghost use Rattle.noted_steps.specs.Kept.{UseFor};
-ghost use Rattle.noted_steps.specs.Kept.{CanUse, CanLook};
 
 /// Where an expression stands: its scope, the innermost form read from a text around it, and how much depth is left.
 #[derive(Clone, Copy)]

@@ -31,6 +31,10 @@ ghost use Rattle.unit_scopes.specs.Used.{ComparisonFor};
 ghost use Rattle.syntax_tree.specs.declared.trees.Work.{Work as AnyWork};
 ghost use Rattle.unit_scopes.specs.declared.asked.Asked.{Asked as AnyAsked};
 ghost use Rattle.form_parts.specs.declared.items.Spot.{Spot as AnySpot};
+ghost use Rattle.noted_steps.specs.Noting.{Noting, noting};
+ghost use Rattle.noted_steps.specs.Standing.{Stands};
+ghost use Rattle.noted_steps.specs.Kept.{SpotFor, UseFor};
+ghost use Rattle.noted_steps.specs.Kept.{CanUse};
 
 use crate::defining::{
     define_function, define_record, define_syntax, define_values, define_variable,
@@ -55,10 +59,6 @@ use unit_scopes::asked::{Asked, Asking, Note};
 use unit_scopes::counting::misread;
 use unit_scopes::scope::UnitScope;
 use unit_scopes::uses::{Comparison, Instance, Use};
-ghost use Rattle.noted_steps.specs.Noting.{Noting, noting};
-ghost use Rattle.noted_steps.specs.Standing.{Stands};
-ghost use Rattle.noted_steps.specs.Kept.{SpotFor, UseFor};
-ghost use Rattle.noted_steps.specs.Kept.{CanUse};
 
 /// Goes through the forms that are left, in order: what was set aside, and the macro uses that wait.
 pub(crate) fn pass(

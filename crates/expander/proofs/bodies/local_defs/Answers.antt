@@ -50,9 +50,13 @@ note_locals-requires c =
     let work = c.args.work.now in
     let can = c.requires in
     let s = can.state in
-    let k = c.loop-binder.binder-index in
-    (s.unit, s.form, local_defs (noting nothing_known) s can.numbers can.names, subst (λ (xs : List MacroDef). AllMatch (IsMacro work s.unit s.form) xs (local_defs (noting nothing_known) s can.numbers can.names)) (sym c.deref.ensures.value)
-    (all_defs work nothing_known s can.numbers can.names k c.loop-binder.defs.items (c.loop-binder.invariant nothing_known can.layout s can.numbers can.names can.stands can.are) (locals_past work s c.args.binders.now can.numbers can.names k can.are c.loop-binder-test.false)))
+    let k = c.loop-binder.binder-index in (
+      s.unit,
+      s.form,
+      local_defs (noting nothing_known) s can.numbers can.names,
+      subst (λ (xs : List MacroDef). AllMatch (IsMacro work s.unit s.form) xs (local_defs (noting nothing_known) s can.numbers can.names)) (sym c.deref.ensures.value)
+          (all_defs work nothing_known s can.numbers can.names k c.loop-binder.defs.items (c.loop-binder.invariant nothing_known can.layout s can.numbers can.names can.stands can.are) (locals_past work s c.args.binders.now can.numbers can.names k can.are c.loop-binder-test.false)),
+    )
 
 pub returns-clause-defs : goal.returns-clause-defs
 returns-clause-defs c = λ known ls s vs ns stands are.

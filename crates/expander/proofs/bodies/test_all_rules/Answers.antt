@@ -2,7 +2,6 @@ use Rattle.std.proofs.Common.{◌+◌, List, [], None, Ok, Err, refl}
 use Rattle.scheme_model.specs.Expression.{heads}
 use Rattle.scheme_model.specs.Order.{RulesParts}
 use Rattle.scheme_model.specs.Ident.{Ident as Identifier}
-
 use Rattle.core_forms.specs.declared.shape.LocalMacro.{LocalMacro}
 use Rattle.expander.proofs.LooseLaws.{look_on}
 use Rattle.expander.proofs.RulesHeads.{macro_there, macros_past, no_heads, one_tested, head_fails, all_tested}

@@ -26,9 +26,11 @@ meet_all-requires-clause-look c =
 pub meet_all-requires-clause-waits : goal.meet_all-requires-clause-waits
 meet_all-requires-clause-waits c =
     let work = c.args.work.now in
-    let w = c.requires.waits in
-    (w.0, subst (λ (x : UnitScope). AllMatch (WaitsFor work x.unit x.form.number) c.args.uses.now w.0) (sym c.begin_notes.ensures.rest)
-    (waits_turned work c.args.units.now c.turn.new.units c.args.number c.args.budget c.args.trace.now c.args.uses.now w.0 c.turn.ensures w.1))
+    let w = c.requires.waits in (
+      w.0,
+      subst (λ (x : UnitScope). AllMatch (WaitsFor work x.unit x.form.number) c.args.uses.now w.0) (sym c.begin_notes.ensures.rest)
+          (waits_turned work c.args.units.now c.turn.new.units c.args.number c.args.budget c.args.trace.now c.args.uses.now w.0 c.turn.ensures w.1),
+    )
 
 pub returns-clause-met : goal.returns-clause-met
 returns-clause-met c = λ known ls s notes us stands counts waits.
