@@ -22,10 +22,33 @@ pub fn begin_notes(units: &mut UnitScope)
         (exact ≡ true → HaveNotes work.symbols since units.old.form.trace.notes.notes ms) → Stands work units.new ls (going exact before since ms s) }
     ensures rest { units.new ≡ with_notes units.old units.new.form.trace.notes }
 {
+    let begun = units.form.budget.uses;
+    begin_at(units, begun);
+}
+
+/// The part goes on with another of its items: behind the notes that there are, and with the macro uses that it had begun with.
+pub fn resume_notes(units: &mut UnitScope)
+    ensures begun { (work : AnyWork) (ls : List Frames) (s : ScopedState) (exact : Bool) (before : ℕ) (editions : ℕ → Option (Transformer Frames Identifier)) (ms : List Noted) →
+        let since = beginning s.unit s.form units.old.form.trace.notes.begun editions in
+        PlainStands work units.old ls s → (exact ≡ true → EditionsTell work.symbols units.old.macros s editions) →
+        (exact ≡ true → HaveNotes work.symbols since units.old.form.trace.notes.notes ms) → Stands work units.new ls (going exact before since ms s) }
+    ensures rest { units.new ≡ with_notes units.old units.new.form.trace.notes }
+{
+    let begun = units.form.trace.notes.begun;
+    begin_at(units, begun);
+}
+
+/// The form at work has defined nothing yet in the part that notes, and that began when it had begun so many macro uses.
+fn begin_at(units: &mut UnitScope, begun: u32)
+    ensures begun { (work : AnyWork) (ls : List Frames) (s : ScopedState) (exact : Bool) (before : ℕ) (editions : ℕ → Option (Transformer Frames Identifier)) (ms : List Noted) →
+        let since = beginning s.unit s.form begun editions in
+        PlainStands work units.old ls s → (exact ≡ true → EditionsTell work.symbols units.old.macros s editions) →
+        (exact ≡ true → HaveNotes work.symbols since units.old.form.trace.notes.notes ms) → Stands work units.new ls (going exact before since ms s) }
+    ensures rest { units.new ≡ with_notes units.old units.new.form.trace.notes }
+{
     let alloc = units.alloc;
     let unit = units.unit;
     let number = units.form.number;
-    let begun = units.form.budget.uses;
     units.form.trace.notes.restart(alloc, unit, number, begun);
 }
 
