@@ -7,6 +7,7 @@ pub mod NotedDefined  -- Where an expansion that notes goes with one that asks, 
 pub mod NotedSides  -- An expansion with its questions, and one that notes what it asks, as two sides
 pub mod NoteLaws  -- What an expansion notes of a form's first part, and of its second, is what is to be noted of the form's questions
 pub mod NotesStay  -- Notes that have their answers in other surroundings of the form are what is to be noted there
+pub mod ItemSides  -- What a form set aside defines in bodies alone, so what its part began with stays while it is expanded
 pub mod TestedNotes  -- Where the notes of a form's start have their answers in other surroundings of the form, so have the questions, and the other way round
 pub mod BareNotes  -- Notes of the code don't tell the times at which bodies were entered
 pub mod NoteRows  -- What small forms note, computed

@@ -3,8 +3,9 @@ ghost use Rattle.std.specs.Prelude.{◌≡◌, ◌↔◌, ℕ, true, List, [], m
 ghost use Rattle.std.specs.List.{Contains};
 ghost use Rattle.scheme_model.specs.Ident.{Ident as Identifier};
 ghost use Rattle.scheme_model.specs.Trees.{Tree};
-ghost use Rattle.scheme_model.specs.Order.{Left, Transformer, run};
-ghost use Rattle.scheme_model.specs.UnitExpansion.{one_form};
+ghost use Rattle.scheme_model.specs.Order.{Item, Left, Transformer, WaitingUse, meet_all, run};
+ghost use Rattle.scheme_model.specs.Expression.{expand, item_part};
+ghost use Rattle.scheme_model.specs.UnitExpansion.{max_depth, one_form};
 ghost use Rattle.scheme_model.specs.ScopedExpansion.{Frames};
 ghost use Rattle.scheme_model.specs.Questions.{Around, SameAnswer};
 ghost use Rattle.scheme_model.specs.FormsAlike.{bound_moved, left_with, finish_by, questions_of_pass, questions_of_left};
@@ -21,8 +22,9 @@ ghost use Rattle.syntax_tree.specs.Names.{Names as AnyNames};
 ghost use Rattle.form_notes.specs.Noted.{Noted, Since};
 ghost use Rattle.form_notes.specs.Standing.{HaveNotes};
 ghost use Rattle.form_notes.specs.declared.notes.Note.{Note as AnyNote};
-ghost use Rattle.noted_steps.specs.Noting.{noting, begun};
+ghost use Rattle.noted_steps.specs.Noting.{Noting, noting, begun};
 ghost use Rattle.note_laws.specs.Told.{bare_noted, told, since_of, ImportsOthers};
+ghost use Rattle.note_laws.specs.SameParts.{SamePart};
 ghost use Rattle.note_laws.specs.Tested.{IsOfStart, HasAnswer, SameAtStart};
 ghost use Rattle.note_laws.specs.Searching.{searching, forms_anew};
 
@@ -69,4 +71,12 @@ pub fn notes_are_tested()
         ((m : Noted) → Contains ms m → IsOfStart m → HasAnswer v m) ↔ Each (SameAtStart w v) (all_noted w (questions_of_pass w turns t)) }
     ensures left { (w v : Around) (turns : ℕ) (l : Left Identifier) (ms : List Noted) → SameForm w v → Begins w.state → map bare_noted ms ≡ map (told w) (all_noted w (questions_of_left w turns (Ok l))) →
         ((m : Noted) → Contains ms m → HasAnswer v m) ↔ Each (SameAnswer w v) (all_noted w (questions_of_left w turns (Ok l))) }
+{}
+
+/// What a form set aside defines nothing in its unit (R7RS 5.3): what its second part began with, and how many notes there were, is as it was
+/// behind its macro uses, behind each item, and behind all.
+pub fn second_parts_define_nothing()
+    ensures uses { (known : Known) (us : List (WaitingUse Identifier)) (s : Noting) → SamePart s (meet_all (noting known) [] us s) }
+    ensures item { (known : Known) (turns : ℕ) (i : Item Identifier) (s : Noting) → SamePart s (item_part (expand (noting known) turns) (noting known) max_depth [] i s).1 }
+    ensures left { (known : Known) (turns : ℕ) (l : Left Identifier) (s : Noting) → SamePart s (finish_by (noting known) turns [] (Ok l) s).1 }
 {}
