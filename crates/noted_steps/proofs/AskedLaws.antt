@@ -1,5 +1,5 @@
 -- Questions that are asked one list behind another: what is noted is the same, in whatever order.
-use Rattle.std.proofs.Common.{◌≡◌, ◌⊎◌, ℕ, List, [], ◌∷◌, ◌++◌, Bool, true, Option, refl, sym, ap, ◌∙◌, subst, inl, inr}
+use Rattle.std.proofs.Common.{◌≡◌, ◌⊎◌, List, [], ◌∷◌, ◌++◌, refl, subst, inl, inr}
 use Rattle.std.specs.List.{Contains}
 use Rattle.std.proofs.lemmas.List.Elements.{Contains-append_left, Contains-append_right, Contains-append_cases}
 use Rattle.scheme_model.specs.Ident.{Ident as Identifier}
@@ -9,7 +9,7 @@ use Rattle.scheme_model.specs.ScopedExpansion.{Frames}
 use Rattle.syntax_tree.specs.Names.{Names}
 use Rattle.syntax_tree.specs.declared.trees.Work.{Work}
 use Rattle.form_notes.specs.Noted.{Noted, Since}
-use Rattle.form_notes.specs.Standing.{IsNote, HaveNotes, NotingStands}
+use Rattle.form_notes.specs.Standing.{NotingStands}
 use Rattle.form_notes.specs.declared.noting.Noting as code_noting
 use Rattle.unit_scopes.specs.declared.scope.UnitScope.{UnitScope}
 use Rattle.noted_steps.specs.Noting.{Noting, noting, note_of, noted_with}

@@ -1,7 +1,6 @@
 -- Names bound to locals in a new scope, and fields, while what is asked is noted.
 use Rattle.std.proofs.Common.{◌≡◌, ℕ, suc, ◌+◌, ◌≤◌, ◌==◌, List, [], ◌∷◌, ◌++◌, length, slice_get, Bool, true, false, cond, Result, Ok, Err, refl, sym, ap, ◌∙◌, arith}
 use Rattle.std.specs.Prelude.{Some}
-use Rattle.scheme_model.specs.Identifiers.{Number}
 use Rattle.scheme_model.specs.Ident.{Ident as Identifier}
 use Rattle.scheme_model.specs.ExpansionFaults.{Named}
 use Rattle.scheme_model.specs.Requirements.{Known}
@@ -29,7 +28,7 @@ use Rattle.noted_steps.specs.Noting.{Noting, state_of, next_number, noting}
 use Rattle.noted_steps.specs.Standing.{Stands}
 use Rattle.noted_steps.specs.Stepped.{taken, with_binders}
 use Rattle.noted_steps.proofs.NoteLaws.{plainly}
-use Rattle.noted_steps.proofs.CountingStands.{Beside, stands_after, locals_stand}
+use Rattle.noted_steps.proofs.CountingStands.{stands_after}
 
 -- ---- what `bound` comes to
 

@@ -15,7 +15,7 @@ use Rattle.noted_steps.specs.Noting.{Noting, state_of, next_number}
 use Rattle.noted_steps.specs.Standing.{Stands}
 use Rattle.noted_steps.specs.Stepped.{entered, entered_frames}
 use Rattle.noted_steps.proofs.NoteLaws.{plainly}
-use Rattle.noted_steps.proofs.CountingStands.{Beside, stands_after}
+use Rattle.noted_steps.proofs.CountingStands.{stands_after}
 
 pub body_stands : (work : Work) (u : UnitScope) (ls : List Frames) (s : Noting) (scope : ℕ) (fs : Frames) → IsSound u.env → slice_get ls scope ≡ Some fs → Stands work u ls s →
     Stands work (record u { env = with_child u.env scope }) (ls ++ entered_frames s fs ∷ []) (entered s)

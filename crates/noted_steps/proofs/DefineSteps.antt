@@ -1,17 +1,17 @@
 -- A definition while what is asked is noted: how it ends is noted where it stands in a unit, and from then on it is the form's own.
-use Rattle.std.proofs.Common.{◌≡◌, ℕ, ◌+◌, ◌==◌, List, [], ◌∷◌, ◌++◌, length, Bool, true, false, cond, Option, Some, None, Result, Ok, Err, refl, sym, ap, ◌∙◌, subst}
+use Rattle.std.proofs.Common.{◌≡◌, ℕ, ◌==◌, List, [], ◌∷◌, ◌++◌, Bool, true, false, cond, Option, Some, None, Result, Ok, Err, refl, sym, ap, ◌∙◌, subst}
 use Rattle.std.specs.Prelude.{◌&&◌}
 use Rattle.std.proofs.lemmas.Bool.{false_from_ne_true}
 use Rattle.scheme_model.specs.Identifiers.{Number}
 use Rattle.scheme_model.specs.Ident.{Ident as Identifier, same_ident}
-use Rattle.scheme_model.specs.ExpansionFaults.{Named, KeywordRedefined, Duplicate, Fault, fault_code}
+use Rattle.scheme_model.specs.ExpansionFaults.{Named, KeywordRedefined, Duplicate, fault_code}
 use Rattle.scheme_model.specs.Meaning as model
 use Rattle.scheme_model.specs.RulesShape.{Rules}
 use Rattle.scheme_model.specs.Steps.{Broken}
 use Rattle.scheme_model.specs.Order.{Here, Assigns, Pending, Renamed, is_some, told}
 use Rattle.scheme_model.specs.Requirements.{Known}
-use Rattle.scheme_model.specs.Questions.{Outcome, Stands as stands_outcome, Redefines, StoodBefore, outcome_by}
-use Rattle.scheme_model.specs.Substitution.{Defined, Table, defined_in, unchanged}
+use Rattle.scheme_model.specs.Questions.{Outcome, Stands as stands_outcome, outcome_by}
+use Rattle.scheme_model.specs.Substitution.{Defined, defined_in, unchanged}
 use Rattle.scheme_model.specs.ScopedExpansion.{Frames, FramedIdent, ScopedState, body_around, definition_added, is_defined}
 use Rattle.syntax_tree.specs.Names.{AreToldApart}
 use Rattle.syntax_tree.specs.Macros.{IsIdent}
@@ -21,13 +21,11 @@ use Rattle.syntax_tree.specs.declared.meaning.Meaning.TheVariants as code
 use Rattle.syntax_tree.specs.declared.trees.Work.{Work}
 use Rattle.core_forms.specs.Parts.{IsName}
 use Rattle.core_forms.specs.declared.shape.NamePart.{NamePart}
-use Rattle.core_tree.specs.Traces.{IsFault}
 use Rattle.core_tree.specs.declared.traces.FormFault.{FormFault}
 use Rattle.question_laws.specs.Noted.{is_defined_in}
 use Rattle.form_notes.specs.Noted.{Noted, Since, assigned_as, defined_as, defining}
 use Rattle.form_notes.specs.Standing.{NotingStands, outcome_as}
 use Rattle.form_notes.specs.declared.noting.Noting as code_noting
-use Rattle.feature_requirements.specs.declared.fault.ExpandFault.{ExpandFault}
 use Rattle.feature_requirements.specs.declared.fault.ExpandFault.TheVariants as fault
 use Rattle.form_parts.specs.declared.items.Spot.{Spot}
 use Rattle.unit_scopes.specs.Defining as plain_define
@@ -42,9 +40,8 @@ use Rattle.unit_scopes.specs.declared.scope.UnitScope.{UnitScope}
 use Rattle.unit_scopes.proofs.DefineLaws.{is_in_on}
 use Rattle.unit_scopes.proofs.OutcomeLaws.{same_itself}
 use Rattle.noted_steps.specs.Defined.{failed_as}
-use Rattle.noted_steps.specs.Kept.{SpotFor, GoesTo, EndsIn}
+use Rattle.noted_steps.specs.Kept.{SpotFor, EndsIn}
 use Rattle.noted_steps.specs.Noting.{Noting, state_of, with_state, next_number, assigned, in_unit, noting, refused, own_notes, ended, owned, define_by, define_noting}
-use Rattle.noted_steps.specs.Outcomes.{Breaks}
 use Rattle.noted_steps.specs.Standing.{Stands, EditionsStand, with_notes}
 use Rattle.noted_steps.proofs.EditionLaws.{editions_beside, local_apart, global_apart, others_stay}
 use Rattle.noted_steps.proofs.NoteLaws.{plain_notes, notes_stand}

@@ -1,7 +1,6 @@
 -- The editions of macros tell their rules behind a step: where the macros stay, and where one is made that is the form's own.
-use Rattle.std.proofs.Common.{◌≡◌, ℕ, ◌<◌, ◌==◌, List, [], ◌∷◌, length, slice_get, Bool, true, false, cond, Option, Some, None, refl, sym, ap, ◌∙◌, subst}
-use Rattle.std.specs.Prelude.{◌&&◌, ◌||◌}
-use Rattle.std.proofs.lemmas.Bool.{false_from_ne_true, eqb-true}
+use Rattle.std.proofs.Common.{◌≡◌, ℕ, ◌<◌, ◌==◌, List, [], length, Bool, true, false, cond, Option, Some, None, refl, sym, ap, ◌∙◌, subst}
+use Rattle.std.specs.Prelude.{◌&&◌}
 use Rattle.std.proofs.lemmas.Option.{same_Some}
 use Rattle.scheme_model.specs.Ident.{Ident as Identifier, same_ident}
 use Rattle.scheme_model.specs.ExpansionFaults.{Named}
@@ -10,7 +9,7 @@ use Rattle.scheme_model.specs.Meaning.{Meaning, Local, Global, Standard, Free, s
 use Rattle.scheme_model.specs.Order.{Transformer, is_some}
 use Rattle.scheme_model.specs.Questions.{bare_macro}
 use Rattle.scheme_model.specs.RulesShape.{Rules, option_map}
-use Rattle.scheme_model.specs.Substitution.{Defined, Table, defined_in}
+use Rattle.scheme_model.specs.Substitution.{Defined, defined_in}
 use Rattle.scheme_model.specs.ScopedExpansion.{Frames, ScopedMacro, ScopedState, macro_at, macro_added}
 use Rattle.syntax_tree.specs.Names.{Names, AreToldApart, KeepsNames}
 use Rattle.syntax_tree.specs.Macros.{IsIdent}
@@ -19,9 +18,8 @@ use Rattle.syntax_tree.specs.declared.meaning.Meaning as code_meaning
 use Rattle.syntax_tree.specs.declared.meaning.Meaning.TheVariants as code
 use Rattle.syntax_tree.specs.declared.trees.Work.{Work}
 use Rattle.syntax_tree.proofs.Places.{get_within}
-use Rattle.question_laws.specs.Noted.{is_defined_in}
 use Rattle.scheme_model.specs.Questions.{UsesRules, Expands}
-use Rattle.form_notes.specs.Noted.{Noted, Since, is_own, at_start, rules_used, defining}
+use Rattle.form_notes.specs.Noted.{Since, is_own, at_start, rules_used, defining}
 use Rattle.unit_scopes.specs.Macros.{macro_in, edition_of, edition_in, same_key, IsBound}
 use Rattle.unit_scopes.specs.State.{IsMacroIfAny}
 use Rattle.unit_scopes.specs.State as plain

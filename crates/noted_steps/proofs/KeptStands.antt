@@ -1,9 +1,8 @@
 -- A macro that is kept while what is asked is noted: its edition is new, and it is the form's own.
-use Rattle.std.proofs.Common.{◌≡◌, ℕ, List, Bool, true, false, cond, Some, None, refl, sym, ap, ◌∙◌, subst}
-use Rattle.std.proofs.lemmas.Bool.{false_from_ne_true}
+use Rattle.std.proofs.Common.{ℕ, List, Bool, cond, Some, refl, ap, ◌∙◌}
 use Rattle.scheme_model.specs.Ident.{Ident as Identifier}
 use Rattle.scheme_model.specs.Identifiers.{Number}
-use Rattle.scheme_model.specs.Meaning.{Meaning, Local, same_meaning}
+use Rattle.scheme_model.specs.Meaning.{Local}
 use Rattle.scheme_model.specs.Order.{Transformer}
 use Rattle.scheme_model.specs.ScopedExpansion.{Frames, macro_at}
 use Rattle.syntax_tree.specs.Names.{AreToldApart}

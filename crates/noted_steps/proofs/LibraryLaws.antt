@@ -1,25 +1,25 @@
 -- The libraries that the requirements of a `cond-expand` ask for, one after another (R7RS 4.2.1).
-use Rattle.std.proofs.Common.{◌≡◌, ℕ, zero, suc, ◌+◌, List, [], ◌∷◌, ◌++◌, append_assoc, append-nil, map, length, get_or, Bool, true, false, cond, Option, Some, None, Result, Ok, Err, refl, sym, ap, ◌∙◌, subst, arith}
+use Rattle.std.proofs.Common.{◌≡◌, List, [], ◌∷◌, ◌++◌, append_assoc, append-nil, map, length, get_or, Bool, true, false, cond, Option, refl, sym, ap, ◌∙◌, subst, arith}
 use Rattle.std.specs.Prelude.{codes}
 use Rattle.std.specs.Str.{bytes_eq}
 use Rattle.scheme_model.specs.declared.Occ.{Occ}
-use Rattle.scheme_model.specs.ExpansionFaults.{Fault, ◌>>◌}
+use Rattle.scheme_model.specs.ExpansionFaults.{◌>>◌}
 use Rattle.scheme_model.specs.Ident.{Ident as Identifier, symbol_of}
 use Rattle.scheme_model.specs.Matching.{behind}
 use Rattle.scheme_model.specs.Order.{Asked, Library}
-use Rattle.scheme_model.specs.Requirements.{Known, LibraryName, library_name_of, is_else, libraries_of, libraries_among, clause_libraries, all_libraries, name_asked}
+use Rattle.scheme_model.specs.Requirements.{Known, LibraryName, library_name_of, is_else, libraries_of, libraries_among, name_asked}
 use Rattle.scheme_model.specs.ScopedExpansion.{Frames}
-use Rattle.scheme_model.specs.Shapes.{list_of, some_of, first_of, one_of}
-use Rattle.scheme_model.specs.Trees.{Tree, name, atom, list, vector, Trees, no_trees, tree, Tail, proper, dotted}
+use Rattle.scheme_model.specs.Shapes.{one_of}
+use Rattle.scheme_model.specs.Trees.{Tree, name, atom, list, vector, Trees, no_trees, tree, proper, dotted}
 use Rattle.syntax_tree.specs.Looks.{PartsStand}
 use Rattle.syntax_tree.specs.Works.{StandsFor}
 use Rattle.syntax_tree.specs.declared.trees.Work.{Work}
 use Rattle.syntax_tree.specs.declared.trees.nodes.Tree as number
-use Rattle.feature_requirements.specs.Judged.{Knows, connective_named}
+use Rattle.feature_requirements.specs.Judged.{Knows}
 use Rattle.feature_requirements.specs.declared.requirements.Connective.{Connective}
 use Rattle.feature_requirements.specs.declared.requirements.Connective.TheVariants as word
 use Rattle.unit_scopes.specs.declared.scope.UnitScope.{UnitScope}
-use Rattle.noted_steps.specs.Asked.{names_asked, clause_asked, all_behind, libraries_behind, library_behind, behind_first, word_named}
+use Rattle.noted_steps.specs.Asked.{names_asked, clause_asked, libraries_behind, library_behind, behind_first, word_named}
 use Rattle.noted_steps.specs.Noting.{Noting, noting}
 use Rattle.noted_steps.specs.Standing.{Stands, with_notes}
 use Rattle.noted_steps.proofs.AskedLaws.{asked_on}

@@ -1,6 +1,6 @@
 -- What a step does without notes it does with them: where the code leaves its notes and its macros, they stand as they did. And what
 -- stands with notes stands without.
-use Rattle.std.proofs.Common.{◌≡◌, List, true, Result, Ok, Err, refl, sym, ◌∙◌, subst}
+use Rattle.std.proofs.Common.{◌≡◌, List, true, Result, Ok, Err, sym, ◌∙◌}
 use Rattle.scheme_model.specs.Steps.{Broken}
 use Rattle.scheme_model.specs.ScopedExpansion.{Frames, ScopedState}
 use Rattle.syntax_tree.specs.Names.{AreToldApart, KeepsNames}
@@ -8,16 +8,13 @@ use Rattle.syntax_tree.specs.declared.trees.Work.{Work}
 use Rattle.syntax_tree.specs.declared.trees.table.Region.{Region}
 use Rattle.form_notes.specs.Standing.{NotingStands}
 use Rattle.form_notes.proofs.GrowLaws.{noting_on}
-use Rattle.form_parts.specs.declared.items.Spot.{Spot}
 use Rattle.feature_requirements.specs.declared.fault.ExpandFault.{ExpandFault}
 use Rattle.feature_requirements.specs.declared.fault.ExpandFault.TheVariants as fault
-use Rattle.unit_scopes.specs.Defining as plain_define
 use Rattle.unit_scopes.specs.Outcomes as plain
 use Rattle.unit_scopes.specs.declared.scope.UnitScope.{UnitScope}
 use Rattle.noted_steps.specs.Noting.{Noting, state_of, with_state}
 use Rattle.noted_steps.specs.Standing.{Stands}
 use Rattle.noted_steps.specs.Outcomes.{Stays, Moves, Ends, EndsHere}
-use Rattle.noted_steps.specs.Kept.{EndsIn}
 use Rattle.noted_steps.proofs.NoteLaws.{plainly}
 use Rattle.noted_steps.proofs.CountingStands.{Beside, noting_after}
 

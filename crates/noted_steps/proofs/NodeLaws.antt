@@ -4,17 +4,14 @@ use Rattle.std.proofs.Common.{◌≡◌, ℕ, zero, suc, ◌+◌, ◌<◌, ◌�
 use Rattle.std.proofs.lemmas.Bool.{le-leb, lt-leb}
 use Rattle.scheme_model.specs.declared.Occ.{Occ}
 use Rattle.scheme_model.specs.Ident.{Ident as Identifier}
-use Rattle.scheme_model.specs.ExpansionFaults.{Named, Fault, NodeBudget, DepthBudget, fault_code, fault_name, error_text}
+use Rattle.scheme_model.specs.ExpansionFaults.{Fault, NodeBudget, DepthBudget, fault_code, fault_name, error_text}
 use Rattle.scheme_model.specs.Requirements.{Known}
 use Rattle.scheme_model.specs.Steps.{Broken, Step, ◌>>=◌, done, fails}
 use Rattle.scheme_model.specs.Order.{counting, max_nodes}
 use Rattle.scheme_model.specs.Expression.{node}
 use Rattle.scheme_model.specs.ScopedExpansion.{Frames}
-use Rattle.scheme_model.specs.Diagnostics.{named_occ}
-use Rattle.syntax_tree.specs.Names.{Names}
 use Rattle.syntax_tree.specs.declared.trees.Work.{Work}
 use Rattle.syntax_tree.specs.declared.trees.table.Region.{Region}
-use Rattle.core_tree.specs.Traces.{IsFault, IsNamedBy}
 use Rattle.feature_requirements.specs.Faults.{plain_fault}
 use Rattle.unit_scopes.specs.Counts.{with_nodes, Counts, FailsToBegin, Begins}
 use Rattle.noted_steps.specs.Noting.{Noting, noting}

@@ -1,5 +1,5 @@
 -- How steps follow one another while what is asked is noted: what each leaves adds up, and a fault ends what comes behind it.
-use Rattle.std.proofs.Common.{◌≡◌, ◌+◌, ◌≤◌, List, Result, Ok, Err, refl, sym, ap, ◌∙◌, subst, arith}
+use Rattle.std.proofs.Common.{◌≡◌, List, Result, Ok, Err, refl, sym, ap, subst, arith}
 use Rattle.scheme_model.specs.Steps.{Broken, Step, ◌>>=◌}
 use Rattle.scheme_model.specs.ScopedExpansion.{Frames}
 use Rattle.syntax_tree.specs.declared.trees.Work.{Work}

@@ -1,5 +1,5 @@
 -- The rules of macros while what is asked is noted: the test of their head, and the macros that a unit, a body or a form has made.
-use Rattle.std.proofs.Common.{◌≡◌, ℕ, zero, suc, ◌+◌, ◌<◌, ◌≤◌, List, [], ◌∷◌, ◌++◌, append_assoc, map, length, drop, get_or, Bool, true, false, cond, Option, Some, None, Result, Ok, Err, refl, sym, ap, ◌∙◌, subst, arith}
+use Rattle.std.proofs.Common.{◌≡◌, ℕ, zero, suc, ◌+◌, ◌<◌, ◌≤◌, List, [], ◌∷◌, ◌++◌, map, length, drop, get_or, Bool, true, false, cond, Option, Some, None, Result, Ok, Err, refl, sym, ap, ◌∙◌, subst, arith}
 use Rattle.scheme_model.specs.ExpansionFaults.{Named, BadForm}
 use Rattle.scheme_model.specs.Cores.{LocalNumber, Binder, MacroDef, RuleLeaf}
 use Rattle.scheme_model.specs.Expression.{macro_with, macro_def, leaves_asked, macro_asked, local_defs, locals_asked}
@@ -9,7 +9,7 @@ use Rattle.scheme_model.specs.Leaves.{Leaf, leaves_of}
 use Rattle.scheme_model.specs.Order.{Here, Asked, Meant, RulesParts, Transformer, rules_parts, rules_note, is_rules, head_of}
 use Rattle.scheme_model.specs.Requirements.{Known}
 use Rattle.scheme_model.specs.Steps.{Broken, done, fails}
-use Rattle.scheme_model.specs.ScopedExpansion.{Frames, FramedIdent, ScopedState, macro_at}
+use Rattle.scheme_model.specs.ScopedExpansion.{Frames, ScopedState}
 use Rattle.syntax_tree.specs.Macros.{identifiers}
 use Rattle.syntax_tree.specs.declared.trees.Work.{Work}
 use Rattle.syntax_tree.specs.declared.trees.table.Region.{Region}

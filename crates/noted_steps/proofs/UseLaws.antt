@@ -1,5 +1,5 @@
 -- A macro use of which the comparisons were asked before, and rules that are read where they are defined.
-use Rattle.std.proofs.Common.{◌≡◌, ℕ, ◌+◌, ◌-◌, List, [], map, Bool, true, false, cond, Option, Some, None, Result, Ok, Err, refl, sym, ap, ◌∙◌, subst}
+use Rattle.std.proofs.Common.{◌≡◌, ◌+◌, ◌-◌, List, [], map, Bool, true, false, cond, Option, Some, None, Result, Ok, Err, refl, sym, ap, subst}
 use Rattle.std.specs.Prelude.{nat_lt, nat_le}
 use Rattle.scheme_model.specs.Ident.{Ident, Inserted}
 use Rattle.scheme_model.specs.Identifiers.{Number}
@@ -28,7 +28,6 @@ use Rattle.noted_steps.specs.Noting.{Noting, state_of, with_state, noting}
 use Rattle.noted_steps.specs.Outcomes.{EndsHere}
 use Rattle.noted_steps.specs.Standing.{Stands}
 use Rattle.noted_steps.specs.Used.{use_asked, compared_first}
-use Rattle.noted_steps.proofs.CountingStands.{Beside}
 use Rattle.noted_steps.proofs.Lifts.{lift_here, lift_same}
 
 module _ (known : Known) (here : Here) (fs : Frames) (keyword : Target) (m : Transformer Frames Ident) (ts : Trees Ident) (tail : Tail Ident) (s : Noting) where

@@ -29,7 +29,6 @@ use Rattle.form_notes.specs.Standing.{NotingStands}
 use Rattle.form_notes.specs.declared.noting.Noting as code_noting
 use Rattle.unit_scopes.specs.Macros.{edition_in}
 use Rattle.unit_scopes.specs.State.{EnvStands, MacrosStand, HasBegun, FormStands, is_program}
-use Rattle.unit_scopes.specs.State as plain
 use Rattle.unit_scopes.specs.declared.macros.Macros.{Macros}
 use Rattle.unit_scopes.specs.declared.scope.UnitScope as code
 use Rattle.unit_scopes.specs.declared.uses.Comparison as code_comparison

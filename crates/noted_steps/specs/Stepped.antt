@@ -1,5 +1,5 @@
 -- What the operations make of a state of an expansion that notes, and of frames.
-use Rattle.std.specs.Prelude.{ℕ, suc, ◌+◌, List, [], ◌∷◌}
+use Rattle.std.specs.Prelude.{ℕ, suc, ◌+◌, List, ◌∷◌}
 use Rattle.scheme_model.specs.Ident.{Ident}
 use Rattle.scheme_model.specs.Meaning.{Meaning}
 use Rattle.scheme_model.specs.Cores.{Target, MacroUse, Binder}

@@ -153,13 +153,7 @@ fn note_row(
 }
 
 /// Notes what a part of a list marks, where it is an identifier, and tells what comes behind it.
-fn note_first(
-    units: &mut UnitScope,
-    work: &Work,
-    scope: ScopeNo,
-    part: Tree,
-    level: u32,
-) -> Behind
+fn note_first(units: &mut UnitScope, work: &Work, scope: ScopeNo, part: Tree, level: u32) -> Behind
     requires look { CanLook work.now units.old scope }
     requires part { IsStanding work.now part }
     requires small { level + 1 < 2 ^ 32 }
@@ -182,12 +176,7 @@ fn note_first(
 }
 
 /// Notes what an identifier marks, and tells it.
-fn note_mark(
-    units: &mut UnitScope,
-    work: &Work,
-    scope: ScopeNo,
-    ident: IdNo,
-) -> Option<CoreKeyword>
+fn note_mark(units: &mut UnitScope, work: &Work, scope: ScopeNo, ident: IdNo) -> Option<CoreKeyword>
     requires look { CanLook work.now units.old scope }
     requires ident { ident < length work.now.symbols.idents }
     ensures noted { (known : Known) (ls : List Frames) (s : Noting) (fs : Frames) (i : Identifier) → Stands work.now units.old ls s → At ls scope fs → IsIdent work.now.symbols ident i →

@@ -1,4 +1,4 @@
-use Rattle.std.proofs.Common.{◌≡◌, ◌++◌, ap, subst}
+use Rattle.std.proofs.Common.{◌++◌, ap, subst}
 use Rattle.scheme_model.specs.Questions.{Outcome}
 use Rattle.form_notes.specs.Noted.{defined_as}
 use Rattle.form_notes.specs.Standing.{NotingStands, outcome_as}

@@ -1,4 +1,4 @@
-use Rattle.std.proofs.Common.{◌≡◌, sym, subst}
+use Rattle.std.proofs.Common.{sym, subst}
 use Rattle.noted_steps.specs.Noting.{Noting}
 use Rattle.noted_steps.specs.Standing.{Stands}
 use Rattle.noted_steps.proofs.FormLaws.{marks_there, libraries_there, none_there}

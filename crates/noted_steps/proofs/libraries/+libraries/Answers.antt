@@ -1,18 +1,18 @@
-use Rattle.std.proofs.Common.{◌≡◌, ℕ, suc, ◌+◌, ◌-◌, ◌≤◌, List, [], refl, sym, ap, ◌∙◌, subst, add-one, rules, arith}
+use Rattle.std.proofs.Common.{◌≡◌, suc, List, [], refl, sym, ap, ◌∙◌, subst, add-one, rules, arith}
 use Rattle.scheme_model.specs.Ident.{Ident as Identifier, symbol_of}
 use Rattle.scheme_model.specs.Matching.{behind}
 use Rattle.scheme_model.specs.Requirements.{LibraryName, libraries_of, libraries_among}
-use Rattle.scheme_model.specs.Trees.{Tree, Trees, Tail, list, proper}
+use Rattle.scheme_model.specs.Trees.{Tree, Tail, list}
 use Rattle.syntax_tree.proofs.Looking.{within_positive, list_parts_within, part_within, part_there, behind_past, no_end, some_end}
 use Rattle.feature_requirements.specs.declared.requirements.Connective.{Connective}
 use Rattle.unit_scopes.specs.declared.scope.UnitScope.{UnitScope}
-use Rattle.noted_steps.specs.Asked.{libraries_behind, word_named, names_asked}
+use Rattle.noted_steps.specs.Asked.{libraries_behind, names_asked}
 use Rattle.noted_steps.specs.Standing.{Stands, with_notes}
 use Rattle.noted_steps.proofs.LibraryLaws.{names_none, names_more, names_all, from_one, knows_on, by_word, by_its_word, dotted_asks}
 use Rattle.noted_steps.proofs.libraries.+libraries.Goals as goal
 
-pub note_requirement-returns-in-List-then-is_some-clause-noted : goal.note_requirement-returns-in-List-then-is_some-clause-noted
-note_requirement-returns-in-List-then-is_some-clause-noted t c = λ known ls s u knows e stands.
+pub note_requirement-returns-then-is_some-clause-noted : goal.note_requirement-returns-then-is_some-clause-noted
+note_requirement-returns-then-is_some-clause-noted t c = λ known ls s u knows e stands.
     let l = c.in-List.ensures.look u stands in
     let d = some_end c.args.work.now c.in-List.end l.1 (sym c.is_some.ensures ∙ c.if-is_some.true) l.5 in
     let none : libraries_of symbol_of u ≡ [] = ap (libraries_of symbol_of) l.3 ∙ (ap (λ (x : Tail Identifier). libraries_of symbol_of (list l.0 x l.2)) d.1 ∙ dotted_asks l.0 d.0 l.2) in

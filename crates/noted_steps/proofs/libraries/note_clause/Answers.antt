@@ -1,7 +1,7 @@
-use Rattle.std.proofs.Common.{◌≡◌, ◌≤◌, List, [], refl, sym, ap, ◌∙◌, subst, arith}
-use Rattle.scheme_model.specs.Ident.{Ident as Identifier, symbol_of}
+use Rattle.std.proofs.Common.{◌≡◌, List, sym, ap, ◌∙◌, subst, arith}
+use Rattle.scheme_model.specs.Ident.{Ident as Identifier}
 use Rattle.scheme_model.specs.Requirements.{LibraryName}
-use Rattle.scheme_model.specs.Trees.{Tree, Trees, Tail, list, tree, proper}
+use Rattle.scheme_model.specs.Trees.{Tree, Tail, list, tree, proper}
 use Rattle.form_parts.proofs.LeafLaws.{first_there, first_gone}
 use Rattle.syntax_tree.proofs.Looking.{no_end, some_end}
 use Rattle.noted_steps.specs.Asked.{clause_asked, names_asked}
@@ -9,8 +9,8 @@ use Rattle.noted_steps.specs.Standing.{Stands}
 use Rattle.noted_steps.proofs.LibraryLaws.{no_list, clause_dotted, clause_first}
 use Rattle.noted_steps.proofs.libraries.note_clause.Goals as goal
 
-pub returns-in-List-then-is_some-clause-noted : goal.returns-in-List-then-is_some-clause-noted
-returns-in-List-then-is_some-clause-noted c = λ known ls s t knows e stands.
+pub returns-then-is_some-clause-noted : goal.returns-then-is_some-clause-noted
+returns-then-is_some-clause-noted c = λ known ls s t knows e stands.
     let l = c.in-List.ensures.look t stands in
     let d = some_end c.args.work.now c.in-List.end l.1 (sym c.is_some.ensures ∙ c.if-is_some.true) l.5 in
     let none = no_list t (list l.0 l.1 l.2) l.3 (ap (λ (x : Tail Identifier). clause_asked (list l.0 x l.2)) d.1 ∙ clause_dotted l.0 d.0 l.2) in
@@ -25,8 +25,8 @@ returns-in-None-clause-noted c = λ known ls s t knows e stands.
     let empty = no_list t (list l.0 l.1 l.2) l.3 (λ j. clause_asked (list (gone j) (none j) l.2)) in
     subst (λ (ns : List LibraryName). Stands w c.args.units.now ls (names_asked known ns s)) (sym empty) e
 
-pub depth-requires : goal.depth-requires
-depth-requires c =
+pub depth-depth-requires : goal.depth-depth-requires
+depth-depth-requires c =
     let w = c.args.work.now in
     let l = c.in-List.ensures.look c.requires.0 c.requires.1 in
     let p = first_there w c.in-List.parts.now c.in-Some.requirement.now l.0 c.in-Some.ensures.value l.4 in

@@ -1,4 +1,4 @@
-use Rattle.std.proofs.Common.{◌≡◌, ℕ, suc, ◌+◌, refl, sym, ap, ◌∙◌, add-one}
+use Rattle.std.proofs.Common.{suc, refl, ap, ◌∙◌, add-one}
 use Rattle.scheme_model.specs.Ident.{symbol_of}
 use Rattle.scheme_model.specs.Matching.{behind}
 use Rattle.scheme_model.specs.Requirements.{all_libraries}

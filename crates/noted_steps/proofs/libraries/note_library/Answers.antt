@@ -1,4 +1,4 @@
-use Rattle.std.proofs.Common.{◌≡◌, List, [], ◌∷◌, ◌++◌, Bool, true, false, Ok, Err, refl, sym, ap, ◌∙◌, subst}
+use Rattle.std.proofs.Common.{◌≡◌, List, [], ◌∷◌, ◌++◌, Bool, Err, sym, ap, ◌∙◌, subst}
 use Rattle.std.specs.BTreeSet.{contains_text}
 use Rattle.scheme_model.specs.Ident.{symbol_of}
 use Rattle.scheme_model.specs.Requirements.{LibraryName, library_name_of, name_asked}

@@ -1,5 +1,5 @@
-use Rattle.std.proofs.Common.{◌≡◌, refl, sym, ap, ◌∙◌}
-use Rattle.scheme_model.specs.Trees.{Tree, Trees, tree}
+use Rattle.std.proofs.Common.{sym, ap, ◌∙◌}
+use Rattle.scheme_model.specs.Trees.{Tree, tree}
 use Rattle.scheme_model.specs.Ident.{Ident as Identifier, symbol_of}
 use Rattle.std.specs.Option.{option_map}
 use Rattle.std.proofs.lemmas.Option.{slice_get_within, same_Some}

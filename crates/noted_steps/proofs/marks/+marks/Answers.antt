@@ -1,11 +1,12 @@
-use Rattle.std.proofs.Common.{◌≡◌, ℕ, suc, ◌+◌, ◌-◌, ◌≤◌, List, [], ◌++◌, append-nil, refl, sym, ap, ◌∙◌, subst, add-one, rules, arith}
+use Rattle.std.proofs.Common.{ℕ, suc, List, [], ◌++◌, append-nil, refl, sym, ap, ◌∙◌, subst, add-one, rules, arith}
+use Rattle.std.specs.Prelude.{is_some}
 use Rattle.scheme_model.specs.Ident.{Ident as Identifier}
 use Rattle.scheme_model.specs.Matching.{behind}
-use Rattle.scheme_model.specs.Quasiquote.{first_name, mark_in, level_behind, marks_by, marks_at, pair_marks, tail_marks, element_marks}
+use Rattle.scheme_model.specs.Quasiquote.{first_name, mark_in, level_behind, marks_at, pair_marks, tail_marks, element_marks}
 use Rattle.scheme_model.specs.Trees.{Tree, Trees, Tail}
-use Rattle.syntax_tree.proofs.Looking.{part_standing, part_there, behind_past}
+use Rattle.syntax_tree.proofs.Looking.{part_standing, part_there, behind_past, no_end}
 use Rattle.core_forms.proofs.Finding.{Counted, can_positive, into_row, into_parts, part_of_parts, part_of_row, room_at, counted_more, last_of_row}
-use Rattle.rules_build.proofs.Tails.{end_proper, end_dotted}
+use Rattle.core_forms.proofs.Lists.{end_tree}
 use Rattle.unit_scopes.specs.declared.scope.UnitScope.{UnitScope}
 use Rattle.noted_steps.specs.Asked.{IsNear, mark_here, heads_asked}
 use Rattle.noted_steps.specs.Standing.{Stands, with_notes}
@@ -112,11 +113,13 @@ note_row-note_first-requires t c =
 pub note_row-note_datum-requires : goal.note_row-note_datum-requires
 note_row-note_datum-requires t c =
     let w = c.args.work.now in
-    let k = c.loop-k.k in
-    (first_of (search rules, omega arith), (
-      looks_on w c.loop-k.units c.note_first.new.units c.args.scope c.note_first.ensures.rest c.loop-k.invariant.1,
-      part_of_row w c.args.items.now c.args.end c.args.level c.loop-k.inner c.args.left k (record { number = 0 }) c.requires.level c.loop-k.invariant.2 c.loop-k-test.true,
-    ))
+    let k = c.loop-k.k in (
+      first_of (search rules, omega arith),
+      (
+        looks_on w c.loop-k.units c.note_first.new.units c.args.scope c.note_first.ensures.rest c.loop-k.invariant.1,
+        part_of_row w c.args.items.now c.args.end c.args.level c.loop-k.inner c.args.left k (record { number = 0 }) c.requires.level c.loop-k.invariant.2 c.loop-k-test.true,
+      ),
+    )
 
 pub note_row-returns-in-Nothing-clause-noted : goal.note_row-returns-in-Nothing-clause-noted
 note_row-returns-in-Nothing-clause-noted t c = λ known ls s fs ts tail e at stands ends.
@@ -175,7 +178,7 @@ note_row-returns-in-None-clause-noted t c = λ known ls s fs ts tail e at stands
     let end = tail_marks mark tail in
     let inner = c.loop-k.inner in
     let past = behind_past w k c.args.items.now ts stands c.loop-k-test.false in
-    let none = end_proper w c.args.end tail c.in-None.is ends in
+    let none = no_end w c.args.end tail (ap is_some c.in-None.is) ends in
     heads_all known w ls fs s c.loop-k.units (pair_marks mark c.args.level ts end) (pair_marks mark inner (behind k ts) end) (ap (λ (x : Trees Identifier). pair_marks mark inner x end) past ∙ ap (λ (x : Tail Identifier). tail_marks mark x inner) none)
     (c.loop-k.invariant.3 known ls s fs ts tail e at stands ends)
 
@@ -197,12 +200,12 @@ note_row-returns-in-Some-clause-noted t c = λ known ls s fs ts tail e at stands
     let u = c.loop-k.units in
     let v = c.note_datum-in-Some.new.units in
     let past = behind_past w k c.args.items.now ts stands c.loop-k-test.false in
-    let d = end_dotted w c.args.end tail c.in-Some.last c.in-Some.is ends in
+    let d = end_tree w c.args.end c.in-Some.last tail c.in-Some.is ends in
     let h = c.loop-k.invariant.3 known ls s fs ts tail e at stands ends in
     let all = pair_marks mark c.args.level ts end in
     let split = ap (λ (x : Trees Identifier). pair_marks mark inner x end) past ∙ (ap (λ (x : Tail Identifier). tail_marks mark x inner) d.1 ∙ sym (append-nil (marks_at mark inner d.0))) in
     heads_all known w ls fs s v all [] refl
-    (heads_more known w ls fs s u v all (pair_marks mark inner (behind k ts) end) (marks_at mark inner d.0) [] h split (c.note_datum-in-Some.ensures.noted known ls (heads_asked known fs h.asked s) fs d.0 h.stands at d.3))
+    (heads_more known w ls fs s u v all (pair_marks mark inner (behind k ts) end) (marks_at mark inner d.0) [] h split (c.note_datum-in-Some.ensures.noted known ls (heads_asked known fs h.asked s) fs d.0 h.stands at d.2))
 
 pub note_row-returns-in-Some-clause-rest : goal.note_row-returns-in-Some-clause-rest
 note_row-returns-in-Some-clause-rest t c = c.note_datum-in-Some.ensures.rest ∙ ap (λ (x : UnitScope). with_notes x c.note_datum-in-Some.new.units.form.trace.notes) c.loop-k.invariant.0

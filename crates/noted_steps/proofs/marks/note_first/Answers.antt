@@ -1,11 +1,10 @@
-use Rattle.std.proofs.Common.{◌≡◌, List, [], sym, ap, subst}
+use Rattle.std.proofs.Common.{◌≡◌, sym, ap, subst}
 use Rattle.std.proofs.lemmas.Option.{slice_get_within}
 use Rattle.scheme_model.specs.Ident.{Ident as Identifier}
 use Rattle.scheme_model.specs.Quasiquote.{first_name, mark_in}
 use Rattle.scheme_model.specs.Trees.{Tree}
 use Rattle.noted_steps.specs.Asked.{behind_by, mark_here, heads_asked}
 use Rattle.noted_steps.specs.Standing.{Stands}
-use Rattle.noted_steps.specs.declared.marks.Behind.{Behind}
 use Rattle.noted_steps.proofs.marks.note_first.Goals as goal
 
 pub note_mark-keyword-requires-clause-ident : goal.note_mark-keyword-requires-clause-ident

@@ -1,4 +1,4 @@
-use Rattle.std.proofs.Common.{◌≡◌, ℕ, List, Ok, sym, ap, ◌∙◌, subst}
+use Rattle.std.proofs.Common.{List, sym, ap, subst}
 use Rattle.scheme_model.specs.Ident.{Ident as Identifier}
 use Rattle.scheme_model.specs.Quasiquote.{datum_marks}
 use Rattle.scheme_model.specs.Shapes.{one_of}

@@ -1,4 +1,4 @@
-use Rattle.std.proofs.Common.{◌≡◌, None, refl, sym, ap, subst, ◌++◌}
+use Rattle.std.proofs.Common.{None, refl, sym, subst, ◌++◌}
 use Rattle.core_forms.specs.Parts.{IsName}
 use Rattle.core_forms.specs.declared.shape.NamePart.{NamePart}
 use Rattle.syntax_tree.specs.Meant.{IsMeaning}

@@ -1,10 +1,10 @@
-use Rattle.std.proofs.Common.{◌≡◌, false, sym, subst}
+use Rattle.std.proofs.Common.{false, sym, subst}
 use Rattle.scheme_model.specs.Cores.{MacroDef}
 use Rattle.scheme_model.specs.Expression.{macro_def, meaning_of}
 use Rattle.scheme_model.specs.Requirements.{Known}
 use Rattle.core_tree.specs.Names.{IsMacro}
 use Rattle.unit_scopes.specs.Searched.{searched}
-use Rattle.noted_steps.specs.Noting.{state_of, noting}
+use Rattle.noted_steps.specs.Noting.{state_of}
 use Rattle.noted_steps.proofs.NoteLaws.{plainly}
 use Rattle.noted_steps.proofs.RulesLaws.{def_same}
 use Rattle.noted_steps.proofs.rules.macro_def.Goals as goal

@@ -7,7 +7,7 @@ use Rattle.unit_scopes.specs.Kept.{WaitsFor}
 use Rattle.unit_scopes.specs.Searched.{searched}
 use Rattle.unit_scopes.specs.declared.scope.UnitScope.{UnitScope}
 use Rattle.noted_steps.specs.Noting.{noting, state_of}
-use Rattle.noted_steps.proofs.CountingStands.{Beside, stands_after}
+use Rattle.noted_steps.proofs.CountingStands.{stands_after}
 use Rattle.noted_steps.proofs.NoteLaws.{plainly, plain_look, looks_on}
 use Rattle.noted_steps.proofs.UsesMet.{meets_so}
 use Rattle.noted_steps.proofs.uses.meet.Goals as goal

@@ -1,4 +1,4 @@
-use Rattle.std.proofs.Common.{◌≡◌, ◌+◌, ℕ, subst, rules, arith}
+use Rattle.std.proofs.Common.{◌≡◌, ◌+◌, ℕ, subst, rules}
 use Rattle.unit_scopes.specs.Macros.{numbered, Keeps}
 use Rattle.unit_scopes.proofs.MacroLaws.{kept_local, kept_global}
 use Rattle.unit_scopes.proofs.macros.Macros.keep.Goals as goal
