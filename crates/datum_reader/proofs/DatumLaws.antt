@@ -13,7 +13,7 @@ use Rattle.scheme_model.specs.Data.{Place, Datum, Data, list, row, part, none, p
 use Rattle.datum_reader.specs.declared.open.Spot.{Spot}
 use Rattle.scheme_model.specs.Numbered.{up_to}
 use Rattle.datum_reader.specs.Open.{abbreviation}
-use Rattle.datum_reader.specs.Views.{shape_step, datum_step, placed, shape_of, datum_of, data_of, end_data}
+use Rattle.datum_reader.specs.Views.{Shared, shape_step, datum_step, placed, shape_of, datum_of, data_of, end_data}
 use Rattle.datum_reader.specs.OpenViews.{spot_of, chained}
 
 -- a datum is its shape at its place
@@ -33,7 +33,7 @@ place-shape s p = ap (λ (g : Place → Datum). place_of (g p)) (fold_out-Shape 
 pub place-datum : (d : code.Datum) → place_of (datum_of d) ≡ placed d.first d.last d.span
 place-datum d = ap place_of (datum_is d) ∙ place-shape d.shape (placed d.first d.last d.span)
 
-pub list-shape : (v : Vec code.Datum Global) (end : Option (Box code.Datum)) (p : Place) → shape_of (shape.List v end) p ≡ list p (row (data_of v.items) (end_data end))
+pub list-shape : (v : Shared) (end : Option (Box code.Datum)) (p : Place) → shape_of (shape.List v end) p ≡ list p (row (data_of v.value.items) (end_data end))
 list-shape v None p =
     ap (λ (s : Shape). shape_of s p) (sym (shape.rolls-List v None)) ∙ ap (λ (g : Place → Datum). g p) (fold-roll-Shape (Place → Datum) Datum shape_step datum_step (Shape-F.List v None))
 list-shape v (Some d) p =
@@ -63,7 +63,7 @@ run_joined end vs ws v xs zs pops joins =
     ∙ ap (row (data_of xs)) (sym (run_pushed end vs ws v pops))
 
 -- a list whose parts are joined
-pub list_joined : (d : code.Datum) (v : Vec code.Datum Global) (end : Option (Box code.Datum)) (all : Data) → d.shape ≡ shape.List v end → row (data_of v.items) (end_data end) ≡ all →
+pub list_joined : (d : code.Datum) (v : Shared) (end : Option (Box code.Datum)) (all : Data) → d.shape ≡ shape.List v end → row (data_of v.value.items) (end_data end) ≡ all →
     datum_of d ≡ list (placed d.first d.last d.span) all
 list_joined d v end all is joins =
     let at = placed d.first d.last d.span in

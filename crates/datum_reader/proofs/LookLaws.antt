@@ -13,7 +13,7 @@ use Rattle.scheme_model.specs.DataTrees.{parts_of, end_of}
 use Rattle.scheme_model.specs.Trees.{Atom, Tree, name, atom as atom_tree, list as list_tree, vector as vector_tree, Numeral as NumeralAtom, Quoted as QuotedAtom, Character as CharacterAtom, Boolean, Bytes, Trees, tree, Tail, proper, dotted}
 use Rattle.datum_reader.specs.declared.datum.Datum as code
 use Rattle.datum_reader.specs.declared.datum.Shape.TheVariants as shape
-use Rattle.datum_reader.specs.Views.{datum_of, data_of, end_data}
+use Rattle.datum_reader.specs.Views.{Shared, datum_of, data_of, end_data}
 use Rattle.datum_reader.proofs.SeedLaws.{datum-list}
 use Rattle.datum_reader.proofs.DatumLaws.{place-datum}
 use Rattle.datum_reader.specs.declared.look.Look.TheVariants as looks
@@ -34,7 +34,7 @@ there_as : (end : Option (Box code.Datum)) → is_some end ≡ is_some (end_seen
 there_as None = refl
 there_as (Some d) = refl
 
-pub list_look : (d : code.Datum) (xs : Vec code.Datum Global) (end : Option (Box code.Datum)) (ds : List code.Datum) (b : Bool) → d.shape ≡ shape.List xs end → ds ≡ xs.items → b ≡ is_some end → IsListOf ds b (datum_of d)
+pub list_look : (d : code.Datum) (xs : Shared) (end : Option (Box code.Datum)) (ds : List code.Datum) (b : Bool) → d.shape ≡ shape.List xs end → ds ≡ xs.value.items → b ≡ is_some end → IsListOf ds b (datum_of d)
 list_look d xs end ds b is items there =
     (end_seen end, datum-list d xs end is ∙ (λ j. list (sym (place-datum d) j) (row (data_of (sym items j)) (ends_as end j))), there ∙ there_as end)
 

@@ -13,7 +13,7 @@ use Rattle.scheme_model.specs.declared.Occ.{Occ}
 use Rattle.scheme_model.specs.Trees.{Bytes, Tree, atom as atom_of, list as list_of, vector as vector_of, tree, placed_by}
 use Rattle.datum_reader.specs.declared.datum.Atom as code_atom
 use Rattle.datum_reader.specs.declared.datum.Mark as code_mark
-use Rattle.datum_reader.specs.Views.{leaf_of, mark_of, shape_step, datum_step, placed, shape_of, datum_of, data_of, end_data}
+use Rattle.datum_reader.specs.Views.{Shared, leaf_of, mark_of, shape_step, datum_step, placed, shape_of, datum_of, data_of, end_data}
 use Rattle.scheme_model.specs.Ident.{Ident as Identifier}
 use Rattle.scheme_model.specs.Measures.{tree_size, trees_size, tail_size, tree_depth}
 use Rattle.datum_reader.specs.declared.datum.Datum as code
@@ -54,12 +54,12 @@ datum-bytes d texts e =
     datum-at d (shape.Bytes texts) e ∙ ap (λ (s : Shape). shape_of s (at d)) (sym (shape.rolls-Bytes texts))
     ∙ ap (λ (g : Place → Datum). g (at d)) (fold-roll-Shape (Place → Datum) Datum shape_step datum_step (Shape-F.Bytes texts))
 
-pub datum-vector : (d : code.Datum) (xs : Vec code.Datum Global) → d.shape ≡ shape.Vector xs → datum_of d ≡ vector (at d) (row (data_of xs.items) none)
+pub datum-vector : (d : code.Datum) (xs : Shared) → d.shape ≡ shape.Vector xs → datum_of d ≡ vector (at d) (row (data_of xs.value.items) none)
 datum-vector d xs e =
     datum-at d (shape.Vector xs) e ∙ ap (λ (s : Shape). shape_of s (at d)) (sym (shape.rolls-Vector xs))
     ∙ ap (λ (g : Place → Datum). g (at d)) (fold-roll-Shape (Place → Datum) Datum shape_step datum_step (Shape-F.Vector xs))
 
-pub datum-list : (d : code.Datum) (xs : Vec code.Datum Global) (end : Option (Box code.Datum)) → d.shape ≡ shape.List xs end → datum_of d ≡ list (at d) (row (data_of xs.items) (end_data end))
+pub datum-list : (d : code.Datum) (xs : Shared) (end : Option (Box code.Datum)) → d.shape ≡ shape.List xs end → datum_of d ≡ list (at d) (row (data_of xs.value.items) (end_data end))
 datum-list d xs end e = datum-at d (shape.List xs end) e ∙ list-shape xs end (at d)
 
 -- ---- parts of what trees can be made of
@@ -121,7 +121,7 @@ module _ (into : ℕ) (home : Home) where
     pub whole : part_tree into home d ≡ list_of (parts_trees into home ds) (tail_tree into home end) (Some o)
     pub size : (trees_size (parts_trees into home ds) + tail_size (tail_tree into home end)) + 1 ≡ tree_size (part_tree into home d)
 
-  pub list_parts : (d : code.Datum) (o : Occ) (xs : Vec code.Datum Global) (ds : List code.Datum) (end : Option (Box code.Datum)) → d.shape ≡ shape.List xs end → ds ≡ xs.items →
+  pub list_parts : (d : code.Datum) (o : Occ) (xs : Shared) (ds : List code.Datum) (end : Option (Box code.Datum)) → d.shape ≡ shape.List xs end → ds ≡ xs.value.items →
       o ≡ place d → CanBeSeeded d → ListParts d o ds end
   list_parts d o xs ds end e same here h =
       let is : datum_of d ≡ list (at d) (row (data_of ds) (end_data end)) =
@@ -145,7 +145,7 @@ module _ (into : ℕ) (home : Home) where
     pub whole : part_tree into home d ≡ vector_of (parts_trees into home ds) (Some o)
     pub size : trees_size (parts_trees into home ds) + 1 ≡ tree_size (part_tree into home d)
 
-  pub vector_parts : (d : code.Datum) (o : Occ) (xs : Vec code.Datum Global) (ds : List code.Datum) → d.shape ≡ shape.Vector xs → ds ≡ xs.items → o ≡ place d →
+  pub vector_parts : (d : code.Datum) (o : Occ) (xs : Shared) (ds : List code.Datum) → d.shape ≡ shape.Vector xs → ds ≡ xs.value.items → o ≡ place d →
       CanBeSeeded d → VectorParts d o ds
   vector_parts d o xs ds e same here h =
       let is : datum_of d ≡ vector (at d) (row (data_of ds) none) =

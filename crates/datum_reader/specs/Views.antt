@@ -1,6 +1,8 @@
 -- What the tokens and data of the code stand for.
 use Rattle.std.specs.Prelude.{ℕ, List, map, Option, Some, None}
-use Rattle.std.specs.Global.{Box}
+use Rattle.std.specs.Global.{Box, Vec}
+use Rattle.std.specs.declared.alloc.Global.{Global}
+use Rattle.std.specs.declared.rc.Rc.{Rc}
 use Rattle.std.specs.Str.{chars}
 use Rattle.ls_base.specs.declared.places.Span.{Span}
 use Rattle.scheme_tokens.specs.declared.token.TokenKind as code_kind
@@ -43,6 +45,10 @@ mark_of marks.Quasi = Quasi
 mark_of marks.Unquote = Unquote
 mark_of marks.Splice = Splice
 
+-- parts that may be shared
+abbrev pub Shared : Type 0
+Shared = Rc (Vec code.Datum) Global
+
 -- what a list ends with, whose tail is seen already
 abbrev pub end_of : Option (Box Datum) → Data
 end_of None = none
@@ -52,8 +58,8 @@ end_of (Some d) = tail d.value
 abbrev pub shape_step : Shape-F (Place → Datum) Datum → Place → Datum
 shape_step (Shape-F.Atom a) p = atom p (spelled (leaf_of a))
 shape_step (Shape-F.Implied mark) p = atom p (implied (mark_of mark))
-shape_step (Shape-F.List ds end) p = list p (row ds.items (end_of end))
-shape_step (Shape-F.Vector ds) p = vector p (row ds.items none)
+shape_step (Shape-F.List ds end) p = list p (row ds.value.items (end_of end))
+shape_step (Shape-F.Vector ds) p = vector p (row ds.value.items none)
 shape_step (Shape-F.Bytes texts) p = bytes p (map chars texts.items)
 
 abbrev pub placed : ℕ → ℕ → Span → Place

@@ -1,5 +1,5 @@
 //! What a parenthesis closes (R7RS 7.1.2).
-ghost use Rattle.std.specs.Prelude.{◌≡◌};
+ghost use Rattle.std.specs.Prelude.{◌≡◌, IfOk};
 ghost use Rattle.datum_reader.specs.Open as model;
 ghost use Rattle.datum_reader.specs.Views.{datum_of, data_of, shape_of};
 ghost use Rattle.datum_reader.specs.OpenViews.{tail_datum, spot_of, opener_of, Gives};
@@ -7,9 +7,10 @@ ghost use Rattle.datum_reader.specs.OpenViews.{tail_datum, spot_of, opener_of, G
 use crate::datum::{Datum, Shape};
 use crate::open::{BAD_DOT, MISSING_DATUM, Opener, Spot, fault};
 use crate::tail::{Tail, with_tail};
-use ls_base::Span;
+use ls_base::{Mem, Span};
 use scheme_tokens::ReadFault;
 use std::alloc::Global;
+use std::rc::Rc;
 
 /// A datum from one token up to another.
 #[inline(always)]
@@ -27,13 +28,13 @@ pub fn make_datum(shape: Shape, first: Spot, last: Spot) -> Datum
     }
 }
 
-/// Parts that take no more memory than they need.
-fn fitted(parts: Vec<Datum>) -> Vec<Datum>
-    ensures { result.items ≡ parts.items }
+/// Parts that can be shared, and take no more memory than they need.
+fn fitted(alloc: Global, parts: Vec<Datum>) -> Mem<Rc<Vec<Datum>>>
+    ensures { IfOk result (λ shared. shared.value.items ≡ parts.items) }
 {
     let mut parts = parts;
     parts.shrink_to_fit();
-    parts
+    Ok(Rc::new(alloc, parts)?)
 }
 
 /// The datum that a parenthesis closes.
@@ -48,9 +49,15 @@ pub fn closed(
     ensures { Gives tail_datum result (model.closed_by (opener_of opener) (spot_of first) (spot_of last) (data_of parts.items)) }
 {
     match opener {
-        Opener::List => Ok(Tail::Datum(make_datum(Shape::List(fitted(parts), None), first, last))),
+        Opener::List => {
+            let shape = Shape::List(fitted(alloc, parts)?, None);
+            Ok(Tail::Datum(make_datum(shape, first, last)))
+        }
         Opener::Ended(_, tail) => Ok(with_tail(alloc, parts, Box::into_inner(tail), first, last)?),
-        Opener::Vector => Ok(Tail::Datum(make_datum(Shape::Vector(fitted(parts)), first, last))),
+        Opener::Vector => {
+            let shape = Shape::Vector(fitted(alloc, parts)?);
+            Ok(Tail::Datum(make_datum(shape, first, last)))
+        }
         Opener::Bytes(texts) => Ok(Tail::Datum(make_datum(Shape::Bytes(texts), first, last))),
         Opener::Dotted(dot) => Err(fault(BAD_DOT, dot)),
         Opener::Mark | Opener::Skip => Err(fault(MISSING_DATUM, first)),

@@ -1,4 +1,4 @@
-//! Copies of data with all their parts, in time that is linear in them.
+//! Copies of data. A copy shares the parts of a list or a vector, so it takes time for a tail, an atom or a bytevector alone.
 ghost use Rattle.std.specs.Prelude.{◌≡◌, IfOk};
 ghost use Rattle.datum_reader.specs.Views.{data_of, datum_of, shape_of, end_data};
 ghost use Rattle.scheme_model.specs.Data.{Place};
@@ -37,26 +37,12 @@ fn copy_shape(alloc: Global, shape: &Shape) -> Mem<Shape>
         Shape::Atom(atom) => Ok(Shape::Atom(copy_atom(atom)?)),
         Shape::Implied(mark) => Ok(Shape::Implied(*mark)),
         Shape::Bytes(numerals) => Ok(Shape::Bytes(copy_texts(alloc, numerals)?)),
-        Shape::Vector(parts) => Ok(Shape::Vector(copy_parts(alloc, parts)?)),
+        Shape::Vector(parts) => Ok(Shape::Vector(parts.clone()?)),
         Shape::List(parts, end) => {
-            let parts = copy_parts(alloc, parts)?;
             let end = copy_end(alloc, end)?;
-            Ok(Shape::List(parts, end))
+            Ok(Shape::List(parts.clone()?, end))
         }
     }
-}
-
-/// Copies of the parts of a list or a vector.
-#[cycle(copies)]
-fn copy_parts(alloc: Global, parts: &[Datum]) -> Mem<Vec<Datum>>
-    ensures { IfOk result (λ copies. data_of copies.items ≡ data_of parts.now) }
-{
-    let mut copies = Vec::with_capacity(alloc, parts.len())?;
-    for part in parts {
-        let copy = copy_datum(alloc, part)?;
-        copies.push(copy)?;
-    }
-    Ok(copies)
 }
 
 /// A copy of a list's tail, where it has one.
@@ -71,6 +57,18 @@ fn copy_end(alloc: Global, end: &Option<Box<Datum>>) -> Mem<Option<Box<Datum>>>
             Ok(Some(Box::new(alloc, copy)?))
         }
     }
+}
+
+/// Copies of some data.
+pub(crate) fn copy_all(alloc: Global, parts: &[Datum]) -> Mem<Vec<Datum>>
+    ensures { IfOk result (λ copies. data_of copies.items ≡ data_of parts.now) }
+{
+    let mut copies = Vec::with_capacity(alloc, parts.len())?;
+    for part in parts {
+        let copy = copy_datum(alloc, part)?;
+        copies.push(copy)?;
+    }
+    Ok(copies)
 }
 
 fn copy_texts(alloc: Global, texts: &[Text]) -> Mem<Vec<Text>>

@@ -1,5 +1,6 @@
-//! Data, with the numbers of their tokens and their places (R7RS 7.1.2).
+//! Data, with the numbers of their tokens and their places (R7RS 7.1.2). A copy shares the parts of lists and vectors.
 use ls_base::{Span, Text};
+use std::rc::Rc;
 
 /// A datum with the numbers of its first and last token in the text, which begin at 0, and its bytes.
 #[cycle(datum)]
@@ -18,8 +19,8 @@ pub enum Shape {
     /// The identifier that the mark in front of an abbreviated datum implies, by the mark's token.
     Implied(Mark),
     /// A list with its tail, where it is dotted. An abbreviation is the list of its mark and its datum.
-    List(Vec<Datum>, Option<Box<Datum>>),
-    Vector(Vec<Datum>),
+    List(Rc<Vec<Datum>>, Option<Box<Datum>>),
+    Vector(Rc<Vec<Datum>>),
     /// A bytevector: its numerals as they are written.
     Bytes(Vec<Text>),
 }

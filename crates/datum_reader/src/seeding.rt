@@ -143,12 +143,12 @@ fn seed_node(
         Shape::Implied(mark) => Ok(mark_node(&mut work.symbols, *mark, taken.into)?),
         Shape::Bytes(numerals) => Ok(bytes_node(alloc, &mut work.symbols, numerals, occ)?),
         Shape::Vector(parts) => {
-            let items = seed_parts(alloc, work, region, parts, taken)?;
+            let items = seed_parts(alloc, work, region, parts.as_slice(), taken)?;
             let occ = Some(occ);
             Ok(Node::Vector { items, occ })
         }
         Shape::List(parts, end) => {
-            let items = seed_parts(alloc, work, region, parts, taken)?;
+            let items = seed_parts(alloc, work, region, parts.as_slice(), taken)?;
             let tail = seed_tail(alloc, work, region, end, taken)?;
             let occ = Some(occ);
             Ok(Node::List { items, tail, occ })

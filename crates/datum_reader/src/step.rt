@@ -17,6 +17,7 @@ use ls_base::{Mem, Span, Text};
 use scheme_tokens::{ReadFault, Token, TokenKind};
 use std::alloc::Global;
 use std::mem;
+use std::rc::Rc;
 
 /// Whether a datum may begin at a token: not behind a tail, and not in a bytevector.
 #[inline(always)]
@@ -99,8 +100,8 @@ fn reopen(state: &mut State, opener: Opener, frame: Frame) -> Mem<()>
 }
 
 /// The list from a mark's token up to where a datum ends.
-fn make_marked(spot: Spot, parts: Vec<Datum>, last: u32, end: u32) -> Datum
-    ensures { datum_of result ≡ list (record { first = spot.number; last = last; start = spot.span.start; end = end }) (row (data_of parts.items) none) }
+fn make_marked(spot: Spot, parts: Rc<Vec<Datum>>, last: u32, end: u32) -> Datum
+    ensures { datum_of result ≡ list (record { first = spot.number; last = last; start = spot.span.start; end = end }) (row (data_of parts.value.items) none) }
 {
     Datum {
         shape: Shape::List(parts, None),
@@ -114,14 +115,15 @@ fn make_marked(spot: Spot, parts: Vec<Datum>, last: u32, end: u32) -> Datum
 }
 
 /// The abbreviation of a mark's token and what stands behind it.
-fn abbreviation(spot: Spot, items: Vec<Datum>, read: Tail) -> Mem<Tail>
+fn abbreviation(alloc: Global, spot: Spot, items: Vec<Datum>, read: Tail) -> Mem<Tail>
     ensures { IfOk result (λ t. tail_datum t ≡ model.abbreviation (spot_of spot) (data_of items.items) (tail_datum read)) }
 {
-    let datum = joined_datum(read)?;
+    let datum = joined_datum(alloc, read)?;
     let last = datum.last;
     let end = datum.span.end;
     let mut parts = items;
     parts.push(datum)?;
+    let parts = Rc::new(alloc, parts)?;
     Ok(Tail::Datum(make_marked(spot, parts, last, end)))
 }
 
@@ -146,21 +148,21 @@ fn adds(stack: &[Frame]) -> bool
 
 /// Adds a datum.
 #[inline(always)]
-fn add(state: &mut State, read: Tail) -> Mem<()>
+fn add(alloc: Global, state: &mut State, read: Tail) -> Mem<()>
     ensures { OnOk result (state_of state.new ≡ model.state (data_of state.old.items.items ++ tail_datum read ∷ []) (stack_of state.old.stack.items)) }
 {
-    let datum = joined_datum(read)?;
+    let datum = joined_datum(alloc, read)?;
     state.items.push(datum)?;
     Ok(())
 }
 
 /// Adds a datum, and puts back what is open.
 #[inline(always)]
-fn keep(state: &mut State, frame: Frame, read: Tail) -> Mem<()>
+fn keep(alloc: Global, state: &mut State, frame: Frame, read: Tail) -> Mem<()>
     ensures { OnOk result (state_of state.new
         ≡ model.state (data_of state.old.items.items ++ tail_datum read ∷ []) (frame_of frame ∷ stack_of state.old.stack.items)) }
 {
-    let datum = joined_datum(read)?;
+    let datum = joined_datum(alloc, read)?;
     state.items.push(datum)?;
     state.stack.push(frame)?;
     Ok(())
@@ -171,7 +173,7 @@ fn complete(alloc: Global, state: &mut State, read: Tail) -> Mem<()>
     ensures { OnOk result (state_of state.new ≡ model.completed (tail_datum read) (data_of state.old.items.items) (stack_of state.old.stack.items)) }
 {
     if adds(state.stack.as_slice()) {
-        return Ok(add(state, read)?);
+        return Ok(add(alloc, state, read)?);
     }
     Ok(complete_open(alloc, state, read)?)
 }
@@ -185,7 +187,7 @@ fn complete_open(alloc: Global, state: &mut State, read: Tail) -> Mem<()>
         match &frame.opener {
             Opener::Mark => {
                 let items = mem::replace(&mut state.items, frame.before);
-                read = abbreviation(frame.spot, items, read)?;
+                read = abbreviation(alloc, frame.spot, items, read)?;
             }
             Opener::Skip => {
                 state.items = frame.before;
@@ -195,13 +197,13 @@ fn complete_open(alloc: Global, state: &mut State, read: Tail) -> Mem<()>
                 let opener = Opener::Ended(*dot, Box::new(alloc, read)?);
                 return Ok(reopen(state, opener, frame)?);
             }
-            Opener::List => return Ok(keep(state, frame, read)?),
-            Opener::Ended(..) => return Ok(keep(state, frame, read)?),
-            Opener::Vector => return Ok(keep(state, frame, read)?),
-            Opener::Bytes(_) => return Ok(keep(state, frame, read)?),
+            Opener::List => return Ok(keep(alloc, state, frame, read)?),
+            Opener::Ended(..) => return Ok(keep(alloc, state, frame, read)?),
+            Opener::Vector => return Ok(keep(alloc, state, frame, read)?),
+            Opener::Bytes(_) => return Ok(keep(alloc, state, frame, read)?),
         }
     }
-    let datum = joined_datum(read)?;
+    let datum = joined_datum(alloc, read)?;
     state.items.push(datum)?;
     Ok(())
 }

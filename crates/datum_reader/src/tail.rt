@@ -5,10 +5,12 @@ ghost use Rattle.datum_reader.specs.Open as model;
 ghost use Rattle.datum_reader.specs.Views.{data_of, datum_of, shape_of, placed};
 ghost use Rattle.datum_reader.specs.OpenViews.{spot_of, chained, rest_data, tail_datum};
 
+use crate::copy::copy_all;
 use crate::datum::{Datum, Shape};
 use crate::open::Spot;
 use ls_base::{Mem, Span};
 use std::alloc::Global;
+use std::rc::Rc;
 
 /// What stands behind a list's parts: runs of more parts, the last run first, and its tail, which is no list.
 #[derive(Drop)]
@@ -64,6 +66,16 @@ fn run_more(runs: Vec<Vec<Datum>>, run: Vec<Datum>) -> Mem<Vec<Vec<Datum>>>
     Ok(runs)
 }
 
+/// Parts out of what may be shared: copies, where it is.
+fn own(alloc: Global, shared: Rc<Vec<Datum>>) -> Mem<Vec<Datum>>
+    ensures { IfOk result (λ parts. data_of parts.items ≡ data_of shared.value.items) }
+{
+    match Rc::try_unwrap(shared) {
+        Ok(parts) => Ok(parts),
+        Err(shared) => Ok(copy_all(alloc, &shared)?),
+    }
+}
+
 /// What a tail that is kept adds to its list.
 fn rest_of_datum(alloc: Global, datum: Datum) -> Mem<Rest>
     ensures { IfOk result (λ rest. rest_data rest ≡ tail_of (datum_of datum)) }
@@ -76,7 +88,7 @@ fn rest_of_datum(alloc: Global, datum: Datum) -> Mem<Rest>
     } = datum;
     match shape {
         Shape::List(parts, end) => {
-            let runs = run_more(Vec::new(alloc), parts)?;
+            let runs = run_more(Vec::new(alloc), own(alloc, parts)?)?;
             Ok(Rest { runs, end })
         }
         Shape::Atom(atom) => Ok(only_end(alloc, Shape::Atom(atom), first, last, span)?),
@@ -138,7 +150,7 @@ fn joined(parts: Vec<Datum>, runs: Vec<Vec<Datum>>) -> Mem<Vec<Datum>>
 
 /// A datum as it is kept, with a list's parts joined.
 #[inline(always)]
-pub fn joined_datum(tail: Tail) -> Mem<Datum>
+pub fn joined_datum(alloc: Global, tail: Tail) -> Mem<Datum>
     ensures { IfOk result (λ d. datum_of d ≡ tail_datum tail) }
 {
     match tail {
@@ -154,7 +166,7 @@ pub fn joined_datum(tail: Tail) -> Mem<Datum>
             let Rest { runs, end } = rest;
             let parts = joined(parts, runs)?;
             Ok(Datum {
-                shape: Shape::List(parts, end),
+                shape: Shape::List(Rc::new(alloc, parts)?, end),
                 first,
                 last,
                 span,

@@ -12,7 +12,7 @@ use Rattle.scheme_model.specs.Declarations.{UnitForm, atom_symbol}
 use Rattle.datum_reader.specs.declared.datum.Atom as code_atom
 use Rattle.datum_reader.specs.declared.datum.Datum as code
 use Rattle.datum_reader.specs.declared.datum.Shape.TheVariants as shape
-use Rattle.datum_reader.specs.Views.{data_of, datum_of, end_data, leaf_of}
+use Rattle.datum_reader.specs.Views.{Shared, data_of, datum_of, end_data, leaf_of}
 use Rattle.datum_reader.proofs.DatumLaws.{place-datum}
 use Rattle.datum_reader.proofs.SeedLaws.{datum-atom, datum-list, datum-vector}
 use Rattle.unit_sources.specs.declared.units.UnitForm as code_form
@@ -44,13 +44,13 @@ atom_names d a o unit form first is at =
     go true = refl
     go false = refl
 
-pub vector_names : (d : code.Datum) (xs : Vec code.Datum Global) (ps : List code.Datum) → d.shape ≡ shape.Vector xs → ps ≡ xs.items → all_names (data_of ps) ≡ name_tokens (datum_of d)
+pub vector_names : (d : code.Datum) (xs : Shared) (ps : List code.Datum) → d.shape ≡ shape.Vector xs → ps ≡ xs.value.items → all_names (data_of ps) ≡ name_tokens (datum_of d)
 vector_names d xs ps is same =
-    ap (λ (ys : List code.Datum). all_names (data_of ys)) same ∙ sym (append-nil (all_names (data_of xs.items))) ∙ sym (row_names (data_of xs.items) none) ∙ ap name_tokens (sym (datum-vector d xs is))
+    ap (λ (ys : List code.Datum). all_names (data_of ys)) same ∙ sym (append-nil (all_names (data_of xs.value.items))) ∙ sym (row_names (data_of xs.value.items) none) ∙ ap name_tokens (sym (datum-vector d xs is))
 
-pub list_names : (d : code.Datum) (xs : Vec code.Datum Global) (end : Option (Box code.Datum)) (ps : List code.Datum) → d.shape ≡ shape.List xs end → ps ≡ xs.items → all_names (data_of ps) ++ end_names end ≡ name_tokens (datum_of d)
+pub list_names : (d : code.Datum) (xs : Shared) (end : Option (Box code.Datum)) (ps : List code.Datum) → d.shape ≡ shape.List xs end → ps ≡ xs.value.items → all_names (data_of ps) ++ end_names end ≡ name_tokens (datum_of d)
 list_names d xs end ps is same =
-    ap (λ (ys : List code.Datum). all_names (data_of ys) ++ end_names end) same ∙ sym (row_names (data_of xs.items) (end_data end)) ∙ ap name_tokens (sym (datum-list d xs end is))
+    ap (λ (ys : List code.Datum). all_names (data_of ys) ++ end_names end) same ∙ sym (row_names (data_of xs.value.items) (end_data end)) ∙ ap name_tokens (sym (datum-list d xs end is))
 
 -- those of one and of another
 pub both_added : (old mid new : List Occ) (unit form first : ℕ) (a b ab : List ℕ) → mid ≡ old ++ occs_in unit form first a → new ≡ mid ++ occs_in unit form first b → a ++ b ≡ ab → new ≡ old ++ occs_in unit form first ab

@@ -72,9 +72,9 @@ fn add_datum(names: &mut Vec<Occ>, at: FormAt, datum: &Datum) -> Mem<()>
     match &datum.shape {
         Shape::Atom(atom) => Ok(add_atom(names, at.occ(datum.first), atom)?),
         Shape::Implied(_) | Shape::Bytes(_) => Ok(()),
-        Shape::Vector(parts) => Ok(add_parts(names, at, parts)?),
+        Shape::Vector(parts) => Ok(add_parts(names, at, parts.as_slice())?),
         Shape::List(parts, end) => {
-            add_parts(names, at, parts)?;
+            add_parts(names, at, parts.as_slice())?;
             Ok(add_end(names, at, end)?)
         }
     }

@@ -15,9 +15,9 @@ use Rattle.program_answers.proofs.TextLists.{some_row}
 use Rattle.program_expansion.specs.UsesInTurn.{uses_in}
 use Rattle.document_changes.specs.Events.{leaves}
 use Rattle.rename_conditions.specs.Readers.{IsReader, Reader}
-use Rattle.rename_planner.specs.ToldRenames.{rename_uses, text_uses, texts_of, uris_of}
-use Rattle.rename_planner.specs.declared.faults.RenameFault.{RenameFault}
-use Rattle.rename_planner.specs.declared.faults.RenameFault.TheVariants as faults
+use Rattle.rename_answers.specs.ToldRenames.{rename_uses, text_uses, texts_of, uris_of}
+use Rattle.rename_answers.specs.declared.faults.RenameFault.{RenameFault}
+use Rattle.rename_answers.specs.declared.faults.RenameFault.TheVariants as faults
 use Rattle.rename_planner.proofs.ReadingLaws.{uses_one}
 use Rattle.file_commands.specs.Renaming.{one_document, renaming_uses}
 use Rattle.file_commands.proofs.FileLaws.{not_text}

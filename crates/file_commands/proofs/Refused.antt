@@ -4,11 +4,11 @@ use Rattle.ls_base.specs.declared.encoding.Encoding.{Encoding}
 use Rattle.document_store.specs.Texts.{Document}
 use Rattle.rename_conditions.specs.Opened.{Opened, DocEdits}
 use Rattle.rename_conditions.specs.Renames.{Refusal}
-use Rattle.rename_planner.specs.RefusalTexts.{refusal_text}
-use Rattle.rename_planner.specs.RenameOutcomes.{AnswersAs, IsFaultOf}
-use Rattle.rename_planner.specs.ToldRenames.{told_as}
-use Rattle.rename_planner.specs.declared.faults.RenameFault.{RenameFault}
-use Rattle.rename_planner.specs.declared.faults.RenameFault.TheVariants as faults
+use Rattle.rename_answers.specs.RefusalTexts.{refusal_text}
+use Rattle.rename_answers.specs.RenameOutcomes.{AnswersAs, IsFaultOf}
+use Rattle.rename_answers.specs.ToldRenames.{told_as}
+use Rattle.rename_answers.specs.declared.faults.RenameFault.{RenameFault}
+use Rattle.rename_answers.specs.declared.faults.RenameFault.TheVariants as faults
 
 pub refused_so : (e : Encoding) (ds : List (List ℕ × Document)) (w : Opened) (answer : Result (List DocEdits) Refusal) (fault : RenameFault) (text : List ℕ) → (fault ≡ faults.Memory → ⊥) → AnswersAs e ds answer (Err fault) →
     ((refusal : Refusal) → IsFaultOf e ds refusal fault → text ≡ refusal_text e ds w refusal) → told_as e ds w answer ≡ Err text

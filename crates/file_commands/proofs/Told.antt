@@ -9,9 +9,9 @@ use Rattle.document_store.specs.Texts.{Document, Texts}
 use Rattle.rename_conditions.specs.Opened.{Opened, DocEdits}
 use Rattle.rename_conditions.specs.Readers.{Reader}
 use Rattle.rename_conditions.specs.Renames.{Refusal}
-use Rattle.rename_planner.specs.RenameOutcomes.{AnswersAs}
-use Rattle.rename_planner.specs.ToldRenames.{opened_as, rename_at, rename_told, told_as}
-use Rattle.rename_planner.specs.declared.faults.RenameFault.{RenameFault}
+use Rattle.rename_answers.specs.RenameOutcomes.{AnswersAs}
+use Rattle.rename_answers.specs.ToldRenames.{opened_as, rename_at, rename_told, told_as}
+use Rattle.rename_answers.specs.declared.faults.RenameFault.{RenameFault}
 use Rattle.command_lines.specs.Edits.{edit_lines, refusal_line}
 use Rattle.file_commands.specs.Renaming.{one_document, printed, rename_in_text}
 use Rattle.file_commands.specs.declared.renaming.Renamed.TheVariants.{Edits, Refused}

@@ -6,7 +6,7 @@ use Rattle.ls_base.specs.declared.encoding.Encoding.TheVariants.{Utf16}
 use Rattle.ls_base.specs.declared.places.Pos.{Pos}
 use Rattle.document_store.specs.Texts.{Document}
 use Rattle.rename_conditions.specs.Readers.{Reader}
-use Rattle.rename_planner.specs.ToldRenames.{rename_told, rename_uses, text_uses}
+use Rattle.rename_answers.specs.ToldRenames.{rename_told, rename_uses, text_uses}
 use Rattle.command_lines.specs.Diagnostics.{diagnostic_line, not_utf8}
 use Rattle.command_lines.specs.Edits.{edit_lines, refusal_line}
 use Rattle.file_commands.specs.declared.renaming.Renamed.{Renamed}

@@ -9,13 +9,15 @@ ghost use Rattle.program_differences.specs.declared.plan.Difference.{Difference}
 ghost use Rattle.rename_conditions.specs.Opened.{DocEdits as Edits};
 ghost use Rattle.rename_conditions.specs.Readers.{Reader, IsReader};
 ghost use Rattle.rename_conditions.specs.Renames.{Refusal};
-ghost use Rattle.rename_planner.specs.RenameOutcomes.{AnswersAs};
-ghost use Rattle.rename_planner.specs.ToldRenames.{opened_as, rename_uses, text_uses, told_as};
+ghost use Rattle.rename_answers.specs.RenameOutcomes.{AnswersAs};
+ghost use Rattle.rename_answers.specs.ToldRenames.{opened_as, rename_uses, text_uses, told_as};
 ghost use Rattle.file_commands.specs.Renaming.{one_document, printed, rename_in_text, renamed_in, renaming_uses};
 
 use command_lines::{diagnostic_lines, edit_lines, not_utf8, refusal_line};
 use ls_base::{Mem, Pos, Steps, Text};
-use rename_planner::{RenameFault, refusal_text, rename};
+use rename_answers::RenameFault;
+use rename_planner::rename;
+use rename_refusals::refusal_text;
 use std::alloc::Global;
 use std::sync::ledger::Ledger;
 use workspace_state::{DocEvent, Workspace};

@@ -1,5 +1,5 @@
 -- What calls leave of a bench adds up, and units stand in a work that has grown.
-use Rattle.std.proofs.Common.{◌≡◌, ℕ, List, refl, sym, ap, ◌∙◌, subst, inl}
+use Rattle.std.proofs.Common.{◌≡◌, ℕ, List, refl, sym, ap, ◌∙◌, subst}
 use Rattle.std.specs.BTreeSet.{contains_text}
 use Rattle.std.specs.FinMap as map
 use Rattle.std.specs.Ordering.{nat_cmp}
@@ -14,18 +14,10 @@ use Rattle.unit_scopes.specs.Outcomes.{Grows}
 use Rattle.unit_scopes.specs.Units.{UnitStands}
 use Rattle.unit_scopes.specs.declared.scope.UnitScope.{UnitScope}
 use Rattle.unit_scopes.proofs.ImportLaws.{same_trees}
-use Rattle.unit_scopes.proofs.GrowthStands.{growth_rests}
-use Rattle.unit_scopes.proofs.NotesStand.{notes_on}
 use Rattle.unit_scopes.proofs.OutcomeLaws.{grows_itself, grows_on}
+use Rattle.standard_scopes.proofs.Growing.{stands_on}
 use Rattle.form_expansion.specs.Forms.{IsBench, Stays}
 use Rattle.form_expansion.specs.declared.forms.Bench.{Bench}
-
-pub stands_on : (old new : Work) → KeepsTrees old new → KeepsNames old.symbols new.symbols → AreToldApart new.symbols.idents → AreToldApart new.symbols.symbols →
-    (u : UnitScope) (ls : List Frames) (s : ScopedState) (notes : List (Note FramedIdent)) → UnitStands old u ls s notes → UnitStands new u ls s notes
-stands_on old new trees names apart told u ls s notes h = record {
-  rests = growth_rests old new trees names apart told u ls s h.rests;
-  notes = notes_on old new ls ls names (λ n fs at. at) u.asked notes apart h.notes;
-}
 
 pub stays_by : (b c : Bench) → IsOpened b.work b.region → c.region ≡ b.region → KeepsTrees b.work c.work → KeepsNames b.work.symbols c.work.symbols → AddsIn b.work c.work b.region → SameRegions b.work c.work →
     c.scope.env.roots ≡ b.scope.env.roots → c.scope.libraries ≡ b.scope.libraries → Stays b c
@@ -69,15 +61,6 @@ bench_in b w trees names apart told h =
 
 -- ---- what a work keeps, whatever a call answers
 
--- names alone were added
-pub grows_named : (a b : Work) (region : Region) → b.trees ≡ a.trees → KeepsNames a.symbols b.symbols → Grows a b region
-grows_named a b region same names = record {
-  trees = same_trees a b same names;
-  names = names;
-  regions = record { identity = ap (λ t. t.identity) same; regions = ap (λ t. t.regions) same };
-  added = λ n l h. inl (ap (λ t. map.get t.nodes n) (sym same) ∙ h);
-}
-
 pub grows_by : (b c : Bench) → Stays b c → Grows b.work c.work b.region
 grows_by b c h = record { trees = h.trees; names = h.names; regions = h.regions; added = h.added }
 
@@ -87,7 +70,3 @@ grows_behind b c w first same next = grows_on b.work c.work w b.region first (su
 
 pub grows_then : (b c : Bench) (w : Work) → Stays b c → Grows c.work w c.region → Grows b.work w b.region
 grows_then b c w first next = grows_behind b c w (grows_by b c first) first.region next
-
--- names were added twice
-pub grows_twice : (a b c : Work) (r : Region) → b.trees ≡ a.trees → KeepsNames a.symbols b.symbols → c.trees ≡ b.trees → KeepsNames b.symbols c.symbols → Grows a c r
-grows_twice a b c r first names next more = grows_on a b c r (grows_named a b r first names) (grows_named b c r next more)

@@ -4,8 +4,6 @@ pub mod UnitForms  -- The forms of a unit by their numbers
 pub mod FormAtWork  -- While an item is expanded its form stays at work, and work may turn to another form at any time between
 pub mod FormSteps  -- What a step of one form leaves of the others, and what the form itself has then
 pub mod DeclaredForms  -- What forms set aside stands, one form more at a time, and through steps of other forms
-pub mod StandardNames  -- All standard names, gathered library by library
-pub mod PreludeMacros  -- The macros of the prelude, added from the last to the first
 mod RefusedLaws  -- Forms of which those that include a text are refused stand for those of the definition
 pub mod UnitWalk  -- Work on a unit one form or item at a time
 pub mod FormsFinish  -- What a form set aside is expanded, once its macro uses are met

@@ -1,6 +1,5 @@
-//! The forms of a unit as they are gone through and expanded (R7RS 5.1, 5.3), behind the prelude.
+//! The forms of a unit as they are gone through and expanded (R7RS 5.1, 5.3).
 #![tactic(auto)]
 
 pub mod forms;
-pub mod prelude;
 pub mod refused;

@@ -9,7 +9,7 @@ use Rattle.scheme_model.specs.Data.{spelled, Datum, row}
 use Rattle.scheme_model.specs.DataTrees.{tree_of, parts_of, end_of}
 use Rattle.scheme_model.specs.Entries.{same_occ}
 use Rattle.scheme_model.specs.Trees.{Tree, list as list_of, vector as vector_of, Trees, tree, Tail}
-use Rattle.datum_reader.specs.Views.{datum_of, data_of, end_data}
+use Rattle.datum_reader.specs.Views.{Shared, datum_of, data_of, end_data}
 use Rattle.datum_reader.specs.declared.datum.Atom as code_atom
 use Rattle.datum_reader.specs.declared.datum.Atom.TheVariants as atoms
 use Rattle.datum_reader.specs.declared.datum.Datum as code
@@ -61,20 +61,20 @@ lengths_differ first other (d ∷ ds) (e ∷ es) differ =
 -- ---- vectors and lists
 
 module _ (first other : ℕ) (a b : code.Datum) where
-  vector_as : (n : ℕ) (d : code.Datum) (xs : Vec code.Datum Global) → d.shape ≡ shape.Vector xs → tree_as n d ≡ vector_of (parts_as n xs.items) (Some (token_at n d.first))
-  vector_as n d xs is = ap (λ (t : Datum). tree_of (λ s. s) (token_at n) t) (datum-vector d xs is) ∙ ap (λ (ts : Trees (List ℕ)). vector_of ts (Some (token_at n d.first))) (parts_row n xs.items None)
+  vector_as : (n : ℕ) (d : code.Datum) (xs : Shared) → d.shape ≡ shape.Vector xs → tree_as n d ≡ vector_of (parts_as n xs.value.items) (Some (token_at n d.first))
+  vector_as n d xs is = ap (λ (t : Datum). tree_of (λ s. s) (token_at n) t) (datum-vector d xs is) ∙ ap (λ (ts : Trees (List ℕ)). vector_of ts (Some (token_at n d.first))) (parts_row n xs.value.items None)
 
-  list_as : (n : ℕ) (d : code.Datum) (xs : Vec code.Datum Global) (end : Option (Box code.Datum)) → d.shape ≡ shape.List xs end →
-      tree_as n d ≡ list_of (parts_as n xs.items) (end_as n end) (Some (token_at n d.first))
+  list_as : (n : ℕ) (d : code.Datum) (xs : Shared) (end : Option (Box code.Datum)) → d.shape ≡ shape.List xs end →
+      tree_as n d ≡ list_of (parts_as n xs.value.items) (end_as n end) (Some (token_at n d.first))
   list_as n d xs end is =
       ap (λ (t : Datum). tree_of (λ s. s) (token_at n) t) (datum-list d xs end is)
-      ∙ (λ j. list_of (parts_row n xs.items end j) (end_row n xs.items end j) (Some (token_at n d.first)))
+      ∙ (λ j. list_of (parts_row n xs.value.items end j) (end_row n xs.value.items end j) (Some (token_at n d.first)))
 
-  pub vectors_same : (xs ys : Vec code.Datum Global) → a.shape ≡ shape.Vector xs → b.shape ≡ shape.Vector ys → (parts starts : Bool) → parts ≡ same_trees bytes_eq (parts_as first xs.items) (parts_as other ys.items) →
+  pub vectors_same : (xs ys : Shared) → a.shape ≡ shape.Vector xs → b.shape ≡ shape.Vector ys → (parts starts : Bool) → parts ≡ same_trees bytes_eq (parts_as first xs.value.items) (parts_as other ys.value.items) →
       starts ≡ same_occ (token_at first a.first) (token_at other b.first) → parts && starts ≡ same_tree bytes_eq (tree_as first a) (tree_as other b)
   vectors_same xs ys is too parts starts p s = (λ j. p j && s j) ∙ sym (λ j. same_tree bytes_eq (vector_as first a xs is j) (vector_as other b ys too j))
 
-  pub lists_same : (xs ys : Vec code.Datum Global) (end tail : Option (Box code.Datum)) → a.shape ≡ shape.List xs end → b.shape ≡ shape.List ys tail → (parts ends starts : Bool) →
-      parts ≡ same_trees bytes_eq (parts_as first xs.items) (parts_as other ys.items) → ends ≡ same_tail bytes_eq (end_as first end) (end_as other tail) →
+  pub lists_same : (xs ys : Shared) (end tail : Option (Box code.Datum)) → a.shape ≡ shape.List xs end → b.shape ≡ shape.List ys tail → (parts ends starts : Bool) →
+      parts ≡ same_trees bytes_eq (parts_as first xs.value.items) (parts_as other ys.value.items) → ends ≡ same_tail bytes_eq (end_as first end) (end_as other tail) →
       starts ≡ same_occ (token_at first a.first) (token_at other b.first) → parts && (ends && starts) ≡ same_tree bytes_eq (tree_as first a) (tree_as other b)
   lists_same xs ys end tail is too parts ends starts p e s = (λ j. p j && (e j && s j)) ∙ sym (λ j. same_tree bytes_eq (list_as first a xs end is j) (list_as other b ys tail too j))

@@ -22,9 +22,11 @@ pub fn is_same(alloc: Global, a: &Datum, first: u32, b: &Datum, other: u32) -> M
         (Shape::Implied(x), Shape::Implied(y)) => Ok(is_same_mark(*x, *y)),
         (Shape::Atom(x), Shape::Atom(y)) => Ok(is_same_atom(x, y) & starts),
         (Shape::Bytes(x), Shape::Bytes(y)) => Ok(are_same_bytes(alloc, x, y)? & starts),
-        (Shape::Vector(x), Shape::Vector(y)) => Ok(are_same(alloc, x, first, y, other)? & starts),
+        (Shape::Vector(x), Shape::Vector(y)) => Ok(
+            are_same(alloc, x.as_slice(), first, y.as_slice(), other)? & starts,
+        ),
         (Shape::List(x, end), Shape::List(y, tail)) => {
-            let parts = are_same(alloc, x, first, y, other)?;
+            let parts = are_same(alloc, x.as_slice(), first, y.as_slice(), other)?;
             let ends = is_same_end(alloc, end, first, tail, other)?;
             Ok(parts & (ends & starts))
         }

@@ -8,10 +8,10 @@ use Rattle.document_store.specs.Texts.{Document}
 use Rattle.rename_conditions.specs.Opened.{DocEdits, Opened}
 use Rattle.rename_conditions.specs.Readers.{Reader}
 use Rattle.rename_conditions.specs.Renames.{Refusal}
-use Rattle.rename_planner.specs.RenameOutcomes.{AnswersAs}
-use Rattle.rename_planner.specs.ToldRenames.{opened_as, rename_at, rename_told, told_as}
-use Rattle.rename_planner.specs.declared.faults.RenameFault.{RenameFault}
-use Rattle.rename_planner.specs.declared.faults.RenameFault.TheVariants as faults
+use Rattle.rename_answers.specs.RenameOutcomes.{AnswersAs}
+use Rattle.rename_answers.specs.ToldRenames.{opened_as, rename_at, rename_told, told_as}
+use Rattle.rename_answers.specs.declared.faults.RenameFault.{RenameFault}
+use Rattle.rename_answers.specs.declared.faults.RenameFault.TheVariants as faults
 use Rattle.generated_workspace.specs.Selfrun.{edits_in}
 
 edits_told : (e : Encoding) (ds : List (List ℕ × Document)) (w : Opened) (answer : Result (List DocEdits) Refusal) (edits : List told.DocEdits) → AnswersAs e ds answer (Ok edits) →

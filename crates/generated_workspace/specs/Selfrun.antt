@@ -15,7 +15,7 @@ use Rattle.read_documents.specs.Readings.{Read}
 use Rattle.program_answers.specs.ToldAnswers.{answer_of}
 use Rattle.scheme_model.specs.Session as model
 use Rattle.rename_conditions.specs.Readers.{Reader}
-use Rattle.rename_planner.specs.ToldRenames.{rename_told, rename_uses, text_uses, texts_of, uris_of}
+use Rattle.rename_answers.specs.ToldRenames.{rename_told, rename_uses, text_uses, texts_of, uris_of}
 use Rattle.command_lines.specs.Counts.{count_lines}
 use Rattle.command_lines.specs.declared.counts.Counts.{Counts}
 use Rattle.generated_workspace.specs.Generated.{libraries, library_uri, selfrun_texts}

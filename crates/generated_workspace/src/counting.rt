@@ -12,7 +12,7 @@ ghost use Rattle.read_documents.specs.Readings.{Read, AreReadAs};
 ghost use Rattle.program_answers.specs.ToldAnswers.{answer_of};
 ghost use Rattle.program_answers.specs.Updates.{list_at};
 ghost use Rattle.rename_conditions.specs.Readers.{Reader, IsReader};
-ghost use Rattle.rename_planner.specs.ToldRenames.{rename_told, rename_uses};
+ghost use Rattle.rename_answers.specs.ToldRenames.{rename_told, rename_uses};
 ghost use Rattle.scheme_model.specs.Session as model;
 ghost use Rattle.generated_workspace.specs.Generated as generated;
 ghost use Rattle.generated_workspace.specs.Known.{IsKnownOf};
@@ -25,7 +25,8 @@ use ls_base::{
     Answer, Arrow, DocEdits, Items, Mem, Memory, Pos, Query, Range, Steps, Text, TextEdit,
 };
 use program_answers::lists::Lists;
-use rename_planner::{RenameFault, rename};
+use rename_answers::RenameFault;
+use rename_planner::rename;
 use std::alloc::Global;
 use std::sync::ledger::Ledger;
 use workspace_state::Workspace;

@@ -9,7 +9,7 @@ use Rattle.scheme_model.specs.Data.{Datum, Data, none, row}
 use Rattle.scheme_model.specs.Includes.{StringAt, string_in, strings_in, strings_in_all, includes, includes_declarations, or_none}
 use Rattle.datum_reader.specs.declared.datum.Datum as code
 use Rattle.datum_reader.specs.declared.datum.Shape.TheVariants as shape
-use Rattle.datum_reader.specs.Views.{data_of, datum_of, end_data}
+use Rattle.datum_reader.specs.Views.{Shared, data_of, datum_of, end_data}
 use Rattle.datum_reader.proofs.SeedLaws.{datum-list, datum-vector}
 use Rattle.included_strings.specs.Strings.{strings_among, texts_of, texts_in, texts_in_all, texts_in_end, texts_or_none}
 
@@ -51,9 +51,9 @@ row_strings : (ds : List Datum) (end : Data) → strings_in_all (row ds end) ≡
 row_strings [] end = refl
 row_strings (d ∷ ds) end = ap (λ q. strings_in d ++ q) (row_strings ds end) ∙ sym (append_assoc (strings_in d) (flat_map strings_in ds) (strings_in_all end))
 
-pub vector_texts : (d : code.Datum) (xs : Vec code.Datum Global) (ps : List code.Datum) → d.shape ≡ shape.Vector xs → ps ≡ xs.items → texts_in_all (data_of ps) ≡ texts_in (datum_of d)
+pub vector_texts : (d : code.Datum) (xs : Shared) (ps : List code.Datum) → d.shape ≡ shape.Vector xs → ps ≡ xs.value.items → texts_in_all (data_of ps) ≡ texts_in (datum_of d)
 vector_texts d xs ps is same =
-    ap (λ (ys : List code.Datum). texts_in_all (data_of ys)) same ∙ ap texts_of (sym (append-nil (flat_map strings_in (data_of xs.items))) ∙ sym (row_strings (data_of xs.items) none)) ∙ ap texts_in (sym (datum-vector d xs is))
+    ap (λ (ys : List code.Datum). texts_in_all (data_of ys)) same ∙ ap texts_of (sym (append-nil (flat_map strings_in (data_of xs.value.items))) ∙ sym (row_strings (data_of xs.value.items) none)) ∙ ap texts_in (sym (datum-vector d xs is))
 
 row_texts : (ds : List Datum) (end : Data) → texts_of (flat_map strings_in ds) ++ texts_of (strings_in_all end) ≡ texts_of (strings_in_all (row ds end))
 row_texts ds end = sym (ap texts_of (row_strings ds end) ∙ both (flat_map strings_in ds) (strings_in_all end))
@@ -61,10 +61,10 @@ row_texts ds end = sym (ap texts_of (row_strings ds end) ∙ both (flat_map stri
 own_texts : (ss rs ts : List StringAt) → texts_of ss ++ (texts_of rs ++ texts_of ts) ≡ texts_of (ss ++ rs ++ ts)
 own_texts ss rs ts = sym (both (ss ++ rs) ts ∙ ap (λ q. q ++ texts_of ts) (both ss rs) ∙ append_assoc (texts_of ss) (texts_of rs) (texts_of ts))
 
-pub list_texts : (d : code.Datum) (xs : Vec code.Datum Global) (end : Option (Box code.Datum)) (ps : List code.Datum) → d.shape ≡ shape.List xs end → ps ≡ xs.items →
+pub list_texts : (d : code.Datum) (xs : Shared) (end : Option (Box code.Datum)) (ps : List code.Datum) → d.shape ≡ shape.List xs end → ps ≡ xs.value.items →
     texts_or_none (includes (datum_of d)) ++ (texts_or_none (includes_declarations (datum_of d)) ++ (texts_in_all (data_of ps) ++ texts_in_end end)) ≡ texts_in (datum_of d)
 list_texts d xs end ps is same =
     let whole = datum-list d xs end is in
-    ap (λ q. texts_or_none (includes (datum_of d)) ++ (texts_or_none (includes_declarations (datum_of d)) ++ q)) (ap (λ (ys : List code.Datum). texts_in_all (data_of ys) ++ texts_in_end end) same ∙ row_texts (data_of xs.items) (end_data end))
-    ∙ own_texts (or_none (includes (datum_of d))) (or_none (includes_declarations (datum_of d))) (strings_in_all (row (data_of xs.items) (end_data end)))
-    ∙ ap texts_of (λ j. or_none (includes (whole j)) ++ or_none (includes_declarations (whole j)) ++ strings_in_all (row (data_of xs.items) (end_data end))) ∙ ap texts_in (sym whole)
+    ap (λ q. texts_or_none (includes (datum_of d)) ++ (texts_or_none (includes_declarations (datum_of d)) ++ q)) (ap (λ (ys : List code.Datum). texts_in_all (data_of ys) ++ texts_in_end end) same ∙ row_texts (data_of xs.value.items) (end_data end))
+    ∙ own_texts (or_none (includes (datum_of d))) (or_none (includes_declarations (datum_of d))) (strings_in_all (row (data_of xs.value.items) (end_data end)))
+    ∙ ap texts_of (λ j. or_none (includes (whole j)) ++ or_none (includes_declarations (whole j)) ++ strings_in_all (row (data_of xs.value.items) (end_data end))) ∙ ap texts_in (sym whole)

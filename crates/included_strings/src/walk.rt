@@ -25,11 +25,11 @@ fn add_datum<'a>(strings: &mut Vec<&'a str>, datum: &'a Datum) -> Mem<()>
 {
     match &datum.shape {
         Shape::Atom(_) | Shape::Implied(_) | Shape::Bytes(_) => Ok(()),
-        Shape::Vector(parts) => Ok(add_parts(strings, parts)?),
+        Shape::Vector(parts) => Ok(add_parts(strings, parts.as_slice())?),
         Shape::List(parts, end) => {
             add_strings(strings, includes(datum))?;
             add_strings(strings, includes_declarations(datum))?;
-            add_parts(strings, parts)?;
+            add_parts(strings, parts.as_slice())?;
             Ok(add_end(strings, end)?)
         }
     }

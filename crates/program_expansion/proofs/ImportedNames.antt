@@ -16,7 +16,7 @@ use Rattle.core_tree.specs.Names.{AllMatch}
 use Rattle.import_sets.specs.Given.{has_name}
 use Rattle.unit_scopes.specs.Opened.{AreNumbered, ImportsFor}
 use Rattle.unit_scopes.specs.declared.scope.Imported.{Imported}
-use Rattle.form_expansion.specs.Begun.{IsImport}
+use Rattle.standard_scopes.specs.Begun.{IsImport}
 use Rattle.unit_imports.specs.EntriesMeant.{EachOnce}
 use Rattle.core_tree.proofs.Matched.{matched_at, all_append}
 

@@ -31,13 +31,13 @@ use Rattle.unit_scopes.specs.Units.{UnitStands}
 use Rattle.unit_scopes.specs.declared.scope.Imported.{Imported}
 use Rattle.unit_scopes.proofs.ImportLaws.{same_trees}
 use Rattle.unit_scopes.proofs.PreludeLaws.{started_so}
-use Rattle.form_expansion.specs.Begun.{IsImport}
+use Rattle.standard_scopes.specs.Begun.{IsImport}
 use Rattle.program_expansion.specs.UnitResults.{GoesOn, Expands, ComesTo, expanded_after, with_unit}
 use Rattle.form_expansion.specs.Forms.{StandsAt, AreUnfolded, Unfolds}
 use Rattle.unit_imports.specs.EntriesMeant.{EachOnce}
 use Rattle.unit_imports.specs.declared.expanded.Expanded.{Expanded}
 use Rattle.form_expansion.specs.declared.forms.Bench.{Bench}
-use Rattle.form_expansion.proofs.BenchLaws.{stands_on}
+use Rattle.standard_scopes.proofs.Growing.{stands_on}
 use Rattle.program_expansion.proofs.ImportedNames.{meaning_in, imports_for}
 use Rattle.unit_imports.proofs.MeaningLaws.{entries_kept}
 use Rattle.program_expansion.proofs.UnitGoes.{searched_goes}

@@ -19,7 +19,7 @@ use Rattle.unit_scopes.specs.Stepped.{IsFresh}
 use Rattle.unit_scopes.specs.Units.{UnitStands}
 use Rattle.unit_scopes.specs.declared.scope.Imported.{Imported}
 use Rattle.unit_scopes.proofs.ImportLaws.{same_trees}
-use Rattle.form_expansion.specs.Begun.{IsImport}
+use Rattle.standard_scopes.specs.Begun.{IsImport}
 use Rattle.unit_imports.specs.Defined.{AreKnown}
 use Rattle.form_expansion.specs.Forms.{IsBench, IsBegun, AreFormed}
 use Rattle.unit_imports.specs.EntriesMeant.{HaveMeaning, EachOnce}

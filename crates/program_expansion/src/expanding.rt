@@ -20,7 +20,7 @@ ghost use Rattle.form_expansion.specs.Ends.{numbers_of};
 ghost use Rattle.feature_requirements.specs.Judged.{Knows};
 ghost use Rattle.unit_scopes.specs.Opened.{IsNew};
 ghost use Rattle.unit_scopes.specs.Outcomes.{Grows};
-ghost use Rattle.form_expansion.specs.Begun.{IsImport};
+ghost use Rattle.standard_scopes.specs.Begun.{IsImport};
 ghost use Rattle.program_expansion.specs.UnitResults.{Expands, FindsLibraries, GoesOn, HeadsBy, IsUpTo, expanded_after, with_unit};
 ghost use Rattle.read_documents.specs.UnitSources.{AreSourcesOf, IsSourceOf};
 ghost use Rattle.program_leaves.specs.Formed.{IsFormed};

@@ -12,8 +12,8 @@ use Rattle.program_answers.proofs.TextLists.{some_row}
 use Rattle.program_differences.specs.Both.{AreComparable}
 use Rattle.rename_laws.proofs.GivenLaws.{exports_are_given}
 use Rattle.workspace_state.specs.ProgramOfTexts.{IsProgramOfTexts}
-use Rattle.rename_planner.proofs.DistinctLaws.{uris_distinct}
-use Rattle.rename_planner.proofs.TellsLaws.{names_tell}
+use Rattle.rename_answers.proofs.DistinctLaws.{uris_distinct}
+use Rattle.rename_answers.proofs.TellsLaws.{names_tell}
 
 pub comparable : (one other : Texts) (work : Work) (old new : Program) → keys one ≡ keys other → IsProgramOfTexts one work old → IsProgramOfTexts other work new → AreComparable work old new
 comparable one other work old new same was now =

@@ -11,10 +11,10 @@ use Rattle.rename_conditions.specs.Readers.{Reader}
 use Rattle.rename_conditions.specs.Opened.{Opened, DocEdits, edits_in, edited_in, told_edits}
 use Rattle.rename_conditions.specs.Renames.{Refusal, NotBound, IsStandard, BadName, Unreadable, PrefixLost, PrefixClash, BrokenUnit, TooLong, Differs, ◌>>=◌, unless, first_of, joined_at, standard_names, new_symbol, first_unread, clashes, errors_in_reach, first_too_long, difference_by, broken, rename_in}
 use Rattle.rename_planner.specs.Planning.{ComesTo, Holds, fitting_in, named_in, planned_in}
-use Rattle.rename_planner.specs.RenameOutcomes.{IsFaultOf, RefusesAs, AnswersAs}
-use Rattle.rename_planner.specs.ToldRenames.{document_told}
-use Rattle.rename_planner.specs.declared.faults.RenameFault.{RenameFault}
-use Rattle.rename_planner.specs.declared.faults.RenameFault.TheVariants as faults
+use Rattle.rename_answers.specs.RenameOutcomes.{IsFaultOf, RefusesAs, AnswersAs}
+use Rattle.rename_answers.specs.ToldRenames.{document_told}
+use Rattle.rename_answers.specs.declared.faults.RenameFault.{RenameFault}
+use Rattle.rename_answers.specs.declared.faults.RenameFault.TheVariants as faults
 
 pub memory_comes : {A B : Type 0} (e : Encoding) (ds : List (List ℕ × Document)) (P : A → B → Type 0) (s : Result A Refusal) → ComesTo e ds P s (Err faults.Memory)
 memory_comes e ds P (Ok a) = refl

@@ -21,10 +21,10 @@ use Rattle.document_changes.specs.Edited.{edited_documents, edited_texts}
 use Rattle.workspace_state.specs.ProgramOfTexts.{IsProgramOfTexts}
 use Rattle.document_changes.proofs.EditedLaws.{edited_entries}
 use Rattle.rename_planner.specs.Planning.{ComesTo, Holds}
-use Rattle.rename_planner.specs.ToldRenames.{uris_of}
-use Rattle.rename_planner.specs.declared.faults.RenameFault.TheVariants as faults
-use Rattle.rename_planner.proofs.DistinctLaws.{uris_distinct}
-use Rattle.rename_planner.proofs.TellsLaws.{names_tell}
+use Rattle.rename_answers.specs.ToldRenames.{uris_of}
+use Rattle.rename_answers.specs.declared.faults.RenameFault.TheVariants as faults
+use Rattle.rename_answers.proofs.DistinctLaws.{uris_distinct}
+use Rattle.rename_answers.proofs.TellsLaws.{names_tell}
 
 uris_stay : (e : Encoding) (edits : List DocEdits) (ds : List (List ℕ × Document)) → uris_of (edited_documents e edits ds) ≡ uris_of ds
 uris_stay e edits [] = refl

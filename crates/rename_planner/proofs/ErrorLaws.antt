@@ -25,11 +25,11 @@ use Rattle.rename_conditions.specs.Opened.{Opened, spans_read}
 use Rattle.rename_conditions.specs.Renames as model
 use Rattle.rename_conditions.specs.Renames.{unless, first_of, broken}
 use Rattle.rename_planner.specs.Planning.{ComesTo, Holds, errors_in}
-use Rattle.rename_planner.specs.ReadDocuments.{read_as}
-use Rattle.rename_planner.specs.RenameOutcomes.{IsFaultOf}
-use Rattle.rename_planner.specs.declared.faults.RenameFault.TheVariants as faults
-use Rattle.rename_planner.proofs.PlaceLaws.{place_is}
-use Rattle.rename_planner.proofs.ReadingLaws.{spans_as}
+use Rattle.rename_answers.specs.ReadDocuments.{read_as}
+use Rattle.rename_answers.specs.RenameOutcomes.{IsFaultOf}
+use Rattle.rename_answers.specs.declared.faults.RenameFault.TheVariants as faults
+use Rattle.rename_answers.proofs.PlaceLaws.{place_is}
+use Rattle.rename_answers.proofs.SpansRead.{spans_as}
 
 -- ---- results by their numbers
 

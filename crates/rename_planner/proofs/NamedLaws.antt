@@ -14,8 +14,8 @@ use Rattle.text_edits.specs.Members.{prefix_of, stem_of}
 use Rattle.rename_conditions.specs.Opened.{Opened}
 use Rattle.rename_conditions.specs.Renames.{Refusal, NotBound, IsStandard, BadName, Unreadable, PrefixLost, ◌>>=◌, unless, first_of, first_unread, joined_at, new_symbol, standard_names}
 use Rattle.rename_planner.specs.Planning.{ComesTo, Holds, IsNamed, Same, named_in}
-use Rattle.rename_planner.specs.ReadDocuments.{read_as}
-use Rattle.rename_planner.specs.declared.faults.RenameFault.{RenameFault}
+use Rattle.rename_answers.specs.ReadDocuments.{read_as}
+use Rattle.rename_answers.specs.declared.faults.RenameFault.{RenameFault}
 use Rattle.rename_planner.specs.declared.planning.Named.{Named}
 use Rattle.rename_planner.proofs.BindLaws.{bind_err, bind_ok}
 

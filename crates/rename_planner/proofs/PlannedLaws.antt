@@ -9,8 +9,8 @@ use Rattle.program_answers.specs.ToldAnswers.{facts_in}
 use Rattle.rename_conditions.specs.Opened.{Opened, edited_in}
 use Rattle.rename_conditions.specs.Renames.{Refusal, PrefixClash, TooLong, broken, ◌>>=◌, unless, first_of, clashes, errors_in_reach, first_too_long}
 use Rattle.rename_planner.specs.Planning.{ComesTo, Holds, IsNamed, IsPlanned, fitting_in, named_in, planned_in}
-use Rattle.rename_planner.specs.ReadDocuments.{read_as}
-use Rattle.rename_planner.specs.declared.faults.RenameFault.{RenameFault}
+use Rattle.rename_answers.specs.ReadDocuments.{read_as}
+use Rattle.rename_answers.specs.declared.faults.RenameFault.{RenameFault}
 use Rattle.rename_planner.specs.declared.planning.Named.{Named}
 use Rattle.rename_planner.specs.declared.planning.Planned.{Planned}
 use Rattle.rename_planner.proofs.BindLaws.{bind_err, bind_ok}

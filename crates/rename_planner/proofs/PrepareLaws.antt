@@ -25,10 +25,10 @@ use Rattle.rename_conditions.specs.Opened.{Opened, DocEdits, edited_in, edits_in
 use Rattle.rename_conditions.specs.Renames.{Refusal, NotBound, IsStandard, BadName, Unreadable, PrefixLost, PrefixClash, TooLong, Differs, ◌>>=◌, unless, first_of, new_symbol, first_unread, clashes, errors_in_reach, first_too_long, difference_by, broken, rename_in, standard_names}
 use Rattle.text_edits.specs.Members.{prefix_of, stem_of}
 use Rattle.rename_planner.specs.Preparing.{IsUnnamed, prepared_told}
-use Rattle.rename_planner.specs.ReadDocuments.{read_as}
-use Rattle.rename_planner.specs.ToldRenames.{rename_at}
+use Rattle.rename_answers.specs.ReadDocuments.{read_as}
+use Rattle.rename_answers.specs.ToldRenames.{rename_at}
 use Rattle.rename_planner.specs.declared.preparing.Prepared as code
-use Rattle.rename_planner.proofs.ConditionLaws.{standards_same}
+use Rattle.rename_answers.proofs.ConditionLaws.{standards_same}
 use Rattle.rename_planner.proofs.RenameLaws.{rename_is}
 
 past_or : {A : Type 0} (o : Option A) (why : Refusal) (f : A → Result (List DocEdits) Refusal) → (IsUnnamed (Err why) → ⊥) → ((a : A) → IsUnnamed (f a) → ⊥) → IsUnnamed (ok_or o why >>= f) → ⊥

@@ -21,16 +21,16 @@ use Rattle.rename_conditions.specs.Renames.{Refusal, Differs, ◌>>=◌, unless,
 use Rattle.document_changes.specs.Edited.{edited_texts}
 use Rattle.document_changes.proofs.EditedLaws.{edited_entries}
 use Rattle.rename_planner.specs.Planning.{ComesTo, Holds, IsPlanned, planned_in}
-use Rattle.rename_planner.specs.ReadDocuments.{read_as}
-use Rattle.rename_planner.specs.RenameOutcomes.{AnswersAs}
-use Rattle.rename_planner.specs.ToldRenames.{edited_by, identifier_at, is_tried, opened_as, rename_at, rename_uses, text_uses, texts_of, uris_of}
-use Rattle.rename_planner.specs.declared.faults.RenameFault.{RenameFault}
-use Rattle.rename_planner.specs.declared.faults.RenameFault.TheVariants as faults
+use Rattle.rename_answers.specs.ReadDocuments.{read_as}
+use Rattle.rename_answers.specs.RenameOutcomes.{AnswersAs}
+use Rattle.rename_answers.specs.ToldRenames.{edited_by, identifier_at, is_tried, opened_as, rename_at, rename_uses, text_uses, texts_of, uris_of}
+use Rattle.rename_answers.specs.declared.faults.RenameFault.{RenameFault}
+use Rattle.rename_answers.specs.declared.faults.RenameFault.TheVariants as faults
 use Rattle.rename_planner.specs.declared.planning.Planned.{Planned}
 use Rattle.rename_planner.proofs.BindLaws.{AreEdits, answers, bind_err, bind_ok, compared_in, rename_parted}
 use Rattle.rename_planner.proofs.CompareLaws.{same_uris}
-use Rattle.rename_planner.proofs.MemberLaws.{difference_same}
-use Rattle.rename_planner.proofs.ReadersAgree.{opened_is_read, program_is_read}
+use Rattle.rename_answers.proofs.MemberLaws.{difference_same}
+use Rattle.rename_answers.proofs.ReadersAgree.{opened_is_read, program_is_read}
 use Rattle.rename_planner.proofs.ReadingLaws.{uses_one}
 use Rattle.rename_planner.proofs.StepLaws.{identifier_same}
 use Rattle.rename_planner.proofs.UsesLaws.{IsUntried, planned_untried, texts_led, tried, untried}

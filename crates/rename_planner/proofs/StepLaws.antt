@@ -22,15 +22,15 @@ use Rattle.rename_model.specs.Reach.{in_reach}
 use Rattle.rename_conditions.specs.Opened.{class_in}
 use Rattle.rename_conditions.specs.Renames.{Refusal, NotBound, IsStandard, unless, first_of, joined_at, standard_names, clashes, errors_in_reach}
 use Rattle.rename_planner.specs.Planning.{ComesTo, Holds, errors_in}
-use Rattle.rename_planner.specs.ReadDocuments.{read_as}
-use Rattle.rename_planner.specs.RenameOutcomes.{IsFaultOf}
-use Rattle.rename_planner.specs.ToldRenames.{identifier_at, identifier_by}
-use Rattle.rename_planner.specs.declared.faults.RenameFault.{RenameFault}
-use Rattle.rename_planner.specs.declared.faults.RenameFault.TheVariants as faults
+use Rattle.rename_answers.specs.ReadDocuments.{read_as}
+use Rattle.rename_answers.specs.RenameOutcomes.{IsFaultOf}
+use Rattle.rename_answers.specs.ToldRenames.{identifier_at, identifier_by}
+use Rattle.rename_answers.specs.declared.faults.RenameFault.{RenameFault}
+use Rattle.rename_answers.specs.declared.faults.RenameFault.TheVariants as faults
 use Rattle.rename_planner.proofs.BindLaws.{fault_refuses}
-use Rattle.rename_planner.proofs.ConditionLaws.{IsNumbered, clashing_same, from_first, standards_same}
-use Rattle.rename_planner.proofs.MemberLaws.{parts_members, reach_same}
-use Rattle.rename_planner.proofs.ReadingLaws.{spans_as}
+use Rattle.rename_answers.proofs.ConditionLaws.{IsNumbered, clashing_same, from_first, standards_same}
+use Rattle.rename_answers.proofs.MemberLaws.{parts_members, reach_same}
+use Rattle.rename_answers.proofs.SpansRead.{spans_as}
 use Rattle.ls_base.specs.Positions.{offset_of}
 
 -- ---- the class

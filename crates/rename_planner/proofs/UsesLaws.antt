@@ -9,7 +9,7 @@ use Rattle.rename_conditions.specs.Readers.{Reader}
 use Rattle.rename_conditions.specs.Opened.{Opened, edited_in, edits_in, told_edits}
 use Rattle.rename_conditions.specs.Renames.{Refusal, NotBound, IsStandard, BadName, Unreadable, PrefixLost, PrefixClash, TooLong, Differs, broken, ◌>>=◌, unless, first_of, joined_at, standard_names, new_symbol, first_unread, is_reserved, clashes, errors_in_reach, first_too_long, difference_by, rename_in}
 use Rattle.rename_planner.specs.Planning.{fitting_in, named_in, planned_in}
-use Rattle.rename_planner.specs.ToldRenames.{edited_by, is_tried}
+use Rattle.rename_answers.specs.ToldRenames.{edited_by, is_tried}
 use Rattle.rename_planner.proofs.BindLaws.{compared_in, rename_parted}
 
 -- a rename that is refused so isn't tried

@@ -19,10 +19,10 @@ use Rattle.rename_conditions.specs.Opened.{Opened, DocEdits, spans_read, edits_i
 use Rattle.rename_conditions.specs.Renames as model
 use Rattle.rename_conditions.specs.Renames.{Refusal, ◌>>=◌, unless, first_of}
 use Rattle.document_changes.specs.Edited.{edited_documents}
-use Rattle.rename_planner.specs.ToldRenames.{document_told, texts_of}
-use Rattle.rename_planner.specs.RenameOutcomes.{RefusesAs}
-use Rattle.rename_planner.specs.declared.faults.RenameFault.{RenameFault}
-use Rattle.rename_planner.specs.declared.faults.RenameFault.TheVariants as faults
+use Rattle.rename_answers.specs.ToldRenames.{document_told, texts_of}
+use Rattle.rename_answers.specs.RenameOutcomes.{RefusesAs}
+use Rattle.rename_answers.specs.declared.faults.RenameFault.{RenameFault}
+use Rattle.rename_answers.specs.declared.faults.RenameFault.TheVariants as faults
 use Rattle.rename_planner.specs.declared.planning.Named.{Named}
 use Rattle.rename_planner.specs.declared.planning.Planned.{Planned}
 use Rattle.program_differences.specs.Exported.{changes_as}

@@ -10,10 +10,10 @@ ghost use Rattle.document_changes.specs.Edited.{CanEdit, edited_texts};
 ghost use Rattle.rename_conditions.specs.Renames as model;
 ghost use Rattle.rename_planner.specs.Planning.{ComesTo, Holds};
 
-use crate::faults::RenameFault;
 use ls_base::{DocEdits, Items, Steps};
 use program_differences::difference::first_difference;
 use program_differences::plan::Plan;
+use rename_answers::RenameFault;
 use std::alloc::Global;
 use std::sync::ledger::Ledger;
 use workspace_state::Workspace;

@@ -18,11 +18,11 @@ ghost use Rattle.rename_conditions.specs.Readers.{Reader, IsReader};
 ghost use Rattle.rename_conditions.specs.Opened.{edited_in};
 ghost use Rattle.rename_conditions.specs.Renames as model;
 ghost use Rattle.rename_planner.specs.Planning.{ComesTo, Holds, Same, errors_in};
-ghost use Rattle.rename_planner.specs.ReadDocuments.{read_as};
+ghost use Rattle.rename_answers.specs.ReadDocuments.{read_as};
 
-use crate::faults::RenameFault;
 use class_edits::{class_edits, first_clash, first_too_long};
 use ls_base::{Items, Pos, Text};
+use rename_answers::RenameFault;
 use std::alloc::Global;
 use text_edits::{Edit, Members, new_symbol, stem_of};
 use workspace_state::{Class, PlacedError, Workspace};

@@ -4,13 +4,9 @@
 
 pub mod comparing;
 pub mod conditions;
-pub mod faults;
 pub mod planning;
 pub mod preparing;
 pub mod renaming;
-pub mod texts;
 
-pub use faults::RenameFault;
 pub use preparing::{Prepared, prepare};
 pub use renaming::rename;
-pub use texts::refusal_text;

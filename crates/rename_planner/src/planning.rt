@@ -18,12 +18,11 @@ ghost use Rattle.rename_conditions.specs.Readers.{Reader, IsReader};
 ghost use Rattle.document_changes.specs.Edited.{CanEdit};
 ghost use Rattle.rename_planner.specs.Changes.{all_changes, change_told, named_at, occ_from_end, unit_changes};
 ghost use Rattle.rename_planner.specs.Planning.{ComesTo, IsNamed, IsOpenText, IsPlanned, named_in, planned_in};
-ghost use Rattle.rename_planner.specs.ReadDocuments.{read_as};
+ghost use Rattle.rename_answers.specs.ReadDocuments.{read_as};
 
 use crate::conditions::{
     all_read, all_whole, bound, fitting_edits, no_clash, no_standard, stem, symbol,
 };
-use crate::faults::RenameFault;
 use class_edits::members::members;
 use class_edits::told_edits;
 use core_tree::units::{NameUse, Unit};
@@ -33,6 +32,7 @@ use program_answers::open::Open;
 use program_differences::plan::{ExportChange, Plan};
 use read_documents::form_numbers::number_of;
 use read_documents::opened::{Opened, nth};
+use rename_answers::RenameFault;
 use scheme_model::Occ;
 use std::alloc::Global;
 use syntax_tree::units::Entry;

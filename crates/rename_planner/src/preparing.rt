@@ -6,7 +6,7 @@ ghost use Rattle.read_documents.specs.Readings.{Read, AreReadAs};
 ghost use Rattle.program_answers.specs.ToldAnswers.{answer_of};
 ghost use Rattle.rename_conditions.specs.Readers.{Reader, IsReader};
 ghost use Rattle.rename_planner.specs.Preparing.{IsUnnamed, prepared_told};
-ghost use Rattle.rename_planner.specs.ToldRenames.{rename_at};
+ghost use Rattle.rename_answers.specs.ToldRenames.{rename_at};
 
 use ls_base::{Answer, Mem, Pos, Query, Range, Text};
 use workspace_state::Workspace;

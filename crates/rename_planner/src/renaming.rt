@@ -3,13 +3,13 @@ ghost use Rattle.std.specs.Prelude.{◌≡◌, ◌≢◌, ◌+◌, ◌<◌, List
 ghost use Rattle.std.specs.FinMap.{entries};
 ghost use Rattle.program_differences.specs.declared.plan.Difference.{Difference};
 ghost use Rattle.rename_conditions.specs.Readers.{Reader, IsReader};
-ghost use Rattle.rename_planner.specs.RenameOutcomes.{AnswersAs};
-ghost use Rattle.rename_planner.specs.ToldRenames.{rename_at, rename_uses};
+ghost use Rattle.rename_answers.specs.RenameOutcomes.{AnswersAs};
+ghost use Rattle.rename_answers.specs.ToldRenames.{rename_at, rename_uses};
 
 use crate::comparing::compare;
-use crate::faults::RenameFault;
 use crate::planning::{Planned, plan_rename};
 use ls_base::{DocEdits, Items, Pos, Steps, Text};
+use rename_answers::RenameFault;
 use std::alloc::Global;
 use std::sync::ledger::Ledger;
 use workspace_state::Workspace;

@@ -53,7 +53,7 @@ fn show(out: &mut Shown, datum: &Datum) {
         Shape::Implied(mark) => show_implied(out, *mark, datum.span.start),
         Shape::List(parts, tail) => {
             begin(out, "list", datum);
-            show_all(out, parts);
+            show_all(out, parts.as_slice());
             if let Some(tail) = tail {
                 show(out, tail);
             }
@@ -61,7 +61,7 @@ fn show(out: &mut Shown, datum: &Datum) {
         }
         Shape::Vector(parts) => {
             begin(out, "vector", datum);
-            show_all(out, parts);
+            show_all(out, parts.as_slice());
             out.close();
         }
         Shape::Bytes(numerals) => {

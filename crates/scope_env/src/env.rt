@@ -14,7 +14,7 @@ ghost use Rattle.scheme_model.specs.Meaning.{of_form};
 
 use crate::marks::Marks;
 use ls_base::{Mem, Memory};
-use std::alloc::{AllocError, Global};
+use std::alloc::Global;
 use std::collections::BTreeMap;
 use std::marker::Model;
 use syntax_tree::meaning::Meaning;
@@ -29,20 +29,6 @@ pub type ScopeNo = usize;
 struct Scope {
     parent: Option<ScopeNo>,
     bound: BTreeMap<IdNo, Meaning>,
-}
-
-impl Clone for Scope {
-    ghost use Rattle.std.specs.Prelude.{◌≡◌};
-    ghost use Rattle.scope_env.specs.Kept.{scope_of};
-
-    ghost is_clone = { λ s t. scope_of t ≡ scope_of s };
-
-    fn clone(&self) -> Result<Scope, AllocError> {
-        Ok(Scope {
-            parent: self.parent,
-            bound: self.bound.clone()?,
-        })
-    }
 }
 
 /// A binding that may be made: what a scope would bind an identifier to.
@@ -94,18 +80,11 @@ impl Env {
         }
     }
 
-    /// The same scopes once more.
-    pub fn copy(&self) -> Mem<Env>
-        ensures { IfOk result (λ env. env ≡ self.now) }
+    /// How many scopes there are.
+    pub fn count(&self) -> usize
+        ensures { result ≡ length self.now.scopes }
     {
-        Ok(Env {
-            alloc: self.alloc,
-            scopes: self.scopes.clone()?,
-            uses: self.uses.clone()?,
-            roots: self.roots.clone()?,
-            locals: self.locals.copy(self.alloc)?,
-            owns: self.owns.copy(self.alloc)?,
-        })
+        self.scopes.len()
     }
 
     /// Opens the own scope of a unit that has none yet. It binds nothing, and no scope is around it.

@@ -10,13 +10,13 @@ use Rattle.read_documents.specs.Readings.{Read, AreReadAs}
 use Rattle.workspace_state.specs.State as workspace
 use Rattle.program_answers.specs.ToldAnswers.{answer_of}
 use Rattle.program_answers.proofs.TextLists.{some_row}
-use Rattle.session_core.specs.declared.mode.Mode.{Mode}
-use Rattle.session_core.specs.declared.out.Out.{Out}
-use Rattle.session_core.specs.Asked.{About, AnswersQuery, IsAnswerTo, Question}
-use Rattle.session_core.specs.FromWire.{said_encoding, said_position}
-use Rattle.session_core.specs.States.{state_of}
-use Rattle.session_core.specs.Stepped.{IsOutcome, Says}
-use Rattle.session_core.proofs.Evented.{encoding_of-said_encoding}
+use Rattle.session_replies.specs.declared.mode.Mode.{Mode}
+use Rattle.session_replies.specs.declared.out.Out.{Out}
+use Rattle.session_replies.specs.Asked.{About, AnswersQuery, IsAnswerTo, Question}
+use Rattle.session_replies.specs.FromWire.{said_encoding, said_position}
+use Rattle.session_replies.specs.States.{state_of}
+use Rattle.session_replies.specs.Stepped.{IsOutcome, Says}
+use Rattle.session_replies.proofs.Evented.{encoding_of-said_encoding}
 
 -- an answer to a query, however the documents are read
 answers_query : (w : workspace.State) (uri : List ℕ) (pos : Pos) (query : Query) (answer : Answer) →

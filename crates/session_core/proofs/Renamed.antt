@@ -11,13 +11,13 @@ use Rattle.workspace_state.specs.State.{State}
 use Rattle.rename_conditions.specs.Opened.{Opened, DocEdits}
 use Rattle.rename_conditions.specs.Readers.{Reader, IsReader}
 use Rattle.rename_conditions.specs.Renames.{Refusal}
-use Rattle.rename_planner.specs.RenameOutcomes.{AnswersAs}
-use Rattle.rename_planner.specs.ToldRenames.{opened_as, rename_at, rename_uses, told_as}
-use Rattle.rename_planner.specs.declared.faults.RenameFault.{RenameFault}
-use Rattle.rename_planner.specs.declared.faults.RenameFault.TheVariants as faults
-use Rattle.session_core.specs.declared.out.Out.{Out}
-use Rattle.session_core.specs.Renamed.{IsRenamed}
-use Rattle.session_core.specs.ToWire.{rename_reply}
+use Rattle.rename_answers.specs.RenameOutcomes.{AnswersAs}
+use Rattle.rename_answers.specs.ToldRenames.{opened_as, rename_at, rename_uses, told_as}
+use Rattle.rename_answers.specs.declared.faults.RenameFault.{RenameFault}
+use Rattle.rename_answers.specs.declared.faults.RenameFault.TheVariants as faults
+use Rattle.session_replies.specs.declared.out.Out.{Out}
+use Rattle.session_replies.specs.Renamed.{IsRenamed}
+use Rattle.session_replies.specs.ToWire.{rename_reply}
 
 -- what is sent of an answer
 abbrev pub sent_of : Id → Result (List told.DocEdits) (List ℕ) → Out

@@ -11,18 +11,18 @@ use Rattle.scheme_model.specs.Texts.{Texts}
 use Rattle.workspace_state.specs.State as workspace
 use Rattle.rename_conditions.specs.Readers.{Reader, IsReader}
 use Rattle.rename_conditions.proofs.ReaderLaws.{reader_is_there}
-use Rattle.rename_planner.specs.ToldRenames.{rename_told, rename_uses}
-use Rattle.session_core.specs.declared.mode.Mode.{Mode}
-use Rattle.session_core.specs.declared.out.Out.{Out}
-use Rattle.session_core.specs.Asked.{questions}
-use Rattle.session_core.specs.Counted.{AreCounted}
-use Rattle.session_core.specs.FromWire.{said_id, said_position}
-use Rattle.session_core.specs.Renamed.{IsRenamed}
-use Rattle.session_core.specs.States.{state_of}
-use Rattle.session_core.specs.Stepped.{IsOutcome}
-use Rattle.session_core.specs.ToWire.{rename_reply, sent_id}
-use Rattle.session_core.proofs.CountedLaws.{rename_counted}
-use Rattle.session_core.proofs.Evented.{encoding_of-said_encoding}
+use Rattle.rename_answers.specs.ToldRenames.{rename_told, rename_uses}
+use Rattle.session_replies.specs.declared.mode.Mode.{Mode}
+use Rattle.session_replies.specs.declared.out.Out.{Out}
+use Rattle.session_replies.specs.Asked.{questions}
+use Rattle.session_replies.specs.Counted.{AreCounted}
+use Rattle.session_replies.specs.FromWire.{said_id, said_position}
+use Rattle.session_replies.specs.Renamed.{IsRenamed}
+use Rattle.session_replies.specs.States.{state_of}
+use Rattle.session_replies.specs.Stepped.{IsOutcome}
+use Rattle.session_replies.specs.ToWire.{rename_reply, sent_id}
+use Rattle.session_replies.proofs.CountedLaws.{rename_counted}
+use Rattle.session_replies.proofs.Evented.{encoding_of-said_encoding}
 
 sent_id-said_id : (id : Id) → sent_id (said_id id) ≡ id
 sent_id-said_id (ids.Number n) = refl

@@ -1,24 +1,25 @@
 //! Documents are opened, changed and closed; refusals are logged, and diagnostics published (LSP 3.17, text synchronisation).
-ghost use Rattle.std.specs.Prelude.{◌≡◌, ◌+◌, ◌≤◌, ◌++◌, length, map, vec_len, vec_capacity, None, IfOk, OnOk, OnErr};
+ghost use Rattle.std.specs.Prelude.{◌≡◌, ◌+◌, ◌≤◌, ◌++◌, ◌∷◌, [], length, map, vec_len, vec_capacity, None, IfOk, OnOk, OnErr};
+ghost use Rattle.ls_base.specs.Limits.{max_documents};
 ghost use Rattle.document_changes.specs.Events.{event_of};
 ghost use Rattle.scheme_model.specs.Session.{evented};
-ghost use Rattle.session_core.specs.Agreement.{said_event};
-ghost use Rattle.session_core.specs.Asked.{questions};
-ghost use Rattle.session_core.specs.Counted.{AreCounted};
-ghost use Rattle.session_core.specs.Events.{IsEvented, LogsFault};
-ghost use Rattle.session_core.specs.FromWire.{offsets};
-ghost use Rattle.session_core.specs.States.{state_of};
-ghost use Rattle.session_core.specs.declared.mode.Mode.{Mode};
-ghost use Rattle.session_core.specs.ToWire.{sent_list};
+ghost use Rattle.session_replies.specs.Agreement.{said_event};
+ghost use Rattle.session_replies.specs.Asked.{questions};
+ghost use Rattle.session_replies.specs.Counted.{AreCounted};
+ghost use Rattle.session_replies.specs.Events.{IsEvented, LogsFault};
+ghost use Rattle.session_replies.specs.FromWire.{offsets};
+ghost use Rattle.session_replies.specs.States.{state_of};
+ghost use Rattle.session_replies.specs.declared.mode.Mode.{Mode};
+ghost use Rattle.session_replies.specs.ToWire.{sent_list};
 
-use crate::Out;
-use crate::out::said;
-use crate::replies::log;
-use crate::wording::{BAD_RANGE, NOT_OPEN, TOO_LONG, TOO_MANY};
 use document_store::StoreFault;
 use ls_base::limits::MAX_DOCUMENTS;
 use ls_base::{Items, Mem, Memory, Steps};
 use lsp_messages::Reply;
+use session_replies::Out;
+use session_replies::out::said;
+use session_replies::replies::log;
+use session_replies::wording::{BAD_RANGE, NOT_OPEN, TOO_LONG, TOO_MANY};
 use std::alloc::Global;
 use std::sync::ledger::Ledger;
 use workspace_state::{DocEvent, Published, Updated, Workspace};
@@ -39,18 +40,28 @@ pub fn on_event<L: Ledger>(
     ensures kept { OnErr result (workspace.new ≡ workspace.old) }
     ensures counted { (mode : Mode) → OnOk result (AreCounted (evented offsets questions (state_of mode workspace.old.encoding workspace.old.texts) (said_event (event_of event.now))).replies steps.old steps.new) }
 {
-    let too_long = refusal(alloc, StoreFault::TooLong, event.uri())?;
-    let mut messages = Vec::with_capacity(alloc, MAX_MESSAGES)?;
+    let mut messages = room(alloc, event.uri())?;
     let updated = workspace.update(event, steps)?;
     let Updated { refused, lists } = updated;
     match refused {
-        None => Ok(published(messages, lists)),
-        Some(StoreFault::TooLong) => {
-            messages.push_reserved(too_long);
+        None => {
+            messages.clear();
             Ok(published(messages, lists))
         }
+        Some(StoreFault::TooLong) => Ok(published(messages, lists)),
         Some(fault) => Ok(said(alloc, refusal(alloc, fault, event.uri())?)?),
     }
+}
+
+/// Room for all messages of an event, with the log of the one refusal that changes the texts.
+fn room(alloc: Global, uri: &str) -> Mem<Vec<Reply>>
+    ensures log { IfOk result (λ messages. (log : Reply) × LogsFault StoreFault.TooLong uri.now log × (messages.items ≡ log ∷ [])) }
+    ensures room { IfOk result (λ messages. max_documents + 2 ≤ vec_capacity messages) }
+{
+    let log = refusal(alloc, StoreFault::TooLong, uri)?;
+    let mut messages = Vec::with_capacity(alloc, MAX_MESSAGES)?;
+    messages.push_reserved(log);
+    Ok(messages)
 }
 
 /// Messages, and lists behind them, for which there is room.

@@ -2,13 +2,7 @@
 #![tactic(auto)]
 
 mod events;
-pub mod laws;
-mod mode;
-mod out;
 mod renames;
-mod replies;
 mod session;
-mod wording;
 
-pub use out::Out;
 pub use session::Session;

@@ -5,16 +5,18 @@ ghost use Rattle.std.specs.FinMap.{entries};
 ghost use Rattle.rename_conditions.specs.Opened.{DocEdits as Edits};
 ghost use Rattle.rename_conditions.specs.Readers.{Reader, IsReader};
 ghost use Rattle.rename_conditions.specs.Renames.{Refusal};
-ghost use Rattle.rename_planner.specs.RenameOutcomes.{AnswersAs};
-ghost use Rattle.rename_planner.specs.ToldRenames.{opened_as, rename_uses, told_as};
+ghost use Rattle.rename_answers.specs.RenameOutcomes.{AnswersAs};
+ghost use Rattle.rename_answers.specs.ToldRenames.{opened_as, rename_uses, told_as};
 ghost use Rattle.program_differences.specs.declared.plan.Difference.{Difference};
-ghost use Rattle.session_core.specs.Renamed.{IsRenamed};
+ghost use Rattle.session_replies.specs.Renamed.{IsRenamed};
 
-use crate::Out;
-use crate::replies::{renamed, request_failed};
 use ls_base::{Mem, Steps, Text};
 use lsp_messages::{At, Id};
-use rename_planner::{RenameFault, refusal_text, rename};
+use rename_answers::RenameFault;
+use rename_planner::rename;
+use rename_refusals::refusal_text;
+use session_replies::Out;
+use session_replies::replies::{renamed, request_failed};
 use std::alloc::Global;
 use std::sync::ledger::Ledger;
 use workspace_state::Workspace;
@@ -37,18 +39,18 @@ pub fn on_rename<L: Ledger>(
     match rename(alloc, workspace, &at.uri, at.pos, new_name, steps) {
         Ok(edits) => Ok(renamed(alloc, id, edits)?),
         Err(fault) => {
-            let text = refusal(alloc, workspace, &fault)?;
+            let text = refusal(alloc, workspace, fault)?;
             Ok(request_failed(alloc, id, text)?)
         }
     }
 }
 
 /// What a refused rename says. Want of memory is passed on.
-fn refusal(alloc: Global, workspace: &Workspace, fault: &RenameFault) -> Mem<Text>
-    requires documents { (d : Difference) → fault.now ≡ RenameFault.Differs d → 0 < length (entries workspace.now.texts) }
-    ensures memory { OnOk result (fault.now ≢ RenameFault.Memory) }
-    ensures text { (r : Reader) (answer : Result (List Edits) Refusal) → IsReader r → AnswersAs workspace.now.encoding (entries workspace.now.texts) answer (Err fault.now)
+fn refusal(alloc: Global, workspace: &Workspace, fault: RenameFault) -> Mem<Text>
+    requires documents { (d : Difference) → fault ≡ RenameFault.Differs d → 0 < length (entries workspace.now.texts) }
+    ensures memory { OnOk result (fault ≢ RenameFault.Memory) }
+    ensures text { (r : Reader) (answer : Result (List Edits) Refusal) → IsReader r → AnswersAs workspace.now.encoding (entries workspace.now.texts) answer (Err fault)
         → IfOk result (λ text. told_as workspace.now.encoding (entries workspace.now.texts) (opened_as r (entries workspace.now.texts)) answer ≡ Err text) }
 {
-    Ok(refusal_text(alloc, workspace, fault)?)
+    Ok(refusal_text(alloc, workspace, &fault)?)
 }

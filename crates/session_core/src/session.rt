@@ -6,26 +6,25 @@ ghost use Rattle.lookahead.specs.Ahead.{cancelled_step, step_ahead};
 ghost use Rattle.scheme_model.specs.Session.{begin, evented, step};
 ghost use Rattle.scheme_model.specs.Session as spec;
 ghost use Rattle.document_changes.specs.Events.{event_of};
-ghost use Rattle.session_core.specs.Agreement.{said_event};
-ghost use Rattle.session_core.specs.Asked.{questions};
+ghost use Rattle.session_replies.specs.Agreement.{said_event};
+ghost use Rattle.session_replies.specs.Asked.{questions};
 ghost use Rattle.lsp_messages.specs.Messages.{message_of};
-ghost use Rattle.session_core.specs.Counted.{AreCounted};
-ghost use Rattle.session_core.specs.FromWire.{offsets, said_by, said_id, said_call, said_note, said_message, said_reject};
-ghost use Rattle.session_core.specs.States.{is_running};
-ghost use Rattle.session_core.specs.Stepped.{IsOutcome, IsStep, IsQuiet, expands, is_event, is_rename};
+ghost use Rattle.session_replies.specs.Counted.{AreCounted};
+ghost use Rattle.session_replies.specs.FromWire.{offsets, said_by, said_id, said_call, said_note, said_message, said_reject};
+ghost use Rattle.session_replies.specs.States.{is_running};
+ghost use Rattle.session_replies.specs.Stepped.{IsOutcome, IsStep, IsQuiet, expands, is_event, is_rename};
 
-use crate::Out;
 use crate::events::on_event;
-use crate::mode::Mode;
-use crate::out::{ended, silent};
 use crate::renames::on_rename;
-use crate::replies::{
+use ls_base::{Answer, Mem, Memory, Query, Steps, Text};
+use lsp_messages::{At, Call, Id, Message, Note, Reject, read_message};
+use session_replies::out::{ended, silent};
+use session_replies::replies::{
     answered, capabilities, invalid_params, invalid_request, logged, method_not_found,
     not_initialized, parse_error, request_cancelled,
 };
-use crate::wording::BAD_PARAMS;
-use ls_base::{Answer, Mem, Memory, Query, Steps, Text};
-use lsp_messages::{At, Call, Id, Message, Note, Reject, read_message};
+use session_replies::wording::BAD_PARAMS;
+use session_replies::{Mode, Out};
 use std::alloc::Global;
 use std::marker::Model;
 use std::sync::ledger::Ledger;
@@ -42,7 +41,7 @@ pub struct Session {
 
 impl Model for Session {
     ghost use Rattle.scheme_model.specs.Session.{State};
-    ghost use Rattle.session_core.specs.States.{coded_state, state_of, IsBegun};
+    ghost use Rattle.session_replies.specs.States.{coded_state, state_of, IsBegun};
 
     ghost Value = { State };
 

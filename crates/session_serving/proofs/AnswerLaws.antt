@@ -4,18 +4,18 @@ use Rattle.std.specs.List.{AllByRecursion}
 use Rattle.std.specs.Option.{option_map}
 use Rattle.lookahead.specs.Looked.{Looked}
 use Rattle.scheme_model.specs.Session.{Clean, Early, Ending, Run, State}
-use Rattle.session_core.specs.Asked.{Question}
-use Rattle.session_core.specs.ToWire.{AreReplies}
-use Rattle.session_core.specs.States.{exit_code}
-use Rattle.session_core.specs.Stepped.{IsOutcome}
-use Rattle.session_core.specs.declared.out.Out.{Out}
+use Rattle.session_replies.specs.Asked.{Question}
+use Rattle.session_replies.specs.ToWire.{AreReplies}
+use Rattle.session_replies.specs.States.{exit_code}
+use Rattle.session_replies.specs.Stepped.{IsOutcome}
+use Rattle.session_replies.specs.declared.out.Out.{Out}
 use Rattle.lsp_messages.specs.declared.reply.Reply.{Reply}
 use Rattle.session_serving.specs.AheadOutput.{looked_from, looked_step}
 use Rattle.session_serving.specs.BodiesOutcome.{AreAnswered, AnswersBodies, AnswersSome, BodiesEndAs, EndsSession, IsQuietBody, body_end_of}
 use Rattle.command_output.specs.Prints.{SinkSeen, Prints, PrintsFront, PrintsPart}
-use Rattle.session_serving.specs.ReplyFrames.{frames_of}
+use Rattle.reply_writing.specs.ReplyFrames.{frames_of}
 use Rattle.session_serving.proofs.Sessions.{replies_of_one, end_of_one, state_of_one, more_bodies, ended_session, are_more, frames_more}
-use Rattle.session_serving.proofs.Writes.{prints_nothing, prints_then, part_after, front_after, whole_part}
+use Rattle.reply_writing.proofs.Writes.{prints_nothing, prints_then, part_after, front_after, whole_part}
 
 -- ---- one body
 

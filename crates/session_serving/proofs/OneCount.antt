@@ -15,9 +15,9 @@ use Rattle.lookahead.specs.declared.looking.Looking.{Looking}
 use Rattle.lookahead.specs.declared.looking.Looking.TheVariants.{Ahead, OneByOne}
 use Rattle.lookahead.proofs.OneCompletion.{only_completion}
 use Rattle.scheme_model.specs.Session.{Ending, Run, begin}
-use Rattle.session_core.specs.Asked.{Question}
-use Rattle.session_core.specs.Counted.{AreCounted}
-use Rattle.session_core.proofs.CountedLaws.{one_count}
+use Rattle.session_replies.specs.Asked.{Question}
+use Rattle.session_replies.specs.Counted.{AreCounted}
+use Rattle.session_replies.proofs.CountedLaws.{one_count}
 use Rattle.command_output.specs.Prints.{SinkSeen}
 use Rattle.command_output.specs.Reads.{TakesAll, TakesBytes, source_seen}
 use Rattle.command_output.specs.Streams.{Streams, streams}

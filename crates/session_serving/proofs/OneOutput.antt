@@ -9,9 +9,9 @@ use Rattle.lookahead.specs.declared.looking.Looking.{Looking}
 use Rattle.lookahead.specs.declared.looking.Looking.TheVariants.{OneByOne}
 use Rattle.lookahead.proofs.OneCompletion.{only_completion}
 use Rattle.scheme_model.specs.Session.{Ending, Run, begin}
-use Rattle.session_core.specs.ToWire.{AreReplies}
-use Rattle.session_core.specs.Asked.{Question}
-use Rattle.session_core.proofs.OneAnswer.{one_replies}
+use Rattle.session_replies.specs.ToWire.{AreReplies}
+use Rattle.session_replies.specs.Asked.{Question}
+use Rattle.session_replies.proofs.OneAnswer.{one_replies}
 use Rattle.session_serving.specs.AheadOutput.{BeginBy, IsOutputBy, looked_from, looked_over}
 use Rattle.session_serving.specs.SessionOutput.{BeginOutput, IsOutputOf, Output, farewell, session_over, written}
 use Rattle.session_serving.proofs.Sessions.{are_split, ended_session, more_bodies, uncancelled_session}

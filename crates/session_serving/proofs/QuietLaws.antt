@@ -11,7 +11,7 @@ use Rattle.lookahead.specs.Looked.{Looked, looked, uncancelled}
 use Rattle.lookahead.specs.declared.looking.Looking.{Looking}
 use Rattle.lookahead.specs.declared.looking.Looking.TheVariants.{Ahead, OneByOne}
 use Rattle.lsp_messages.specs.declared.message.Id.{Id}
-use Rattle.session_core.specs.Stepped.{IsQuiet}
+use Rattle.session_replies.specs.Stepped.{IsQuiet}
 use Rattle.session_serving.specs.BodiesOutcome.{IsQuietBody}
 use Rattle.session_serving.specs.PieceOutcome.{IsOpen, IsQuietPiece, Serving, TakesPiece}
 use Rattle.command_output.specs.Prints.{SinkSeen}

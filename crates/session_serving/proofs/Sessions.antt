@@ -4,12 +4,12 @@ use Rattle.lookahead.specs.Looked.{Looked, looked}
 use Rattle.lookahead.specs.declared.looking.Looking.TheVariants.{OneByOne}
 use Rattle.scheme_model.specs.Session as model
 use Rattle.scheme_model.specs.Session.{Ending, Run, State, Stepped, after_replies, followed, step}
-use Rattle.session_core.specs.FromWire.{offsets}
-use Rattle.session_core.specs.Asked.{Question, questions}
-use Rattle.session_core.specs.ToWire.{AreReplies}
+use Rattle.session_replies.specs.FromWire.{offsets}
+use Rattle.session_replies.specs.Asked.{Question, questions}
+use Rattle.session_replies.specs.ToWire.{AreReplies}
 use Rattle.lsp_messages.specs.declared.reply.Reply.{Reply}
 use Rattle.session_serving.specs.AheadOutput.{looked_from, looked_step}
-use Rattle.session_serving.specs.ReplyFrames.{frame_of_reply, frames_of}
+use Rattle.reply_writing.specs.ReplyFrames.{frame_of_reply, frames_of}
 use Rattle.session_serving.specs.SessionOutput.{said, session_from}
 
 -- ---- a session over one body

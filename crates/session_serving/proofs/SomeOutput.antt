@@ -12,10 +12,10 @@ use Rattle.lookahead.specs.declared.looking.Looking.TheVariants.{OneByOne}
 use Rattle.lookahead.proofs.OneCompletion.{some_completion}
 use Rattle.scheme_model.specs.Session as session
 use Rattle.scheme_model.specs.Session.{Ending, Mode, Run, State, Stepped, begin, followed, step}
-use Rattle.session_core.specs.Asked.{Question, questions}
-use Rattle.session_core.specs.FromWire.{offsets, said_id}
-use Rattle.session_core.proofs.SomeAnswer.{AsksThat, some_replies}
-use Rattle.session_core.proofs.StepAsks.{step_asks}
+use Rattle.session_replies.specs.Asked.{Question, questions}
+use Rattle.session_replies.specs.FromWire.{offsets, said_id}
+use Rattle.session_replies.proofs.SomeAnswer.{AsksThat, some_replies}
+use Rattle.session_replies.proofs.StepAsks.{step_asks}
 use Rattle.session_serving.specs.AheadOutput.{IsOutputBy, looked_from, looked_in, looked_over, looked_step}
 use Rattle.session_serving.specs.SessionOutput.{IsOutputOf, Output, said, session_over}
 use Rattle.session_serving.proofs.Sessions.{uncancelled_session}

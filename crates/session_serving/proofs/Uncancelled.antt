@@ -11,9 +11,9 @@ use Rattle.lookahead.specs.Completed.{Complete, Completes}
 use Rattle.lookahead.specs.Looked.{Looked, looked, uncancelled}
 use Rattle.lookahead.specs.declared.looking.Looking.TheVariants.{OneByOne}
 use Rattle.scheme_model.specs.Session.{Run, begin}
-use Rattle.session_core.specs.Asked.{Question}
-use Rattle.session_core.specs.Counted.{AreCounted}
-use Rattle.session_core.specs.ToWire.{AreReplies}
+use Rattle.session_replies.specs.Asked.{Question}
+use Rattle.session_replies.specs.Counted.{AreCounted}
+use Rattle.session_replies.specs.ToWire.{AreReplies}
 use Rattle.session_serving.specs.AheadOutcome.{AnswersBeforeLast, CountsAllBy, CountsBeginBy, CountsBy, IsNonempty, IsOver, PiecesEndAs, ReadsPieces, ServesBy, TakesPieces}
 use Rattle.session_serving.specs.AheadOutput.{AnswerFirstBy, BeginBy, IsOutputBy, looked_from, looked_in, looked_over}
 use Rattle.session_serving.specs.CountedBytes.{CountsAll, CountsBegin}

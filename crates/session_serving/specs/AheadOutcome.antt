@@ -11,13 +11,13 @@ use Rattle.lookahead.specs.Completed.{Complete}
 use Rattle.lookahead.specs.declared.looking.Looking.{Looking}
 use Rattle.lookahead.specs.declared.looking.Looking.TheVariants.{Ahead}
 use Rattle.scheme_model.specs.Session.{begin}
-use Rattle.session_core.specs.Counted.{AreCounted}
+use Rattle.session_replies.specs.Counted.{AreCounted}
 use Rattle.std.specs.FinMap.{empty}
 use Rattle.session_serving.specs.AheadOutput.{AnswerFirstBy, BeginBy, IsOutputBy, looked_from, looked_over}
 use Rattle.command_output.specs.Prints.{SinkSeen}
 use Rattle.session_serving.specs.QuietBytes.{AreQuiet}
 use Rattle.command_output.specs.Reads.{SourceSeen}
-use Rattle.session_serving.specs.ReplyFrames.{frames_of}
+use Rattle.reply_writing.specs.ReplyFrames.{frames_of}
 use Rattle.session_serving.specs.ServeOutcome.{IsUnfinished, SessionEndsAs, WritesFront, max_stream}
 use Rattle.session_serving.specs.SessionOutput.{Output, written}
 use Rattle.command_output.specs.Streams.{Streams}

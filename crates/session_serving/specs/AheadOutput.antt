@@ -11,9 +11,9 @@ use Rattle.lookahead.specs.Looked.{Looked, looked}
 use Rattle.lookahead.specs.declared.looking.Looking.{Looking}
 use Rattle.scheme_model.specs.Session as session
 use Rattle.scheme_model.specs.Session.{Message, Run, State, Stepped, begin}
-use Rattle.session_core.specs.FromWire.{offsets, said_id}
-use Rattle.session_core.specs.Asked.{Question, questions}
-use Rattle.session_core.specs.ToWire.{AreReplies}
+use Rattle.session_replies.specs.FromWire.{offsets, said_id}
+use Rattle.session_replies.specs.Asked.{Question, questions}
+use Rattle.session_replies.specs.ToWire.{AreReplies}
 use Rattle.session_serving.specs.SessionOutput.{Output, said, written}
 
 -- ---- bodies, each beside the id by which it is cancelled

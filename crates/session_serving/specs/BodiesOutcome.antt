@@ -3,11 +3,11 @@ use Rattle.std.specs.Prelude.{◌≡◌, ℕ, zero, suc, List, ◌++◌, Option,
 use Rattle.lsp_messages.specs.declared.reply.Reply.{Reply}
 use Rattle.lookahead.specs.Looked.{Looked}
 use Rattle.scheme_model.specs.Session.{Ending, State}
-use Rattle.session_core.specs.Counted.{AreCounted}
-use Rattle.session_core.specs.Stepped.{IsQuiet}
-use Rattle.session_core.specs.ToWire.{AreReplies}
+use Rattle.session_replies.specs.Counted.{AreCounted}
+use Rattle.session_replies.specs.Stepped.{IsQuiet}
+use Rattle.session_replies.specs.ToWire.{AreReplies}
 use Rattle.command_output.specs.Prints.{SinkSeen, Prints, PrintsFront, PrintsPart}
-use Rattle.session_serving.specs.ReplyFrames.{frames_of}
+use Rattle.reply_writing.specs.ReplyFrames.{frames_of}
 use Rattle.session_serving.specs.AheadOutput.{looked_from}
 use Rattle.session_serving.specs.SessionEnds.{said_exit}
 use Rattle.session_serving.specs.declared.answering.Exit.TheVariants.{Clean, Early}

@@ -2,7 +2,7 @@
 use Rattle.std.specs.Prelude.{◌≡◌, ◌⊎◌, ℕ, List}
 use Rattle.ls_base.specs.Frames.{End, IsFrames}
 use Rattle.lsp_messages.specs.declared.reply.Reply.{Reply}
-use Rattle.session_core.specs.Counted.{AreCounted}
+use Rattle.session_replies.specs.Counted.{AreCounted}
 use Rattle.session_serving.specs.SessionOutput.{AnswerFirst, IsOutputOf, Output, session_over, written}
 
 -- those of all bodies, up to and with the first `exit`

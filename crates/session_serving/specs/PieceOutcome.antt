@@ -8,8 +8,8 @@ use Rattle.lsp_framing.specs.Taken.{contents}
 use Rattle.lookahead.specs.Looked.{looked}
 use Rattle.lookahead.specs.declared.looking.Looking.{Looking}
 use Rattle.scheme_model.specs.Session.{Ending, State}
-use Rattle.session_core.specs.Counted.{AreCounted}
-use Rattle.session_core.specs.Stepped.{IsQuiet}
+use Rattle.session_replies.specs.Counted.{AreCounted}
+use Rattle.session_replies.specs.Stepped.{IsQuiet}
 use Rattle.session_serving.specs.BodiesOutcome.{AnswersBodies, EndsSession, AnswersSome, CountsSome}
 use Rattle.command_output.specs.Prints.{SinkSeen, PrintsFront, PrintsPart}
 use Rattle.session_serving.specs.AheadOutput.{looked_from}

@@ -2,7 +2,7 @@
 use Rattle.std.specs.Prelude.{ℕ, List}
 use Rattle.std.specs.List.{AllByRecursion}
 use Rattle.ls_base.specs.Frames.{End, IsFrames}
-use Rattle.session_core.specs.Stepped.{IsQuiet}
+use Rattle.session_replies.specs.Stepped.{IsQuiet}
 
 -- each body of these bytes is quiet
 pub record AreQuiet (bytes : List ℕ) : Type 0 where

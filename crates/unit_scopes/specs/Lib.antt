@@ -16,5 +16,6 @@ pub mod Defining  -- Definitions in the code (R7RS 5.3 to 5.5)
 pub mod Units  -- The calls of the expander on the forms of units (R7RS 5.1, 5.3, 5.6)
 pub mod Opened  -- What a unit begins with, in the definition and in the code (R7RS 5.1, 5.6)
 pub mod Preluded  -- The prelude's unit (R7RS 4.2, 7.3)
-pub mod Copied  -- Units that are copied
 pub mod Others  -- What a step of a form leaves of the forms beside it
+pub mod Within  -- Notes and macros in scopes that are no newer than one
+pub mod Forgotten  -- What is local to the forms of units, and is forgotten between two of them (R7RS 4.3, 5.3)

@@ -11,7 +11,7 @@ use Rattle.unit_scopes.specs.declared.macros.Macros.{Macros}
 -- the macro that means this in a form
 abbrev pub macro_in : Macros → ℕ → Meaning → Option Macro
 macro_in m form (Local n) = get pair_cmp m.locals (form, n)
-macro_in m form (Global u i) = get pair_cmp m.globals (u, i)
+macro_in m form (Global u i) = get pair_cmp m.globals.all (u, i)
 macro_in m form (Standard s) = get nat_cmp m.standards s
 macro_in m form (Free s) = None
 

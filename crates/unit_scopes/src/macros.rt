@@ -2,17 +2,17 @@
 ghost use Rattle.std.specs.Prelude.{◌≡◌, ℕ, ◌+◌, None, IfOk, OnOk, OnErr};
 ghost use Rattle.std.specs.Option.{option_copied};
 ghost use Rattle.syntax_tree.specs.declared.meaning.Meaning.{Meaning as AnyMeaning};
-ghost use Rattle.unit_scopes.specs.Copied.{SameMacros};
 ghost use Rattle.unit_scopes.specs.Macros.{macro_in, edition_in, numbered, IsBound, Keeps};
 
+use crate::unit_macros::UnitMacros;
 use ls_base::{Items, Mem, Memory};
 use rules_check::RuleLeaf;
 use scope_env::ScopeNo;
-use std::alloc::{AllocError, Global};
+use std::alloc::Global;
 use std::collections::BTreeMap;
 use syntax_tree::meaning::Meaning;
 use syntax_tree::rules::Rules;
-use syntax_tree::symbols::{IdNo, SymNo};
+use syntax_tree::symbols::SymNo;
 
 /// A macro: the scope in which it was defined, its rules, and their leaves; and its edition, a number that it is given when it is
 /// kept, from 1 on.
@@ -24,31 +24,12 @@ pub struct Macro {
     pub edition: u64,
 }
 
-impl Clone for Macro {
-    ghost use Rattle.unit_scopes.specs.Copied.{SameMacro};
-
-    ghost is_clone = { SameMacro };
-
-    fn clone(&self) -> Result<Macro, AllocError> {
-        let alloc = *self.leaves.allocator();
-        let Ok(rules) = copy_rules(alloc, &self.rules) else {
-            return Err(AllocError);
-        };
-        Ok(Macro {
-            scope: self.scope,
-            rules,
-            leaves: Vec::from_slice(alloc, self.leaves.as_slice())?,
-            edition: self.edition,
-        })
-    }
-}
-
 /// All macros: the open unit's local ones by form and number, those that units define, and the standard ones; and the edition that was
 /// given last.
 #[derive(Drop)]
 pub struct Macros {
     pub locals: BTreeMap<(u32, u64), Macro>,
-    pub globals: BTreeMap<(u32, IdNo), Macro>,
+    pub globals: UnitMacros,
     pub standards: BTreeMap<SymNo, Macro>,
     pub editions: u64,
 }
@@ -60,7 +41,7 @@ impl Macros {
     {
         Macros {
             locals: BTreeMap::new(alloc),
-            globals: BTreeMap::new(alloc),
+            globals: UnitMacros::new(alloc),
             standards: BTreeMap::new(alloc),
             editions: 0,
         }
@@ -72,7 +53,7 @@ impl Macros {
     {
         match meaning {
             Meaning::Local(number) => self.locals.get(&(form, number)),
-            Meaning::Global { unit, ident } => self.globals.get(&(unit, ident)),
+            Meaning::Global { unit, ident } => self.globals.get(unit, ident),
             Meaning::Standard(symbol) => self.standards.get(&symbol),
             Meaning::Free(_) => None,
         }
@@ -86,19 +67,6 @@ impl Macros {
             Some(kept) => kept.edition,
             None => 0,
         }
-    }
-
-    /// The same macros once more.
-    pub fn copy(&self) -> Mem<Macros>
-        ensures same { IfOk result (SameMacros self.now) }
-        ensures editions { IfOk result (λ ms. ms.editions ≡ self.now.editions) }
-    {
-        Ok(Macros {
-            locals: self.locals.clone()?,
-            globals: self.globals.clone()?,
-            standards: self.standards.clone()?,
-            editions: self.editions,
-        })
     }
 
     /// Keeps a macro as what means this in a form, with the next edition. Nothing free means a macro.
@@ -119,7 +87,7 @@ impl Macros {
                 self.locals.insert((form, number), kept)?;
             }
             Meaning::Global { unit, ident } => {
-                self.globals.insert((unit, ident), kept)?;
+                self.globals.insert(unit, ident, kept)?;
             }
             Meaning::Standard(symbol) => {
                 self.standards.insert(symbol, kept)?;

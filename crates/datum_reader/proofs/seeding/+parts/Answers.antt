@@ -1,4 +1,6 @@
-use Rattle.std.proofs.Common.{Some, Ok, map, rules, arith}
+use Rattle.std.proofs.Common.{Some, Ok, map, rules, arith, Vec, ap, ◌∙◌}
+use Rattle.std.specs.declared.alloc.Global.{Global}
+use Rattle.datum_reader.specs.declared.datum.Datum as code
 use Rattle.std.specs.List.{join_with_byte}
 use Rattle.std.specs.Str.{chars, encode_utf8_all}
 use Rattle.scheme_model.specs.Trees.{Bytes, atom}
@@ -123,8 +125,8 @@ seed_node-returns-in_ok-bytes_node-in-Bytes t c =
 pub seed_node-seed_parts-requires : goal.seed_node-seed_parts-requires
 seed_node-seed_parts-requires t c =
     let s = c.args.taken in
-    let p = vector_parts s.into s.home c.args.datum.now c.place-occ.result c.in-Vector.parts c.deref-in-Vector.result.now c.in-Vector.is c.deref-in-Vector.ensures.value c.place-occ.ensures c.requires.read in
-    let seen = c.deref-in-Vector.ensures.value in
+    let p = vector_parts s.into s.home c.args.datum.now c.place-occ.result c.in-Vector.parts c.as_slice.result.now c.in-Vector.is (c.as_slice.ensures.value ∙ ap (λ (v : Vec code.Datum Global). v.items) c.deref-in-Vector.ensures) c.place-occ.ensures c.requires.read in
+    let seen = (c.as_slice.ensures.value ∙ ap (λ (v : Vec code.Datum Global). v.items) c.deref-in-Vector.ensures) in
     (first_of (search (rules, the_lemmas), search (rules, the_lemmas, c.in-Vector.is, seen), grind (arith, the_lemmas)), (c.requires.region, p.parts))
 
 pub seed_node-returns-in_err-items-in-Vector : goal.seed_node-returns-in_err-items-in-Vector
@@ -132,9 +134,9 @@ seed_node-returns-in_err-items-in-Vector t c =
     let w = c.args.work.now in
     let s = c.args.taken in
     let d = c.args.datum.now in
-    let ds = c.deref-in-Vector.result.now in
+    let ds = c.as_slice.result.now in
     let o = c.place-occ.result in
-    let p = vector_parts s.into s.home d o c.in-Vector.parts ds c.in-Vector.is c.deref-in-Vector.ensures.value c.place-occ.ensures c.requires.read in
+    let p = vector_parts s.into s.home d o c.in-Vector.parts ds c.in-Vector.is (c.as_slice.ensures.value ∙ ap (λ (v : Vec code.Datum Global). v.items) c.deref-in-Vector.ensures) c.place-occ.ensures c.requires.read in
     let whole = part_tree s.into s.home d in
     let e = c.in_err-items-in-Vector.field-0.0 in
     node_handed_on w c.seed_parts.new.work c.args.region.now whole c.from_residual-in_err-items-in-Vector.result e c.from_residual-in_err-items-in-Vector.ensures.1
@@ -145,9 +147,9 @@ seed_node-returns-in_ok-items-in-Vector t c =
     let w = c.args.work.now in
     let s = c.args.taken in
     let d = c.args.datum.now in
-    let ds = c.deref-in-Vector.result.now in
+    let ds = c.as_slice.result.now in
     let o = c.place-occ.result in
-    let p = vector_parts s.into s.home d o c.in-Vector.parts ds c.in-Vector.is c.deref-in-Vector.ensures.value c.place-occ.ensures c.requires.read in
+    let p = vector_parts s.into s.home d o c.in-Vector.parts ds c.in-Vector.is (c.as_slice.ensures.value ∙ ap (λ (v : Vec code.Datum Global). v.items) c.deref-in-Vector.ensures) c.place-occ.ensures c.requires.read in
     let done = c.in_ok-items-in-Vector.ensures in
     vector_prepared w c.seed_parts.new.work c.args.region.now (parts_trees s.into s.home ds) (Some o) (part_tree s.into s.home d) p.whole c.in_ok-items-in-Vector.items done.0 done.1 done.2
 
@@ -156,8 +158,8 @@ seed_node-returns-in_ok-items-in-Vector t c =
 pub seed_node-seed_parts-requires-in-List : goal.seed_node-seed_parts-requires-in-List
 seed_node-seed_parts-requires-in-List t c =
     let s = c.args.taken in
-    let p = list_parts s.into s.home c.args.datum.now c.place-occ.result c.in-List.parts c.deref-in-List.result.now c.in-List.end c.in-List.is c.deref-in-List.ensures.value c.place-occ.ensures c.requires.read in
-    let seen = c.deref-in-List.ensures.value in
+    let p = list_parts s.into s.home c.args.datum.now c.place-occ.result c.in-List.parts c.as_slice-in-List.result.now c.in-List.end c.in-List.is (c.as_slice-in-List.ensures.value ∙ ap (λ (v : Vec code.Datum Global). v.items) c.deref-in-List.ensures) c.place-occ.ensures c.requires.read in
+    let seen = (c.as_slice-in-List.ensures.value ∙ ap (λ (v : Vec code.Datum Global). v.items) c.deref-in-List.ensures) in
     (first_of (search (rules, the_lemmas), search (rules, the_lemmas, c.in-List.is, seen), grind (arith, the_lemmas)), (c.requires.region, p.parts))
 
 pub seed_node-returns-in_err-items-in-List : goal.seed_node-returns-in_err-items-in-List
@@ -165,9 +167,9 @@ seed_node-returns-in_err-items-in-List t c =
     let w = c.args.work.now in
     let s = c.args.taken in
     let d = c.args.datum.now in
-    let ds = c.deref-in-List.result.now in
+    let ds = c.as_slice-in-List.result.now in
     let o = c.place-occ.result in
-    let p = list_parts s.into s.home d o c.in-List.parts ds c.in-List.end c.in-List.is c.deref-in-List.ensures.value c.place-occ.ensures c.requires.read in
+    let p = list_parts s.into s.home d o c.in-List.parts ds c.in-List.end c.in-List.is (c.as_slice-in-List.ensures.value ∙ ap (λ (v : Vec code.Datum Global). v.items) c.deref-in-List.ensures) c.place-occ.ensures c.requires.read in
     let whole = part_tree s.into s.home d in
     let e = c.in_err-items-in-List.field-0.0 in
     node_handed_on w c.seed_parts-in-List.new.work c.args.region.now whole c.from_residual-in_err-items-in-List.result e c.from_residual-in_err-items-in-List.ensures.1
@@ -177,8 +179,8 @@ pub seed_node-seed_tail-requires : goal.seed_node-seed_tail-requires
 seed_node-seed_tail-requires t c =
     let s = c.args.taken in
     let d = c.args.datum.now in
-    let ds = c.deref-in-List.result.now in
-    let p = list_parts s.into s.home d c.place-occ.result c.in-List.parts ds c.in-List.end c.in-List.is c.deref-in-List.ensures.value c.place-occ.ensures c.requires.read in
+    let ds = c.as_slice-in-List.result.now in
+    let p = list_parts s.into s.home d c.place-occ.result c.in-List.parts ds c.in-List.end c.in-List.is (c.as_slice-in-List.ensures.value ∙ ap (λ (v : Vec code.Datum Global). v.items) c.deref-in-List.ensures) c.place-occ.ensures c.requires.read in
     (first_of (search (rules, the_lemmas), search (rules, the_lemmas, c.in-List.is), grind (arith, the_lemmas)), (c.in_ok-items-in-List.ensures.0.grows.trees.regions c.args.region.now c.requires.region, p.tail))
 
 pub seed_node-returns-in_err-tail-in-List : goal.seed_node-returns-in_err-tail-in-List
@@ -186,9 +188,9 @@ seed_node-returns-in_err-tail-in-List t c =
     let w = c.args.work.now in
     let s = c.args.taken in
     let d = c.args.datum.now in
-    let ds = c.deref-in-List.result.now in
+    let ds = c.as_slice-in-List.result.now in
     let o = c.place-occ.result in
-    let p = list_parts s.into s.home d o c.in-List.parts ds c.in-List.end c.in-List.is c.deref-in-List.ensures.value c.place-occ.ensures c.requires.read in
+    let p = list_parts s.into s.home d o c.in-List.parts ds c.in-List.end c.in-List.is (c.as_slice-in-List.ensures.value ∙ ap (λ (v : Vec code.Datum Global). v.items) c.deref-in-List.ensures) c.place-occ.ensures c.requires.read in
     let whole = part_tree s.into s.home d in
     let e = c.in_err-tail-in-List.field-0.0 in
     node_handed_on w c.seed_tail.new.work c.args.region.now whole c.from_residual-in_err-tail-in-List.result e c.from_residual-in_err-tail-in-List.ensures.1
@@ -200,9 +202,9 @@ seed_node-returns-in_ok-tail-in-List t c =
     let w = c.args.work.now in
     let s = c.args.taken in
     let d = c.args.datum.now in
-    let ds = c.deref-in-List.result.now in
+    let ds = c.as_slice-in-List.result.now in
     let o = c.place-occ.result in
-    let p = list_parts s.into s.home d o c.in-List.parts ds c.in-List.end c.in-List.is c.deref-in-List.ensures.value c.place-occ.ensures c.requires.read in
+    let p = list_parts s.into s.home d o c.in-List.parts ds c.in-List.end c.in-List.is (c.as_slice-in-List.ensures.value ∙ ap (λ (v : Vec code.Datum Global). v.items) c.deref-in-List.ensures) c.place-occ.ensures c.requires.read in
     let items = c.in_ok-items-in-List.ensures in
     let last = c.in_ok-tail-in-List.ensures in
     list_prepared w c.seed_parts-in-List.new.work c.args.region.now (parts_trees s.into s.home ds) (tail_tree s.into s.home c.in-List.end) (Some o) (part_tree s.into s.home d) p.whole

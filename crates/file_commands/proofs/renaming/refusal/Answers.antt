@@ -1,5 +1,5 @@
 use Rattle.std.specs.FinMap.{entries}
-use Rattle.rename_planner.specs.ToldRenames.{opened_as}
+use Rattle.rename_answers.specs.ToldRenames.{opened_as}
 use Rattle.file_commands.proofs.Refused.{refused_so}
 use Rattle.file_commands.proofs.renaming.refusal.Goals as goal
 

@@ -1,7 +1,7 @@
 -- The text is the one that is open.
 use Rattle.ls_base.specs.declared.encoding.Encoding.TheVariants.{Utf16}
 use Rattle.std.proofs.Common.{[], ◌∷◌}
-use Rattle.rename_planner.specs.ToldRenames.{rename_uses, text_uses}
+use Rattle.rename_answers.specs.ToldRenames.{rename_uses, text_uses}
 use Rattle.file_commands.specs.Renaming.{one_document}
 use Rattle.file_commands.proofs.CountLaws.{both_counted}
 use Rattle.file_commands.proofs.renaming.rename_alone.Goals as goal

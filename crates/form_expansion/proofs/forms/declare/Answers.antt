@@ -11,7 +11,8 @@ use Rattle.unit_scopes.proofs.FreshLaws.{none_count}
 use Rattle.unit_scopes.proofs.OutcomeLaws.{grows_on}
 use Rattle.form_expansion.specs.Forms.{known_by, taken}
 use Rattle.form_expansion.specs.declared.forms.Bench.{Bench}
-use Rattle.form_expansion.proofs.BenchLaws.{stands_on, stays_by, stays_on}
+use Rattle.standard_scopes.proofs.Growing.{stands_on}
+use Rattle.form_expansion.proofs.BenchLaws.{stays_by, stays_on}
 use Rattle.form_expansion.proofs.FormSteps.{passes_from}
 use Rattle.form_expansion.proofs.forms.declare.Goals as goal
 

@@ -5,7 +5,7 @@ use Rattle.ls_base.specs.declared.encoding.Encoding.TheVariants.{Utf16}
 use Rattle.document_store.specs.Texts.{Texts}
 use Rattle.read_documents.specs.Readings.{AreReadAs}
 use Rattle.program_answers.specs.Updates.{list_at}
-use Rattle.rename_planner.specs.ToldRenames.{rename_uses}
+use Rattle.rename_answers.specs.ToldRenames.{rename_uses}
 use Rattle.workspace_state.specs.State.{State}
 use Rattle.generated_workspace.specs.Generated.{library_uri, selfrun_texts}
 use Rattle.generated_workspace.specs.Known.{IsKnownOf}

@@ -8,7 +8,7 @@ use Rattle.read_documents.specs.Readings.{AreDocuments}
 use Rattle.program_answers.specs.ToldAnswers.{answer_of}
 use Rattle.program_answers.specs.Updates.{list_at}
 use Rattle.program_answers.proofs.TextLaws.{as_many}
-use Rattle.rename_planner.specs.ToldRenames.{rename_told, rename_uses}
+use Rattle.rename_answers.specs.ToldRenames.{rename_told, rename_uses}
 use Rattle.scheme_model.specs.Session as model
 use Rattle.generated_workspace.specs.Selfrun.{arrows_to, defined_at, edits_in, new_name, places_in}
 use Rattle.generated_workspace.proofs.CountLaws.{all_counted}

@@ -1,7 +1,7 @@
 -- The name is the one that is told.
 use Rattle.std.proofs.Common.{ℕ, List, ◌+◌, ap, ◌∙◌}
 use Rattle.std.specs.FinMap.{entries}
-use Rattle.rename_planner.specs.ToldRenames.{rename_told, rename_uses}
+use Rattle.rename_answers.specs.ToldRenames.{rename_told, rename_uses}
 use Rattle.generated_workspace.specs.Selfrun.{defined_at, edits_in}
 use Rattle.generated_workspace.proofs.counting.count_edits.Goals as goal
 

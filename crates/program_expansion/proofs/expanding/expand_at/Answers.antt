@@ -21,7 +21,8 @@ use Rattle.unit_imports.specs.EntriesMeant.{ExportsMean, HaveMeaning}
 use Rattle.read_documents.specs.Places.{SameHead, AreHeads, AreHeadsIn, AreFoundIn, ArePlaces}
 use Rattle.unit_scopes.proofs.ImportLaws.{same_trees}
 use Rattle.unit_scopes.proofs.OutcomeLaws.{grows_itself, grows_on, trees_on}
-use Rattle.form_expansion.proofs.BenchLaws.{bench_in, grows_named}
+use Rattle.standard_scopes.proofs.Growing.{grows_named}
+use Rattle.form_expansion.proofs.BenchLaws.{bench_in}
 use Rattle.unit_results.proofs.CameKept.{have_kept, libraries_kept}
 use Rattle.program_expansion.proofs.TurnCited.{turn_of}
 use Rattle.program_expansion.proofs.UnitCame.{goes_in}

@@ -19,7 +19,7 @@ use Rattle.unit_scopes.specs.State.{is_program}
 use Rattle.unit_scopes.specs.declared.scope.Imported.{Imported}
 use Rattle.unit_scopes.proofs.ImportLaws.{same_trees}
 use Rattle.unit_scopes.proofs.OutcomeLaws.{grows_on, trees_on}
-use Rattle.form_expansion.specs.Begun.{IsImport}
+use Rattle.standard_scopes.specs.Begun.{IsImport}
 use Rattle.program_leaves.specs.Formed.{IsFormed}
 use Rattle.program_expansion.specs.AtWork.{worked_forms}
 use Rattle.program_expansion.specs.UnitResults.{expanded_after, with_unit}
@@ -27,7 +27,8 @@ use Rattle.form_expansion.specs.Forms.{AreFormed, Unfolds}
 use Rattle.unit_results.specs.UnitsFound.{in_the_end}
 use Rattle.read_documents.specs.UnitFindings.{IsFoundOf}
 use Rattle.read_documents.specs.WereRead.{WereRead}
-use Rattle.form_expansion.proofs.BenchLaws.{bench_in, grows_named, grows_twice}
+use Rattle.standard_scopes.proofs.Growing.{grows_named, grows_twice}
+use Rattle.form_expansion.proofs.BenchLaws.{bench_in}
 use Rattle.program_expansion.proofs.ImportedNames.{are_numbered}
 use Rattle.unit_results.proofs.CameKept.{libraries_kept}
 use Rattle.unit_imports.proofs.MeaningLaws.{entries_kept, mean_kept, names_on}

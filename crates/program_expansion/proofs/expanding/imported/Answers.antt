@@ -2,7 +2,7 @@
 use Rattle.std.proofs.Common.{List, [], Some, refl, sym, ap, ◌∙◌, subst}
 use Rattle.core_tree.specs.Names.{AllMatch}
 use Rattle.unit_scopes.specs.declared.scope.Imported.{Imported}
-use Rattle.form_expansion.specs.Begun.{IsImport}
+use Rattle.standard_scopes.specs.Begun.{IsImport}
 use Rattle.program_expansion.proofs.ImportedNames.{imports_more}
 use Rattle.unit_imports.proofs.MeaningLaws.{names_itself, names_on}
 use Rattle.program_expansion.proofs.expanding.imported.Goals as goal

@@ -1,7 +1,7 @@
 use Rattle.std.proofs.Common.{◌≡◌, take}
 use Rattle.syntax_tree.specs.Names.{KeepsNames}
 use Rattle.core_tree.specs.Names.{AllMatch}
-use Rattle.form_expansion.specs.Begun.{IsImport}
+use Rattle.standard_scopes.specs.Begun.{IsImport}
 use Rattle.program_expansion.proofs.expanding.imported.Given as goal
 
 abbrev pub invariant-loop-entry : goal.invariant-loop-entry

@@ -8,10 +8,10 @@ use Rattle.program_differences.specs.Differences.{AreOne, plan_as}
 use Rattle.workspace_state.specs.ProgramOfTexts.{IsProgramOfTexts}
 use Rattle.document_changes.specs.Edited.{edited_texts}
 use Rattle.rename_laws.proofs.GivenLaws.{exports_are_given}
-use Rattle.rename_planner.specs.ToldRenames.{uris_of}
+use Rattle.rename_answers.specs.ToldRenames.{uris_of}
 use Rattle.rename_planner.proofs.CompareLaws.{comparable, differs, new_stands, same_program}
-use Rattle.rename_planner.proofs.DistinctLaws.{uris_distinct}
-use Rattle.rename_planner.proofs.TellsLaws.{names_tell}
+use Rattle.rename_answers.proofs.DistinctLaws.{uris_distinct}
+use Rattle.rename_answers.proofs.TellsLaws.{names_tell}
 use Rattle.rename_planner.proofs.comparing.compare.Goals as goal
 
 -- src/comparing.rt:37:9

@@ -2,8 +2,8 @@ use Rattle.std.proofs.Common.{◌≡◌, ℕ, List, Option, Some, None, refl, sy
 use Rattle.std.specs.FinMap.{entries}
 use Rattle.std.specs.Option.{option_map}
 use Rattle.rename_conditions.specs.Renames.{Unreadable, first_unread}
-use Rattle.rename_planner.specs.ReadDocuments.{reading_of}
-use Rattle.rename_planner.proofs.ConditionLaws.{IsNumbered, unread_one}
+use Rattle.rename_answers.specs.ReadDocuments.{reading_of}
+use Rattle.rename_answers.proofs.ConditionLaws.{IsNumbered, unread_one}
 use Rattle.rename_planner.proofs.StepLaws.{document_refuses, no_document}
 use Rattle.rename_planner.proofs.conditions.all_read.Goals as goal
 

@@ -3,7 +3,7 @@ use Rattle.std.specs.FinMap.{entries}
 use Rattle.scheme_model.specs.Diagnostics.{Diagnostic}
 use Rattle.rename_conditions.specs.Renames.{broken, errors_in_reach, first_of, unless}
 use Rattle.rename_planner.specs.Planning.{ComesTo, Holds}
-use Rattle.rename_planner.specs.ReadDocuments.{read_as}
+use Rattle.rename_answers.specs.ReadDocuments.{read_as}
 use Rattle.rename_planner.proofs.BindLaws.{err_goes}
 use Rattle.rename_planner.proofs.StepLaws.{reach_errors}
 use Rattle.rename_planner.proofs.conditions.all_whole.Goals as goal

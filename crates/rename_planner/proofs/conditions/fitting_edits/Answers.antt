@@ -5,8 +5,8 @@ use Rattle.program_answers.specs.ToldAnswers.{facts_in}
 use Rattle.class_edits.specs.DocumentEdits.{edits_of_class, seen, too_long}
 use Rattle.rename_conditions.specs.Opened.{edited_in}
 use Rattle.rename_conditions.specs.Renames.{TooLong, first_too_long}
-use Rattle.rename_planner.specs.ReadDocuments.{read_as}
-use Rattle.rename_planner.proofs.ConditionLaws.{IsNumbered, long_one}
+use Rattle.rename_answers.specs.ReadDocuments.{read_as}
+use Rattle.rename_answers.proofs.ConditionLaws.{IsNumbered, long_one}
 use Rattle.rename_planner.proofs.StepLaws.{document_refuses, no_document}
 use Rattle.rename_planner.proofs.conditions.fitting_edits.Goals as goal
 

@@ -6,7 +6,7 @@ use Rattle.program_answers.specs.Classed.{head_of}
 use Rattle.program_answers.specs.ToldAnswers.{facts_in, place_told}
 use Rattle.class_edits.specs.Clashes as code
 use Rattle.rename_conditions.specs.Renames.{PrefixClash, clashes, first_of}
-use Rattle.rename_planner.specs.ReadDocuments.{read_as}
+use Rattle.rename_answers.specs.ReadDocuments.{read_as}
 use Rattle.rename_planner.proofs.BindLaws.{passes, refused}
 use Rattle.rename_planner.proofs.StepLaws.{clashes_same, mapped_none, mapped_some}
 use Rattle.rename_planner.proofs.conditions.no_clash.Goals as goal

@@ -9,8 +9,8 @@ use Rattle.read_documents.specs.UnitFindings.{first_error_at}
 use Rattle.program_answers.specs.Placed.{IsErrorAt}
 use Rattle.rename_conditions.specs.Renames.{broken, first_of, unless}
 use Rattle.rename_planner.specs.Planning.{ComesTo, Holds, errors_in}
-use Rattle.rename_planner.specs.ReadDocuments.{read_as}
-use Rattle.rename_planner.specs.declared.faults.RenameFault.TheVariants as faults
+use Rattle.rename_answers.specs.ReadDocuments.{read_as}
+use Rattle.rename_answers.specs.declared.faults.RenameFault.TheVariants as faults
 use Rattle.rename_planner.proofs.BindLaws.{passes}
 use Rattle.rename_planner.proofs.ErrorLaws.{any_default, at_number, found_first, no_errors, none_more, refuses}
 use Rattle.rename_planner.proofs.conditions.no_error.Goals as goal

@@ -2,7 +2,7 @@ use Rattle.std.proofs.Common.{◌≡◌, [], List, take}
 use Rattle.std.specs.FinMap.{entries}
 use Rattle.read_documents.specs.Readings.{Read, AreReadAs}
 use Rattle.rename_planner.specs.Planning.{errors_in}
-use Rattle.rename_planner.specs.ReadDocuments.{read_as}
+use Rattle.rename_answers.specs.ReadDocuments.{read_as}
 use Rattle.rename_planner.proofs.conditions.no_error.Given as goal
 
 -- none of the units gone through has an Error

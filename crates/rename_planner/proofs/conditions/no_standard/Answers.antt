@@ -1,6 +1,6 @@
 use Rattle.std.proofs.Common.{Some, refl, sym, ap, ◌∙◌}
 use Rattle.rename_conditions.specs.Renames.{IsStandard, first_of, standard_names}
-use Rattle.rename_planner.specs.ReadDocuments.{read_as}
+use Rattle.rename_answers.specs.ReadDocuments.{read_as}
 use Rattle.rename_planner.proofs.BindLaws.{passes, refused}
 use Rattle.rename_planner.proofs.StepLaws.{standard_first}
 use Rattle.rename_planner.proofs.conditions.no_standard.Goals as goal

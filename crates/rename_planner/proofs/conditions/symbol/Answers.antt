@@ -6,7 +6,7 @@ use Rattle.text_edits.specs.NewNames.{is_reserved}
 use Rattle.rename_conditions.specs.Renames.{BadName, new_symbol}
 use Rattle.rename_planner.specs.Planning.{Same}
 use Rattle.rename_planner.proofs.BindLaws.{has, lacks}
-use Rattle.rename_planner.proofs.SymbolLaws.{no_symbol, symbol_told}
+use Rattle.rename_answers.proofs.SymbolLaws.{no_symbol, symbol_told}
 use Rattle.rename_planner.proofs.conditions.symbol.Goals as goal
 
 pub returns-in-Some : goal.returns-in-Some

@@ -2,7 +2,7 @@ use Rattle.std.specs.FinMap.{entries}
 use Rattle.program_answers.proofs.TextLists.{some_row}
 use Rattle.program_answers.specs.ToldAnswers.{name_there}
 use Rattle.rename_planner.specs.Planning.{IsNamed, named_in}
-use Rattle.rename_planner.specs.ReadDocuments.{read_as}
+use Rattle.rename_answers.specs.ReadDocuments.{read_as}
 use Rattle.rename_planner.proofs.BindLaws.{err_goes}
 use Rattle.rename_planner.proofs.NamedLaws.{all_hold, bad_name, is_standard, lost, unread}
 use Rattle.rename_planner.proofs.StepLaws.{bound_document}

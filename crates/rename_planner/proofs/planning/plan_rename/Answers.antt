@@ -4,7 +4,7 @@ use Rattle.program_answers.proofs.TextLists.{some_row}
 use Rattle.program_answers.specs.ToldAnswers.{name_there}
 use Rattle.rename_conditions.proofs.ReaderLaws.{reader_is_there}
 use Rattle.rename_planner.specs.Planning.{ComesTo, IsNamed, IsPlanned, named_in, planned_in}
-use Rattle.rename_planner.specs.ReadDocuments.{read_as}
+use Rattle.rename_answers.specs.ReadDocuments.{read_as}
 use Rattle.rename_planner.proofs.BindLaws.{comes_ok, err_goes}
 use Rattle.rename_planner.proofs.PlannedLaws.{all_hold, an_error, clash, too_long}
 use Rattle.rename_planner.proofs.planning.plan_rename.Goals as goal

@@ -14,11 +14,11 @@ use Rattle.text_edits.specs.Views.{occ_cmp}
 use Rattle.class_edits.specs.DocumentEdits as code
 use Rattle.rename_laws.proofs.GivenLaws.{exports_are_given}
 use Rattle.document_changes.specs.Edited.{edits_in}
-use Rattle.rename_planner.specs.ReadDocuments.{read_as}
+use Rattle.rename_answers.specs.ReadDocuments.{read_as}
 use Rattle.rename_planner.proofs.ChangeLaws.{changes_same}
-use Rattle.rename_planner.proofs.EditLaws.{edited_same, told_same}
-use Rattle.rename_planner.proofs.MemberLaws.{parts_members}
-use Rattle.rename_planner.proofs.TriedLaws.{again, can_try, nth, seen_many, stand_apart, texts_made}
+use Rattle.rename_answers.proofs.EditLaws.{edited_same, told_same}
+use Rattle.rename_answers.proofs.MemberLaws.{parts_members}
+use Rattle.rename_answers.proofs.TriedLaws.{again, can_try, nth, seen_many, stand_apart, texts_made}
 use Rattle.rename_planner.proofs.planning.told.Goals as goal
 
 pub returns-clause-exact : goal.returns-clause-exact

@@ -4,10 +4,10 @@ use Rattle.program_answers.proofs.TextLists.{some_row}
 use Rattle.program_answers.specs.ToldAnswers.{name_there}
 use Rattle.rename_conditions.proofs.ReaderLaws.{reader_is_there}
 use Rattle.document_changes.specs.Edited.{edited_texts}
-use Rattle.rename_planner.specs.ReadDocuments.{read_as}
-use Rattle.rename_planner.specs.RenameOutcomes.{AnswersAs}
-use Rattle.rename_planner.specs.ToldRenames.{rename_at, rename_uses}
-use Rattle.rename_planner.specs.declared.faults.RenameFault.TheVariants as faults
+use Rattle.rename_answers.specs.ReadDocuments.{read_as}
+use Rattle.rename_answers.specs.RenameOutcomes.{AnswersAs}
+use Rattle.rename_answers.specs.ToldRenames.{rename_at, rename_uses}
+use Rattle.rename_answers.specs.declared.faults.RenameFault.TheVariants as faults
 use Rattle.rename_planner.proofs.RenameLaws.{adds_none, counted, fails, fault_in, handed, handed_as, never_differs, not_counted, refused_now, rename_is, renamed_now}
 use Rattle.rename_planner.proofs.renaming.rename.Goals as goal
 

@@ -1,6 +1,6 @@
 use Rattle.std.proofs.Common.{◌≡◌, ◌+◌, ◌≤◌, ◌++◌, map, length, vec_len, vec_capacity}
 use Rattle.std.specs.Vec.Iter.{into_iter_items}
-use Rattle.session_core.specs.ToWire.{sent_list}
+use Rattle.session_replies.specs.ToWire.{sent_list}
 use Rattle.session_core.proofs.events.published.Given as goal
 
 -- there is room for the lists to come, and they come behind the messages

@@ -1,6 +1,6 @@
 use Rattle.std.proofs.Common.{refl, ap}
 use Rattle.scheme_model.specs.Session.{State, Shut, with_mode}
-use Rattle.session_core.specs.Asked.{Nothing}
+use Rattle.session_replies.specs.Asked.{Nothing}
 use Rattle.session_core.proofs.session.Session.on_call.Goals as goal
 
 pub returns-in_ok-out-in-Shutdown-clause-step : goal.returns-in_ok-out-in-Shutdown-clause-step

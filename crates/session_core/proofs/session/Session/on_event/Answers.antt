@@ -1,10 +1,10 @@
 use Rattle.std.proofs.Common.{subst}
 use Rattle.scheme_model.specs.Session.{State, evented}
 use Rattle.document_changes.specs.Events.{event_of}
-use Rattle.session_core.specs.Agreement.{said_event}
-use Rattle.session_core.specs.Asked.{questions}
-use Rattle.session_core.specs.Counted.{AreCounted}
-use Rattle.session_core.specs.FromWire.{offsets}
+use Rattle.session_replies.specs.Agreement.{said_event}
+use Rattle.session_replies.specs.Asked.{questions}
+use Rattle.session_replies.specs.Counted.{AreCounted}
+use Rattle.session_replies.specs.FromWire.{offsets}
 use Rattle.session_core.proofs.session.Session.on_event.Goals as goal
 
 pub returns-clause-counted : goal.returns-clause-counted

@@ -1,6 +1,6 @@
 use Rattle.std.proofs.Common.{ap, ◌∙◌}
 use Rattle.scheme_model.specs.Session.{State}
-use Rattle.session_core.proofs.BegunLaws.{none_open}
+use Rattle.session_replies.proofs.BegunLaws.{none_open}
 use Rattle.session_core.proofs.session.Session.on_fresh_call.Goals as goal
 
 pub set_encoding-requires : goal.set_encoding-requires

@@ -1,5 +1,5 @@
 use Rattle.program_answers.specs.ToldAnswers.{query_of}
-use Rattle.session_core.specs.FromWire.{said_id}
+use Rattle.session_replies.specs.FromWire.{said_id}
 use Rattle.session_core.proofs.Asking.{replies_so}
 use Rattle.session_core.proofs.session.Session.on_question.Goals as goal
 

@@ -17,4 +17,4 @@ returns-in_ok-insert-in-Global-clause-kept c =
     let n = c.in-Some.edition in
     let told : n ≡ old.editions + 1 = search rules in
     subst (λ (e : ℕ). Keeps old (record old { globals = c.insert-in-Global.new.self; editions = n }) c.args.form c.args.meaning (numbered c.args.kept e)) told
-    (kept_global old c.args.form (numbered c.args.kept n) n c.args.meaning c.insert-in-Global.new.self c.in-Global.unit c.in-Global.ident c.in-Global.is c.in_ok-insert-in-Global.ensures.updates.0)
+    (kept_global old c.args.form (numbered c.args.kept n) n c.args.meaning c.insert-in-Global.new.self c.in-Global.unit c.in-Global.ident c.in-Global.is c.in_ok-insert-in-Global.ensures.put)

@@ -1,5 +1,0 @@
-use Rattle.session_core.proofs.BodiesSay.{says}
-use Rattle.session_core.proofs.laws.no_body_wants_memory.Goals as goal
-
-pub returns : goal.returns
-returns c = says

@@ -1,5 +1,0 @@
-use Rattle.session_core.proofs.OneAnswer.{one_answer, one_replies, one_row}
-use Rattle.session_core.proofs.laws.one_answer.Goals as goal
-
-pub returns : goal.returns
-returns c = record { answer = one_answer; lists = one_row; replies = one_replies }
