@@ -9,7 +9,6 @@ use Rattle.form_notes.specs.declared.notes.Note.{Note}
 use Rattle.unit_scopes.specs.declared.scope.UnitScope.{UnitScope}
 use Rattle.note_answers.specs.Answered.{answer_now, IsAskedOutside, CanAsk, CanAskAll, HasAnswer, HaveAnswers, IsDefinition, IsAtStart}
 
-
 module _ (work : Work) (u : UnitScope) (v : Around) (r : Since) (xs : List Note) (ms : List Noted) (can : CanAsk work u v r) (have : HaveNotes work.symbols r xs ms) (all : CanAskAll work u v r xs ms) where
   pub all_have : All (λ (x : Note). x.behind ≡ 0 → HasAnswer work u x) xs → HaveAnswers v ms
   all_have each m has start =

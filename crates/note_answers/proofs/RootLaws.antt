@@ -1,5 +1,6 @@
 -- What identifiers mean outside of all forms, by the code's scopes, and whether it is what a note tells.
-use Rattle.std.proofs.Common.{◌≡◌, ◌↔◌, ◌&&◌, ℕ, List, [], ◌∷◌, Bool, true, false, Option, Some, None, refl, sym, ap, ◌∙◌, subst}
+use mathlib.Core.Bool.{beq}
+use Rattle.std.proofs.Common.{◌≡◌, ◌↔◌, ◌&&◌, ◌==◌, ℕ, IsTrue, eqb-true, eq-eqb, List, [], Bool, true, false, Option, Some, None, refl, sym, ap, ◌∙◌, subst}
 use Rattle.std.specs.BTreeMap.{get}
 use Rattle.std.specs.Option as std
 use Rattle.std.specs.Ordering.{nat_cmp}
@@ -11,7 +12,7 @@ use Rattle.scheme_model.specs.Meaning as model
 use Rattle.scheme_model.specs.Order.{Transformer, is_some}
 use Rattle.scheme_model.specs.OwnAnswers.{root_means}
 use Rattle.scheme_model.specs.RulesShape.{option_map}
-use Rattle.scheme_model.specs.Questions.{Around, Question, LooksUp, UsesRules, Answer, Means, Expands, Says, Ends, bare_macro}
+use Rattle.scheme_model.specs.Questions.{Around, Question, UsesRules, Answer, Means, Expands, Says, Ends, bare_macro}
 use Rattle.scheme_model.specs.Scopes.{given_or, defined_or, own_of, means}
 use Rattle.scheme_model.specs.Substitution.{Defined, Table, Entries, defined_in, is_variable}
 use Rattle.scheme_model.specs.ScopedExpansion.{Frames, UsePlace, BodyDefinitions, ScopedState, around, means_inside, means_outside, macro_at, assigned}
@@ -27,13 +28,14 @@ use Rattle.form_notes.specs.declared.notes.Question.TheVariants as questions
 use Rattle.unit_scopes.specs.Chains.{chain_in, uses_in, given_in}
 use Rattle.unit_scopes.specs.State.{IsMacroIfAny, Rests, is_program}
 use Rattle.unit_scopes.specs.Macros.{edition_in}
+use Rattle.unit_scopes.specs.Used.{meanings_equal}
 use Rattle.unit_scopes.specs.declared.macros.Macro.{Macro}
 use Rattle.unit_scopes.specs.declared.macros.Macros.{Macros}
 use Rattle.unit_scopes.specs.declared.scope.UnitScope.{UnitScope}
 use Rattle.note_answers.specs.Answered.{answer_now, CanAsk, KeepsEdition, variable_by}
 use Rattle.unit_scopes.proofs.ChainLaws.{chain_means}
 
-true_false : true ≡ false → ⊥
+pub true_false : true ≡ false → ⊥
 true_false h = cc
 
 -- ---- at the root
@@ -164,13 +166,13 @@ module _ (names : Names) where
 
 -- ---- answers
 
-means_of : Answer → model.Meaning
+abbrev means_of : Answer → model.Meaning
 means_of (Means m k) = m
 means_of (Expands t) = model.Free []
 means_of (Says b) = model.Free []
 means_of (Ends o) = model.Free []
 
-keyword_of : Answer → Bool
+abbrev keyword_of : Answer → Bool
 keyword_of (Means m k) = k
 keyword_of (Expands t) = false
 keyword_of (Says b) = b
@@ -182,7 +184,7 @@ means_same l m j k = (λ e. (ap means_of e, ap keyword_of e), λ h. λ t. Means 
 pub says_same : (j k : Bool) → (Says j ≡ Says k) ↔ (j ≡ k)
 says_same j k = (ap keyword_of, ap Says)
 
-rules_of : Answer → Option (Transformer Frames Ident)
+abbrev rules_of : Answer → Option (Transformer Frames Ident)
 rules_of (Means m k) = None
 rules_of (Expands t) = t
 rules_of (Says b) = None
@@ -198,6 +200,45 @@ macro_there work ls None None h = refl
 macro_there work ls None (Some m) h = absurd h
 macro_there work ls (Some k) None h = absurd h
 macro_there work ls (Some k) (Some m) h = refl
+
+-- ---- tests
+
+pub beq_same : (a b : Bool) → IsTrue (beq a b) ↔ (a ≡ b)
+beq_same true true = (λ h. refl, λ h. refl)
+beq_same true false = (λ h. sym h, λ h. sym h)
+beq_same false true = (λ h. h, λ h. h)
+beq_same false false = (λ h. refl, λ h. refl)
+
+equal_itself : (c : Meaning) → meanings_equal c c ≡ true
+equal_itself (code.Local n) = eq-eqb n n refl
+equal_itself (code.Global u i) = let a = eq-eqb u u refl in let b = eq-eqb i i refl in λ j. a j && b j
+equal_itself (code.Standard x) = eq-eqb x x refl
+equal_itself (code.Free x) = eq-eqb x x refl
+
+both : (a b : Bool) → (a && b) ≡ true → (a ≡ true) × (b ≡ true)
+both true b h = (refl, h)
+both false b h = absurd (true_false (sym h))
+
+equal_once : (c d : Meaning) → meanings_equal c d ≡ true → c ≡ d
+equal_once (code.Local n) (code.Local k) h = ap code.Local (eqb-true n k h)
+equal_once (code.Local n) (code.Global v j) h = absurd (true_false (sym h))
+equal_once (code.Local n) (code.Standard t) h = absurd (true_false (sym h))
+equal_once (code.Local n) (code.Free t) h = absurd (true_false (sym h))
+equal_once (code.Global u i) (code.Local k) h = absurd (true_false (sym h))
+equal_once (code.Global u i) (code.Global v j) h = let a = both (u == v) (i == j) h in λ t. code.Global (eqb-true u v a.0 t) (eqb-true i j a.1 t)
+equal_once (code.Global u i) (code.Standard t) h = absurd (true_false (sym h))
+equal_once (code.Global u i) (code.Free t) h = absurd (true_false (sym h))
+equal_once (code.Standard x) (code.Local k) h = absurd (true_false (sym h))
+equal_once (code.Standard x) (code.Global v j) h = absurd (true_false (sym h))
+equal_once (code.Standard x) (code.Standard y) h = ap code.Standard (eqb-true x y h)
+equal_once (code.Standard x) (code.Free t) h = absurd (true_false (sym h))
+equal_once (code.Free x) (code.Local k) h = absurd (true_false (sym h))
+equal_once (code.Free x) (code.Global v j) h = absurd (true_false (sym h))
+equal_once (code.Free x) (code.Standard t) h = absurd (true_false (sym h))
+equal_once (code.Free x) (code.Free y) h = ap code.Free (eqb-true x y h)
+
+pub equal_same : (c d : Meaning) → (meanings_equal c d ≡ true) ↔ (c ≡ d)
+equal_same c d = (equal_once c d, λ e. ap (meanings_equal c) (sym e) ∙ equal_itself c)
 
 -- ---- definitions of the unit
 
@@ -231,6 +272,7 @@ pub rules_arm : (P : Type 0) (work : Work) (u : UnitScope) (v : Around) (r : Sin
     P ↔ (edition_in u.macros form c ≡ e) → P ↔ (answer_now v (UsesRules m) ≡ Expands (r.editions e))
 rules_arm P work u v r c m e form can lasts is keeps same =
     let here : IsMeaning work.symbols v.state.unit v.state.form c m = any_form work.symbols r.unit r.form v.state.unit v.state.form c m lasts is in
-    let told = can.editions.tells form c m here lasts in
-    (λ p. ap Expands (sym told ∙ ap r.editions (same.0 p)),
-    λ k. same.1 (same_form u.macros work.symbols r.unit r.form form v.state.form c m lasts is ∙ keeps m here (sym ((expands_same (option_map bare_macro (macro_at v.state.macros m)) (r.editions e)).0 k))))
+    let told = can.editions.tells form c m (any_form work.symbols r.unit r.form v.state.unit form c m lasts is) lasts in (
+      λ p. ap Expands (sym told ∙ ap r.editions (same.0 p)),
+      λ k. same.1 (same_form u.macros work.symbols r.unit r.form form v.state.form c m lasts is ∙ keeps m here (sym ((expands_same (option_map bare_macro (macro_at v.state.macros m)) (r.editions e)).0 k))),
+    )

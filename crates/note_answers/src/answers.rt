@@ -12,6 +12,7 @@ ghost use Rattle.syntax_tree.specs.Macros.{IsIdent};
 ghost use Rattle.syntax_tree.specs.Meant.{IsMeaning};
 ghost use Rattle.syntax_tree.specs.declared.trees.Work.{Work as AnyWork};
 ghost use Rattle.unit_scopes.specs.Macros.{macro_in};
+ghost use Rattle.unit_scopes.specs.Used.{meanings_equal};
 ghost use Rattle.form_notes.specs.Noted.{Noted, Since};
 ghost use Rattle.form_notes.specs.Standing.{IsNote, HaveNotes};
 ghost use Rattle.note_answers.specs.Answered.{answer_now, CanAsk, CanAskAll, HaveAnswers, IsAskedOutside, IsDefinition, KeepsEdition, variable_by};
@@ -68,13 +69,7 @@ pub fn has_answer(units: &UnitScope, work: &Work, note: &Note) -> bool
 }
 
 /// Whether an identifier means this, and whether that is a macro or none.
-fn has_meaning(
-    units: &UnitScope,
-    work: &Work,
-    ident: IdNo,
-    answer: Meaning,
-    keyword: bool,
-) -> bool
+fn has_meaning(units: &UnitScope, work: &Work, ident: IdNo, answer: Meaning, keyword: bool) -> bool
     requires can { (v : Around) × (r : Since) × CanAsk work.now units.now v r }
     requires ident { ident < length work.now.symbols.idents }
     ensures { (v : Around) (r : Since) (i : Identifier) (m : ModelMeaning) → CanAsk work.now units.now v r → IsIdent work.now.symbols ident i → IsMeaning work.now.symbols r.unit r.form answer m →
@@ -82,7 +77,7 @@ fn has_meaning(
 {
     work.symbols.told_apart();
     let now = meaning(units, work, ident);
-    now == answer && is_macro(units, now) == keyword
+    is_same(now, answer) && is_macro(units, now) == keyword
 }
 
 /// Whether a literal means the same as an identifier.
@@ -94,7 +89,7 @@ fn is_literal(units: &UnitScope, work: &Work, literal: IdNo, ident: IdNo) -> boo
         answer_now v (Compares l i) ≡ Says result }
 {
     work.symbols.told_apart();
-    meaning(units, work, literal) == meaning(units, work, ident)
+    is_same(meaning(units, work, literal), meaning(units, work, ident))
 }
 
 /// What an identifier means outside of all forms.
@@ -105,6 +100,13 @@ fn meaning(units: &UnitScope, work: &Work, ident: IdNo) -> Meaning
         IsMeaning work.now.symbols v.state.unit v.state.form result (root_means v.state i) }
 {
     units.env.resolve(units.root, ident, &work.symbols)
+}
+
+/// Whether two meanings are one.
+fn is_same(a: Meaning, b: Meaning) -> bool
+    ensures { result ≡ meanings_equal a b }
+{
+    a == b
 }
 
 /// Whether this means a macro.

@@ -30,7 +30,7 @@ head_or : {X : Type 0} → X → List X → X
 head_or d [] = d
 head_or d (x ∷ xs) = x
 
-later_contained : {X : Type 0} (x : X) (xs : List X) (y : X) → Contains xs y → Contains (x ∷ xs) y
+pub later_contained : {X : Type 0} (x : X) (xs : List X) (y : X) → Contains xs y → Contains (x ∷ xs) y
 later_contained x xs y c = let l : c.0 < length xs = c.1 in (suc c.0, omega (arith, l), c.2)
 
 -- ---- no answer reads the times at which bodies were entered
@@ -46,7 +46,7 @@ append_any f (x ∷ xs) zs = ap (λ b. f x || b) (append_any f xs zs) ∙ either
 both_any : {X : Type 0} (f : X → Bool) (xs ys zs : List X) → any f xs ≡ any f ys → any f (xs ++ zs) ≡ any f (ys ++ zs)
 both_any f xs ys zs e = append_any f xs zs ∙ (ap (λ b. b || any f zs) e ∙ sym (append_any f ys zs))
 
-answer_bare : (v : Around) (n : Moment) (q : Question) → answer v n (bare_question q) ≡ answer v n q
+pub answer_bare : (v : Around) (n : Moment) (q : Question) → answer v n (bare_question q) ≡ answer v n q
 answer_bare v n (LooksUp i) = refl
 answer_bare v n (UsesRules m) = refl
 answer_bare v n (Compares l i) = refl
@@ -59,7 +59,7 @@ answer_bare v n (Defines fs x r ns) =
     let timeless = any_bare (is_some r) g means means (λ p. ap (λ l. local_or l (root_means (at_moment v m) p.ident)) (own_bare (own_at m) p.frames p.ident)) ns in
     ap (λ b. Ends (outcome_by b (is_defined (at_moment v n) None x.name))) (both_any (unit_refused (own_at m) (at_moment v m) g (is_some r)) (map bare_note ns) ns v.notes (sym timeless))
 
-definition_bare : (q : Question) → is_definition (bare_question q) ≡ is_definition q
+pub definition_bare : (q : Question) → is_definition (bare_question q) ≡ is_definition q
 definition_bare (LooksUp i) = refl
 definition_bare (UsesRules m) = refl
 definition_bare (Compares l i) = refl
@@ -85,10 +85,10 @@ no_part n (Defines fs x r ns) e d h = let z : true ≡ false = d in absurd cc
 module _ (w v : Around) (same : SameForm w v) where
   -- a note of the start, and the question that it stands for
   module _ (m : Noted) (q : Moment × Question) (e : bare_noted m ≡ told w q) where
-    question_is : bare_question m.question ≡ bare_question q.1
+    pub question_is : bare_question m.question ≡ bare_question q.1
     question_is = ap (λ (x : Noted). x.question) e
 
-    answer_is : m.answer ≡ answer w q.0 q.1
+    pub answer_is : m.answer ≡ answer w q.0 q.1
     answer_is = ap (λ (x : Noted). x.answer) e
 
     there_is : q.0 ≡ start w.state → answer v (start v.state) m.question ≡ answer v q.0 q.1
@@ -103,7 +103,7 @@ module _ (w v : Around) (same : SameForm w v) where
     to_note : q.0 ≡ start w.state → SameAnswer w v q → HasAnswer v m
     to_note s h = there_is s ∙ (h ∙ sym answer_is)
 
-    looks_is : is_definition m.question ≡ is_definition q.1
+    pub looks_is : is_definition m.question ≡ is_definition q.1
     looks_is = sym (definition_bare m.question) ∙ (ap is_definition question_is ∙ definition_bare q.1)
 
     -- it is of the start exactly where the question is
@@ -114,11 +114,11 @@ module _ (w v : Around) (same : SameForm w v) where
     is_start (inl s) h = s
     is_start (inr p) h = absurd (no_part q.0 q.1 (sym (ap (λ (x : Noted). x.behind) e) ∙ h.behind) (sym looks_is ∙ h.looks) p)
 
-  heads : (m : Noted) (ms : List Noted) (q : Moment × Question) (qs : List (Moment × Question)) → map bare_noted (m ∷ ms) ≡ map (told w) (q ∷ qs) → bare_noted m ≡ told w q
+  pub heads : (m : Noted) (ms : List Noted) (q : Moment × Question) (qs : List (Moment × Question)) → map bare_noted (m ∷ ms) ≡ map (told w) (q ∷ qs) → bare_noted m ≡ told w q
   unfolding head_or
   heads m ms q qs e = ap (head_or (bare_noted m)) e
 
-  tails : (m : Noted) (ms : List Noted) (q : Moment × Question) (qs : List (Moment × Question)) → map bare_noted (m ∷ ms) ≡ map (told w) (q ∷ qs) → map bare_noted ms ≡ map (told w) qs
+  pub tails : (m : Noted) (ms : List Noted) (q : Moment × Question) (qs : List (Moment × Question)) → map bare_noted (m ∷ ms) ≡ map (told w) (q ∷ qs) → map bare_noted ms ≡ map (told w) qs
   unfolding tail_or
   tails m ms q qs e = ap tail_or e
 

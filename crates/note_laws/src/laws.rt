@@ -3,26 +3,30 @@ ghost use Rattle.std.specs.Prelude.{◌≡◌, ◌↔◌, ℕ, true, List, [], m
 ghost use Rattle.std.specs.List.{Contains};
 ghost use Rattle.scheme_model.specs.Ident.{Ident as Identifier};
 ghost use Rattle.scheme_model.specs.Trees.{Tree};
-ghost use Rattle.scheme_model.specs.Order.{Left, Transformer, run};
-ghost use Rattle.scheme_model.specs.UnitExpansion.{one_form};
+ghost use Rattle.scheme_model.specs.Order.{Item, Left, Transformer, WaitingUse, meet_all, run};
+ghost use Rattle.scheme_model.specs.Expression.{expand, item_part};
+ghost use Rattle.scheme_model.specs.UnitExpansion.{max_depth, one_form};
 ghost use Rattle.scheme_model.specs.ScopedExpansion.{Frames};
-ghost use Rattle.scheme_model.specs.Questions.{Around, SameAnswer};
-ghost use Rattle.scheme_model.specs.FormsAlike.{bound_moved, left_with, finish_by, questions_of_pass, questions_of_left};
+ghost use Rattle.scheme_model.specs.Questions.{Moment, Around, at_moment, Question, answer, SameAnswer};
+ghost use Rattle.scheme_model.specs.FormsAlike.{start, again, set_aside_asking, bound_moved, left_with, finish_by, questions_of_pass, questions_of_left};
 ghost use Rattle.form_laws.specs.Begins.{Each, Begins, FormBegins, SameForm};
 ghost use Rattle.question_laws.specs.Noted.{all_noted, IsClosed, SameUnit};
 ghost use Rattle.scheme_model.specs.Requirements.{Known};
 ghost use Rattle.scheme_model.specs.IncludedUnits.{Placed};
 ghost use Rattle.scheme_model.specs.Program.{Prepared, is_ready, enough_turns};
 ghost use Rattle.scheme_model.specs.ScopedProgram.{ScopedProgress, scoped_work, scoped_before, scoped_unit_over, scoped_start_after};
-ghost use Rattle.forgotten_locals.specs.Outside.{IsOutside, ForgetsLocals};
+ghost use Rattle.forgotten_locals.specs.Outside.{outside, macros_outside, IsOutside, ForgetsLocals};
 ghost use Rattle.forgotten_locals.specs.Ways.{unit_by};
 ghost use Rattle.forgotten_locals.specs.Programs.{IsProgressOutside};
 ghost use Rattle.syntax_tree.specs.Names.{Names as AnyNames};
 ghost use Rattle.form_notes.specs.Noted.{Noted, Since};
 ghost use Rattle.form_notes.specs.Standing.{HaveNotes};
 ghost use Rattle.form_notes.specs.declared.notes.Note.{Note as AnyNote};
-ghost use Rattle.noted_steps.specs.Noting.{noting, begun};
+ghost use Rattle.noted_steps.specs.Noting.{Noting, noting, begun};
 ghost use Rattle.note_laws.specs.Told.{bare_noted, told, since_of, ImportsOthers};
+ghost use Rattle.note_laws.specs.Moments.{IsBefore};
+ghost use Rattle.note_laws.specs.SameRoots.{SameRoot, NoLocalEntry, IsOfRoot, IsBehind, SameBehind, RootsBehind};
+ghost use Rattle.note_laws.specs.SameParts.{SamePart};
 ghost use Rattle.note_laws.specs.Tested.{IsOfStart, HasAnswer, SameAtStart};
 ghost use Rattle.note_laws.specs.Searching.{searching, forms_anew};
 
@@ -69,4 +73,30 @@ pub fn notes_are_tested()
         ((m : Noted) → Contains ms m → IsOfStart m → HasAnswer v m) ↔ Each (SameAtStart w v) (all_noted w (questions_of_pass w turns t)) }
     ensures left { (w v : Around) (turns : ℕ) (l : Left Identifier) (ms : List Noted) → SameForm w v → Begins w.state → map bare_noted ms ≡ map (told w) (all_noted w (questions_of_left w turns (Ok l))) →
         ((m : Noted) → Contains ms m → HasAnswer v m) ↔ Each (SameAnswer w v) (all_noted w (questions_of_left w turns (Ok l))) }
+{}
+
+/// What a form set aside defines nothing in its unit (R7RS 5.3): what its second part began with, and how many notes there were, is as it was
+/// behind its macro uses, behind each item, and behind all.
+pub fn second_parts_define_nothing()
+    ensures uses { (known : Known) (us : List (WaitingUse Identifier)) (s : Noting) → SamePart s (meet_all (noting known) [] us s) }
+    ensures item { (known : Known) (turns : ℕ) (i : Item Identifier) (s : Noting) → SamePart s (item_part (expand (noting known) turns) (noting known) max_depth [] i s).1 }
+    ensures left { (known : Known) (turns : ℕ) (l : Left Identifier) (s : Noting) → SamePart s (finish_by (noting known) turns [] (Ok l) s).1 }
+{}
+
+/// An answer that is no definition's is read of the root (R7RS 4.3, 5.3): it is the same in two states with one root. So it is at a form's moment what
+/// it is where the form has gone to it and nothing local is left, and notes that are asked behind definitions of the form are tested where these
+/// stand again.
+pub fn answers_are_of_the_root()
+    ensures same { (v u : Around) (n m : Moment) (q : Question) → NoLocalEntry v.state → SameRoot (at_moment v n) (at_moment u m) → u.known ≡ v.known → IsOfRoot q → answer u m q ≡ answer v n q }
+    ensures outside { (v : Around) (n : Moment) (q : Question) → NoLocalEntry v.state → IsOfRoot q → let u : Around = record { state = outside (again v n); known = v.known; notes = v.notes } in answer u (start u.state) q ≡ answer v n q }
+    ensures notes { (w v : Around) (u : ℕ → Around) (turns : ℕ) (t : Tree Identifier) (ms : List Noted) → let qs = all_noted w (questions_of_pass w turns t) in SameForm w v → NoLocalEntry v.state → map bare_noted ms ≡ map (told w) qs →
+        Each (RootsBehind v u) qs → ((m : Noted) → Contains ms m → IsBehind m → HasAnswer (u m.behind) m) ↔ Each (SameBehind w v) qs }
+{}
+
+/// What a form has defined in its unit where it asks a question (R7RS 5.3), with the macros of it, is the end of what it has defined in all: so how
+/// many definitions there are tells which, and which macros that aren't local. The same goes for what is noted.
+pub fn moments_go_on()
+    ensures asked { (w : Around) (turns : ℕ) (t : Tree Identifier) → NoLocalEntry w.state → Each (λ q. IsBefore q.0 (set_aside_asking w turns t).1.moment) (questions_of_pass w turns t) }
+    ensures noted { (w : Around) (turns : ℕ) (t : Tree Identifier) → NoLocalEntry w.state → Each (λ q. IsBefore q.0 (set_aside_asking w turns t).1.moment) (all_noted w (questions_of_pass w turns t)) }
+    ensures told { (k n m : Moment) → IsBefore k m → IsBefore n m → length k.table ≡ length n.table → (k.table ≡ n.table) × (macros_outside k.macros ≡ macros_outside n.macros) }
 {}

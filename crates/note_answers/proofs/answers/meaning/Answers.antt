@@ -1,3 +1,4 @@
+use Rattle.std.proofs.Common.{[]}
 use Rattle.unit_scopes.specs.Chains.{chain_in, uses_in, given_in}
 use Rattle.note_answers.proofs.RootLaws.{root_meaning}
 use Rattle.note_answers.proofs.answers.meaning.Goals as goal
