@@ -41,7 +41,7 @@ pub mod LooseLaws  -- What stands without notes stands for a state whose notes a
 pub mod PassForms  -- A form that is gone through, by its head
 pub mod CorePass  -- A core form that is gone through
 pub mod UseNotes  -- What a macro use asks, noted
-pub mod RulesNotes  -- The rules of macros, looked up where what is asked is noted
+pub mod RulesNotes  -- The rules of macros, looked up and read where what is asked is noted
 pub mod MacroSteps  -- The definition of a macro
 pub mod NotedPass  -- Where notes alone were changed before a step, forms are gone through as before
 pub mod AskedRuns  -- Steps behind what was asked
