@@ -93,6 +93,11 @@ module _ (old new : Work) (region : Region) (u v : UnitScope) (ls : List Frames)
   ended_ends P (Err fault.Full) p h so = tt
   ended_ends P (Err fault.Memory) p h so = tt
 
+-- notes were lost: the call hasn't ended with its form
+pub not_ended : {X : Type 0} (r : Result X ExpandFault) (holds : Type 0) → IsErrAnd r (λ f. f ≡ fault.Memory) → OnEnded r holds
+not_ended (Ok x) holds is = absurd is
+not_ended {X} (Err e) holds is = subst (λ (f : ExpandFault). OnEnded {X = X} (Err f) holds) (sym is) tt
+
 -- a fault is handed on
 pub sets_handed_on : (old new : Work) (region : Region) (u v : UnitScope) (ls : List Frames) (r : Result code_left.Left ExpandFault) (e : ExpandFault) (p : Pass Identifier FramedIdent × ScopedState) → IsErrAnd r (λ f. f ≡ e) → Sets old new region u v ls (Err e) p → Sets old new region u v ls r p
 sets_handed_on old new region u v ls (Ok x) e p same h = absurd same

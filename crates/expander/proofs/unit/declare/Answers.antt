@@ -14,7 +14,7 @@ use Rattle.unit_scopes.proofs.CallLaws.{all_known, sets_adds, sets_counts, sets_
 use Rattle.noted_steps.proofs.PlainSides.{run_same, run_exact}
 use Rattle.expander.specs.UnitNotes.{HasNoted, part_begun, set_noting}
 use Rattle.expander.proofs.AskedRuns.{noted_knows}
-use Rattle.expander.proofs.PartLaws.{plain_part, sets_from, sets_gone, ended_sets, noted_ends, sets_handed_on}
+use Rattle.expander.proofs.PartLaws.{plain_part, sets_from, sets_gone, ended_sets, noted_ends, not_ended, sets_handed_on}
 use Rattle.expander.proofs.unit.declare.Goals as goal
 
 pub go_through-left-requires-clause-can : goal.go_through-left-requires-clause-can
@@ -49,6 +49,10 @@ returns-clause-sets c = λ known ls s notes t knows stands asked for.
     let h = c.go_through-left.ensures.sets known ls (plain_part (s.uses s.form) s) notes t (noted_knows u u1 known same knows) begun asked1 for in
     subst (λ (p : Pass Identifier FramedIdent × ScopedState). Sets w new region u v ls c.go_through-left.result p) (sym (run_same known enough_turns (one_form t notes) (plain_part (s.uses s.form) s)))
     (sets_from w new region u u1 v same ls c.go_through-left.result (set_noting known t notes (plain_part (s.uses s.form) s)) h)
+
+pub returns-in_err-end_notes-clause-noted : goal.returns-in_err-end_notes-clause-noted
+returns-in_err-end_notes-clause-noted c = λ known ls s notes t editions ms knows stands asked for can.
+    not_ended c.from_residual.result (HasNoted c.go_through-left.new.work c.go_through-left.new.units.form.trace (set_noting known t notes (part_begun (s.uses s.form) notes editions ms s)).1) c.from_residual.ensures.1
 
 pub returns-clause-noted : goal.returns-clause-noted
 returns-clause-noted c = λ known ls s notes t editions ms knows stands asked for can.

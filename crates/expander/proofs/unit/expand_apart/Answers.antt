@@ -20,7 +20,7 @@ use Rattle.noted_steps.proofs.Lifts.{plain_ends, unnoted}
 use Rattle.noted_steps.proofs.PlainSides.{item_same, item_exact}
 use Rattle.expander.specs.UnitNotes.{HasNoted, expand_noting, part_begun}
 use Rattle.expander.proofs.AskedRuns.{noted_knows}
-use Rattle.expander.proofs.PartLaws.{plain_part, ends_from, ends_gone, ended_ends, noted_ends, ends_handed_on}
+use Rattle.expander.proofs.PartLaws.{plain_part, ends_from, ends_gone, ended_ends, noted_ends, not_ended, ends_handed_on}
 use Rattle.expander.proofs.unit.expand_apart.Goals as goal
 
 pub expand_at_root-part-requires-clause-item : goal.expand_at_root-part-requires-clause-item
@@ -59,6 +59,10 @@ returns-clause-part c = λ known ls s i knows stands item.
     let p = expand_noting known i (plain_part u.form.trace.notes.begun s) in
     subst (λ (q : Result Part Broken × ScopedState). Ends (λ layout. PartStands new v.unit v.form.number) w new region u v ls c.expand_at_root-part.result q) (sym (item_same known enough_turns i (plain_part u.form.trace.notes.begun s)))
     (ends_from w new region u u1 v same (λ layout. PartStands new v.unit v.form.number) ls c.expand_at_root-part.result (unnoted p) (plain_ends (λ layout. PartStands new v.unit v.form.number) w new region u1 v ls c.expand_at_root-part.result p h))
+
+pub returns-in_err-end_notes-clause-noted : goal.returns-in_err-end_notes-clause-noted
+returns-in_err-end_notes-clause-noted c = λ known ls s notes i editions ms knows stands item can.
+    not_ended c.from_residual.result (HasNoted c.expand_at_root-part.new.work c.expand_at_root-part.new.units.form.trace (expand_noting known i (part_begun c.args.units.now.form.trace.notes.begun notes editions ms s)).1) c.from_residual.ensures.1
 
 pub returns-clause-noted : goal.returns-clause-noted
 returns-clause-noted c = λ known ls s notes i editions ms knows stands item can.
