@@ -8,16 +8,16 @@ use Rattle.scheme_model.specs.Meaning.{Meaning, Local, Global, Standard, Free, s
 use Rattle.scheme_model.specs.Order.{is_some}
 use Rattle.scheme_model.specs.RulesShape.{option_map}
 use Rattle.scheme_model.specs.Substitution.{is_variable, defined_in}
-use Rattle.scheme_model.specs.ScopedExpansion.{macro_at, means_outside}
+use Rattle.scheme_model.specs.ScopedExpansion.{ScopedMacro, ScopedState, macro_at, means_outside}
 use Rattle.scheme_model.specs.OwnAnswers.{root_means}
 use Rattle.scheme_model.specs.Questions.{Moment, Around, at_moment, Question, LooksUp, UsesRules, Compares, IsAssigned, Requires, Defines, Means, Expands, Says, bare_macro, answer}
-use Rattle.scheme_model.specs.FormsAlike.{start, again, questions_of_pass}
+use Rattle.scheme_model.specs.FormsAlike.{start, again, bare_kept, questions_of_pass}
 use Rattle.model_laws.proofs.EntryLaws.{NoLocal}
 use Rattle.form_laws.specs.Begins.{Each, SameForm}
-use Rattle.form_laws.proofs.Bare.{some_mapped}
+use Rattle.form_laws.proofs.Bare.{macro_bare, some_mapped}
 use Rattle.form_laws.proofs.AskingSides.{root_no}
 use Rattle.form_laws.proofs.OwnStates.{entry_given}
-use Rattle.forgotten_locals.specs.Outside.{is_outside, outside}
+use Rattle.forgotten_locals.specs.Outside.{is_outside, macros_outside, outside, IsOutsideOf}
 use Rattle.forgotten_locals.proofs.Outsides.{macro_outside}
 use Rattle.form_notes.specs.Noted.{Noted}
 use Rattle.question_laws.specs.Noted.{all_noted, HasPart}
@@ -54,6 +54,33 @@ module _ (v u : Around) (n m : Moment) (entries : NoLocalEntry v.state) (same : 
   root_answers (IsAssigned i) h = let a = same.program in let b = same.table in let c = same.unit in λ j. Says (a j && is_variable (defined_in (b j) (c j) i))
   root_answers (Requires l) h = ap (λ k. Says (k l)) known
   root_answers (Defines fs x r ns) h = absurd h
+
+-- ---- which states have one root
+
+-- the same definitions and imports, and the same macros outside, but for the times at which bodies were entered
+pub roots_same : (s t : ScopedState) → t.unit ≡ s.unit → t.program ≡ s.program → t.table ≡ s.table → t.entry ≡ s.entry → map bare_kept (macros_outside t.macros) ≡ map bare_kept (macros_outside s.macros) → SameRoot s t
+roots_same s t a b c d e = record {
+  unit = a;
+  program = b;
+  table = c;
+  entry = d;
+  macros = λ m f. ap (option_map bare_macro) (sym (macro_outside m f t.macros))
+      ∙ (sym (macro_bare (macros_outside t.macros) m)
+      ∙ (ap (λ (ks : List ScopedMacro). macro_at ks m) e
+      ∙ (macro_bare (macros_outside s.macros) m ∙ ap (option_map bare_macro) (macro_outside m f s.macros))));
+}
+
+-- a state with nothing local left
+pub roots_outside : (s t : ScopedState) → IsOutsideOf s t → SameRoot s t
+roots_outside s t e = record {
+  unit = ap (λ (z : ScopedState). z.unit) e;
+  program = ap (λ (z : ScopedState). z.program) e;
+  table = ap (λ (z : ScopedState). z.table) e;
+  entry = ap (λ (z : ScopedState). z.entry) e;
+  macros = λ m f. sym (macro_bare t.macros m)
+      ∙ (ap (λ (z : ScopedState). macro_at z.macros m) e
+      ∙ (macro_bare (macros_outside s.macros) m ∙ ap (option_map bare_macro) (macro_outside m f s.macros)));
+}
 
 module _ (v : Around) (n : Moment) (entries : NoLocalEntry v.state) where
   -- what the form went to, outside

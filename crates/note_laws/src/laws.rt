@@ -6,16 +6,16 @@ ghost use Rattle.scheme_model.specs.Trees.{Tree};
 ghost use Rattle.scheme_model.specs.Order.{Item, Left, Transformer, WaitingUse, meet_all, run};
 ghost use Rattle.scheme_model.specs.Expression.{expand, item_part};
 ghost use Rattle.scheme_model.specs.UnitExpansion.{max_depth, one_form};
-ghost use Rattle.scheme_model.specs.ScopedExpansion.{Frames};
+ghost use Rattle.scheme_model.specs.ScopedExpansion.{Frames, ScopedState};
 ghost use Rattle.scheme_model.specs.Questions.{Moment, Around, at_moment, Question, answer, SameAnswer};
-ghost use Rattle.scheme_model.specs.FormsAlike.{start, again, set_aside_asking, bound_moved, left_with, finish_by, questions_of_pass, questions_of_left};
+ghost use Rattle.scheme_model.specs.FormsAlike.{start, again, bare_kept, set_aside_asking, bound_moved, left_with, finish_by, questions_of_pass, questions_of_left};
 ghost use Rattle.form_laws.specs.Begins.{Each, Begins, FormBegins, SameForm};
 ghost use Rattle.question_laws.specs.Noted.{all_noted, IsClosed, SameUnit};
 ghost use Rattle.scheme_model.specs.Requirements.{Known};
 ghost use Rattle.scheme_model.specs.IncludedUnits.{Placed};
 ghost use Rattle.scheme_model.specs.Program.{Prepared, is_ready, enough_turns};
 ghost use Rattle.scheme_model.specs.ScopedProgram.{ScopedProgress, scoped_work, scoped_before, scoped_unit_over, scoped_start_after};
-ghost use Rattle.forgotten_locals.specs.Outside.{outside, macros_outside, IsOutside, ForgetsLocals};
+ghost use Rattle.forgotten_locals.specs.Outside.{outside, macros_outside, IsOutsideOf, IsOutside, ForgetsLocals};
 ghost use Rattle.forgotten_locals.specs.Ways.{unit_by};
 ghost use Rattle.forgotten_locals.specs.Programs.{IsProgressOutside};
 ghost use Rattle.syntax_tree.specs.Names.{Names as AnyNames};
@@ -83,11 +83,13 @@ pub fn second_parts_define_nothing()
     ensures left { (known : Known) (turns : ℕ) (l : Left Identifier) (s : Noting) → SamePart s (finish_by (noting known) turns [] (Ok l) s).1 }
 {}
 
-/// An answer that is no definition's is read of the root (R7RS 4.3, 5.3): it is the same in two states with one root. So it is at a form's moment what
-/// it is where the form has gone to it and nothing local is left, and notes that are asked behind definitions of the form are tested where these
-/// stand again.
+/// An answer that is no definition's is read of the root (R7RS 4.3, 5.3): it is the same in two states with one root, such as a state and
+/// what is outside in it. So it is at a form's moment what it is where the form has gone to it and nothing local is left, and notes that are asked
+/// behind definitions of the form are tested where these stand again.
 pub fn answers_are_of_the_root()
     ensures same { (v u : Around) (n m : Moment) (q : Question) → NoLocalEntry v.state → SameRoot (at_moment v n) (at_moment u m) → u.known ≡ v.known → IsOfRoot q → answer u m q ≡ answer v n q }
+    ensures roots { (s t : ScopedState) → t.unit ≡ s.unit → t.program ≡ s.program → t.table ≡ s.table → t.entry ≡ s.entry → map bare_kept (macros_outside t.macros) ≡ map bare_kept (macros_outside s.macros) → SameRoot s t }
+    ensures outside_of { (s t : ScopedState) → IsOutsideOf s t → SameRoot s t }
     ensures outside { (v : Around) (n : Moment) (q : Question) → NoLocalEntry v.state → IsOfRoot q → let u : Around = record { state = outside (again v n); known = v.known; notes = v.notes } in answer u (start u.state) q ≡ answer v n q }
     ensures notes { (w v : Around) (u : ℕ → Around) (turns : ℕ) (t : Tree Identifier) (ms : List Noted) → let qs = all_noted w (questions_of_pass w turns t) in SameForm w v → NoLocalEntry v.state → map bare_noted ms ≡ map (told w) qs →
         Each (RootsBehind v u) qs → ((m : Noted) → Contains ms m → IsBehind m → HasAnswer (u m.behind) m) ↔ Each (SameBehind w v) qs }
