@@ -4,23 +4,20 @@ use Rattle.std.specs.Prelude.{String}
 use Rattle.std.specs.BTreeSet.{BTreeSet, contains_text}
 use Rattle.std.specs.declared.alloc.Global.{Global}
 use Rattle.scheme_model.specs.declared.Occ.{Occ}
-use Rattle.scheme_model.specs.Trees.{Tree}
-use Rattle.scheme_model.specs.Ident.{Ident as Identifier}
 use Rattle.scheme_model.specs.Requirements.{Known}
 use Rattle.scheme_model.specs.Cores.{Core}
 use Rattle.scheme_model.specs.Steps.{Broken, Step}
-use Rattle.scheme_model.specs.Expression.{expression, expand, node}
+use Rattle.scheme_model.specs.Expression.{node}
 use Rattle.scheme_model.specs.ScopedExpansion.{Frames}
 use Rattle.syntax_tree.specs.Works.{IsOpened}
 use Rattle.syntax_tree.specs.declared.trees.Work.{Work}
-use Rattle.syntax_tree.specs.declared.trees.nodes.Tree as number
 use Rattle.syntax_tree.specs.declared.trees.table.Region.{Region}
 use Rattle.core_tree.specs.Cores.{CoreStands}
 use Rattle.core_tree.specs.declared.cores.Core as code_core
 use Rattle.unit_scopes.specs.Counts.{Begins}
 use Rattle.feature_requirements.specs.Judged.{Knows, library_text}
-use Rattle.unit_scopes.specs.Outcomes.{At, Grows, SameForm, WorksOn, IsEnough, IsEnoughBelow, HasRoom, Spends}
-use Rattle.expander.specs.Ready.{IsSettled, Settles, Reads, Expanding}
+use Rattle.unit_scopes.specs.Outcomes.{At, Grows, SameForm, IsEnough, IsEnoughBelow, HasRoom, Spends}
+use Rattle.expander.specs.Ready.{Reads, Expanding}
 use Rattle.expander.specs.declared.expressions.Ready.TheVariants as ready
 use Rattle.feature_requirements.specs.declared.fault.ExpandFault.{ExpandFault}
 use Rattle.feature_requirements.specs.declared.fault.ExpandFault.TheVariants as fault

@@ -1,5 +1,5 @@
 -- The parts of expressions, each by the steps that the code takes: procedures, bodies, local macros, assignments.
-use Rattle.std.proofs.Common.{◌≡◌, ℕ, suc, ◌+◌, ◌≤◌, List, [], ◌∷◌, ◌++◌, length, Bool, true, false, None, Result, Ok, Err, refl, sym, ap, ◌∙◌, subst, arith, Vec}
+use Rattle.std.proofs.Common.{◌≡◌, ℕ, ◌+◌, ◌≤◌, List, [], ◌∷◌, ◌++◌, length, Bool, true, false, None, Result, Ok, Err, refl, sym, ap, ◌∙◌, subst, arith, Vec}
 use Rattle.std.specs.Prelude.{String}
 use Rattle.std.specs.Global.{Box}
 use Rattle.std.specs.declared.alloc.Global.{Global}
@@ -8,11 +8,10 @@ use Rattle.scheme_model.specs.Ident.{Ident as Identifier}
 use Rattle.scheme_model.specs.ExpansionFaults.{Named}
 use Rattle.scheme_model.specs.Requirements.{Known}
 use Rattle.scheme_model.specs.Shapes.{Clause, LocalMacros}
-use Rattle.scheme_model.specs.Cores.{Core, Body, Binder, Binders, LocalNumber, Parts}
-use Rattle.scheme_model.specs.Substitution.{at_form}
+use Rattle.scheme_model.specs.Cores.{Core, Body, Binder, Binders, Parts}
 use Rattle.scheme_model.specs.Steps.{Broken, Step, ◌>>=◌, done}
 use Rattle.scheme_model.specs.Order.{Here, Item, forms_at, run, Left, meet_all}
-use Rattle.scheme_model.specs.Expression.{Expander, body, bound, procedure, expand, item_part, parts, left_of, body_in, local_macros, recursive, numbers}
+use Rattle.scheme_model.specs.Expression.{Expander, body, procedure, expand, item_part, parts, left_of, body_in, local_macros, recursive, numbers}
 use Rattle.scheme_model.specs.ScopedExpansion.{Frames}
 use Rattle.syntax_tree.specs.Names.{AreToldApart}
 use Rattle.syntax_tree.specs.declared.trees.Work.{Work}

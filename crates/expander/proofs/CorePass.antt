@@ -1,5 +1,5 @@
 -- A core form that is gone through: the keyword is met, the form is read, and its shape is done or its fault ends the pass.
-use Rattle.std.proofs.Common.{◌≡◌, ℕ, List, true, false, Option, Result, Ok, Err, refl, sym, ap, ◌∙◌, subst}
+use Rattle.std.proofs.Common.{◌≡◌, ℕ, List, true, false, Option, Result, Ok, Err, sym, ap, ◌∙◌, subst}
 use Rattle.scheme_model.specs.Trees.{Tree, list, Trees, tree, Tail}
 use Rattle.scheme_model.specs.ExpansionFaults.{Fault}
 use Rattle.scheme_model.specs.Ident.{Ident as Identifier}

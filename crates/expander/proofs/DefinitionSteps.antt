@@ -1,17 +1,17 @@
 -- The steps of definitions: how one is gone on behind, and names that are defined one after another.
-use Rattle.std.proofs.Common.{◌≡◌, ℕ, zero, suc, ◌+◌, ◌<◌, ◌≤◌, List, [], ◌∷◌, ◌++◌, append_assoc, append-nil, length, reverse, get_or, drop, Bool, true, false, Option, Some, None, Result, Ok, Err, refl, sym, ap, ◌∙◌, subst, arith}
-use Rattle.std.specs.Prelude.{◌&&◌, nat_le, Vec, IsErrAnd, if◌then◌else◌}
+use Rattle.std.proofs.Common.{◌≡◌, ℕ, zero, suc, ◌+◌, ◌<◌, ◌≤◌, List, [], ◌∷◌, ◌++◌, append_assoc, append-nil, length, reverse, get_or, drop, Bool, true, false, None, Result, Ok, Err, refl, sym, ap, ◌∙◌, subst, arith}
+use Rattle.std.specs.Prelude.{nat_le, Vec, IsErrAnd, if◌then◌else◌}
 use Rattle.std.specs.declared.alloc.Global.{Global}
 use Rattle.std.proofs.lemmas.List.{drop_all}
 use Rattle.scheme_model.specs.Ident.{Ident as Identifier}
-use Rattle.scheme_model.specs.ExpansionFaults.{Named, Fault, BadForm, NodeBudget, KeywordRedefined, Duplicate}
+use Rattle.scheme_model.specs.ExpansionFaults.{Named, Fault, NodeBudget}
 use Rattle.scheme_model.specs.Requirements.{Known}
 use Rattle.scheme_model.specs.RulesShape.{Rules, rules_of}
 use Rattle.scheme_model.specs.Trees.{Tree}
 use Rattle.scheme_model.specs.Measures.{tree_size}
-use Rattle.scheme_model.specs.Cores.{LocalNumber, Binder}
+use Rattle.scheme_model.specs.Cores.{Binder}
 use Rattle.scheme_model.specs.Steps.{Broken, Step, ◌>>=◌, done, fails}
-use Rattle.scheme_model.specs.Order.{Here, Form, Item, Note, Pending, Renamed, Pass, Going, told, caught, put, binder_at, define_all, define_names, fields_bound, RulesParts, rules_parts, rules_at, is_rules, head_of, given, max_nodes}
+use Rattle.scheme_model.specs.Order.{Here, Form, Item, Note, Pending, Renamed, Pass, Going, told, caught, put, binder_at, define_all, define_names, fields_bound, RulesParts, rules_at, given, max_nodes}
 use Rattle.scheme_model.specs.Substitution.{unchanged}
 use Rattle.scheme_model.specs.Questions.{Outcome, Stands as Defined, Redefines, StoodBefore}
 use Rattle.scheme_model.specs.ScopedExpansion.{Frames, FramedIdent, body_around}

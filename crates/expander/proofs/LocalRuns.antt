@@ -1,6 +1,6 @@
 -- Local macros by the calls that the code makes for them: their names are bound, the heads of their rules are tested, they are kept,
 -- and their body is expanded.
-use Rattle.std.proofs.Common.{◌≡◌, ℕ, suc, ◌+◌, ◌≤◌, List, [], ◌∷◌, ◌++◌, length, map, Bool, true, false, Option, Some, None, Result, Ok, Err, Vec, refl, sym, ap, ◌∙◌, subst, arith}
+use Rattle.std.proofs.Common.{◌≡◌, ℕ, suc, ◌+◌, ◌≤◌, List, [], ◌∷◌, ◌++◌, length, map, Bool, true, false, Result, Ok, Err, Vec, refl, sym, ap, ◌∙◌, subst, arith}
 use Rattle.std.specs.Global.{Box}
 use Rattle.std.specs.declared.alloc.Global.{Global}
 use Rattle.scheme_model.specs.Identifiers.{Number}
@@ -38,7 +38,6 @@ use Rattle.unit_scopes.specs.State.{most_locals}
 use Rattle.unit_scopes.specs.Stepped.{after, bound_frames, bound_binders}
 use Rattle.expander.specs.declared.expressions.At as code_at
 use Rattle.feature_requirements.specs.declared.fault.ExpandFault.{ExpandFault}
-use Rattle.feature_requirements.specs.declared.fault.ExpandFault.TheVariants as fault
 use Rattle.unit_scopes.specs.declared.scope.UnitScope.{UnitScope}
 use Rattle.expander.proofs.AfterLaws.{all_known, begins_look}
 use Rattle.expander.proofs.BelowLaws.{below_knows, node_below, node_unbegun}

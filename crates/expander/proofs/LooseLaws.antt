@@ -10,7 +10,6 @@ use Rattle.form_notes.specs.Noted.{beginning}
 use Rattle.form_parts.specs.declared.items.Spot as code_spot
 use Rattle.unit_scopes.specs.Outcomes as plain_look
 use Rattle.unit_scopes.specs.State as plain
-use Rattle.unit_scopes.specs.Used as plain_use
 use Rattle.unit_scopes.specs.declared.asked.Asked.{Asked}
 use Rattle.unit_scopes.specs.declared.scope.UnitScope.{UnitScope}
 use Rattle.unit_scopes.specs.declared.uses.Use as code_use

@@ -22,7 +22,7 @@ use Rattle.unit_scopes.specs.declared.scope.Budget.{Budget}
 use Rattle.unit_scopes.specs.declared.scope.FormAtWork.{FormAtWork}
 use Rattle.unit_scopes.specs.declared.scope.UnitScope.{UnitScope}
 use Rattle.noted_steps.specs.Noting.{Noting, state_of, going, noting}
-use Rattle.noted_steps.specs.Outcomes.{Stays, Moves, Ends}
+use Rattle.noted_steps.specs.Outcomes.{Ends}
 use Rattle.noted_steps.specs.Standing.{Stands, with_notes}
 use Rattle.noted_steps.proofs.Lifts.{plain_stays}
 use Rattle.noted_steps.proofs.UsesMet.{MeetsAlone, left_behind}

@@ -1,8 +1,8 @@
 -- What a macro use asks, noted: its comparisons, and the use once they were.
-use Rattle.std.proofs.Common.{◌≡◌, ℕ, List, [], ◌∷◌, map, Bool, true, false, cond, Result, refl, sym, ap, ◌∙◌, subst}
+use Rattle.std.proofs.Common.{◌≡◌, ℕ, List, [], ◌∷◌, map, Bool, true, false, cond, Result, sym, ap, ◌∙◌, subst}
 use Rattle.std.specs.Prelude.{nat_lt}
 use Rattle.scheme_model.specs.Ident.{Ident as Identifier}
-use Rattle.scheme_model.specs.Trees.{Tree, Trees, Tail}
+use Rattle.scheme_model.specs.Trees.{Trees, Tail}
 use Rattle.scheme_model.specs.Meaning.{same_meaning}
 use Rattle.scheme_model.specs.RulesShape.{role_of, dots_of}
 use Rattle.scheme_model.specs.Matching.{compared}

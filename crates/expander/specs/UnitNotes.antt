@@ -1,6 +1,6 @@
 -- What the calls of this crate note (R7RS 5.1, 5.3): a part of a form begins behind the notes that there are, and where it ends its notes
 -- stand beside them.
-use Rattle.std.specs.Prelude.{◌≡◌, ℕ, List, [], length, Bool, true, Option, Result, Ok, Err}
+use Rattle.std.specs.Prelude.{◌≡◌, ℕ, List, [], length, true, Option, Result, Ok, Err}
 use Rattle.scheme_model.specs.Ident.{Ident as Identifier}
 use Rattle.scheme_model.specs.Program.{enough_turns}
 use Rattle.scheme_model.specs.Requirements.{Known}

@@ -1,7 +1,4 @@
 use Rattle.std.proofs.Common.{◌+◌, List, false, None, refl, sym, ap, subst}
-use Rattle.scheme_model.specs.ExpansionFaults.{Named}
-use Rattle.scheme_model.specs.Ident.{Ident as Identifier}
-use Rattle.scheme_model.specs.Identifiers.{Number}
 use Rattle.scheme_model.specs.Meaning.{Local}
 use Rattle.scheme_model.specs.Requirements.{Known}
 use Rattle.scheme_model.specs.Cores.{LocalNumber, MacroDef as ModelDef}

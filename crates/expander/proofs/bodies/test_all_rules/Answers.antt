@@ -1,4 +1,4 @@
-use Rattle.std.proofs.Common.{◌+◌, List, [], None, Ok, Err, refl}
+use Rattle.std.proofs.Common.{List, None, refl}
 use Rattle.scheme_model.specs.Expression.{heads}
 use Rattle.scheme_model.specs.Order.{RulesParts}
 use Rattle.scheme_model.specs.Ident.{Ident as Identifier}

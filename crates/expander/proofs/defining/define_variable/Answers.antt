@@ -1,6 +1,6 @@
 use Rattle.std.proofs.Common.{◌≡◌, ◌+◌, ◌≤◌, [], ◌∷◌, Bool, true, false, None, Ok, Err, refl, sym, ap, ◌∙◌, subst, arith}
 use Rattle.scheme_model.specs.Ident.{Ident as Identifier}
-use Rattle.scheme_model.specs.Order.{Form, Going, Item, Pass, Pending, Renamed, Value, Assigned, Assigns, binder_at, told, put, run_variable}
+use Rattle.scheme_model.specs.Order.{Form, Going, Item, Pass, Renamed, Value, Assigned, Assigns, binder_at, told, put, run_variable}
 use Rattle.scheme_model.specs.Substitution.{unchanged}
 use Rattle.scheme_model.specs.ScopedExpansion.{FramedIdent, body_around}
 use Rattle.expander.specs.Passed.{GoesOn}

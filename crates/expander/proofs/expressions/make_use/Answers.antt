@@ -1,4 +1,4 @@
-use Rattle.std.proofs.Common.{◌≡◌, ◌+◌, List, true, Ok, Err, sym, ap, ◌∙◌, subst}
+use Rattle.std.proofs.Common.{◌+◌, List, true, Ok, Err, sym, ap, ◌∙◌, subst}
 use Rattle.scheme_model.specs.Order.{use_of, comparisons}
 use Rattle.scheme_model.specs.Requirements.{Known}
 use Rattle.core_tree.specs.Names.{AllMatch}

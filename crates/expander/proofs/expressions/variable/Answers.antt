@@ -1,12 +1,11 @@
-use Rattle.std.proofs.Common.{◌≡◌, ℕ, true, false, Ok, Err, sym, ap, ◌∙◌, subst}
+use Rattle.std.proofs.Common.{◌≡◌, true, Err, sym, ◌∙◌, subst}
 use Rattle.std.proofs.lemmas.Option.{slice_get_within}
-use Rattle.scheme_model.specs.Order.{head_of, target_of}
+use Rattle.scheme_model.specs.Order.{head_of}
 use Rattle.scheme_model.specs.Meaning.{is_keyword}
-use Rattle.core_tree.specs.Names.{IsTarget}
 use Rattle.expander.specs.Ready.{TestsVariable}
 use Rattle.feature_requirements.specs.declared.fault.ExpandFault.{ExpandFault}
 use Rattle.expander.proofs.ReadLaws.{keyword_fault}
-use Rattle.noted_steps.specs.Noting.{Noting, state_of, means_here, target_at, noting}
+use Rattle.noted_steps.specs.Noting.{state_of, means_here, noting}
 use Rattle.noted_steps.proofs.NoteLaws.{plainly, plain_noted, plain_look}
 use Rattle.expander.proofs.expressions.variable.Goals as goal
 

@@ -6,12 +6,11 @@ use Rattle.scheme_model.specs.ExpansionFaults.{Named}
 use Rattle.scheme_model.specs.Ident.{Ident as Identifier}
 use Rattle.scheme_model.specs.Meaning.{Head, is_keyword, head_as}
 use Rattle.scheme_model.specs.Cores.{Target}
-use Rattle.scheme_model.specs.Order.{Going, Pass, LookedUp, Note, Headed, here_at, is_some, target_of, put, noted, run_core, run_form, run_use, Expression}
+use Rattle.scheme_model.specs.Order.{Going, Pass, LookedUp, Note, Headed, here_at, is_some, target_of, noted, run_core, run_form, run_use}
 use Rattle.scheme_model.specs.ScopedExpansion.{Frames, FramedIdent, macro_at}
 use Rattle.feature_requirements.specs.Judged.{Knows}
 use Rattle.unit_scopes.specs.Kept.{PendingFor}
 use Rattle.unit_scopes.specs.declared.scope.UnitScope.{UnitScope}
-use Rattle.expander.specs.Passed.{CanPass}
 use Rattle.expander.specs.Ready.{rules_asked}
 use Rattle.expander.proofs.DefinitionSteps.{goes_without}
 use Rattle.expander.proofs.FitLaws.{some_node}

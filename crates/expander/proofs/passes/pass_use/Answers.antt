@@ -1,4 +1,4 @@
-use Rattle.std.proofs.Common.{◌≡◌, ◌+◌, List, true, Some, Result, Ok, Err, OnOk, refl, sym, ap, ◌∙◌, subst}
+use Rattle.std.proofs.Common.{◌≡◌, ◌+◌, List, true, Some, Result, Ok, Err, OnOk, refl, sym, ap, subst}
 use Rattle.scheme_model.specs.Order.{Going, Pass, comparisons, run_use, use_of}
 use Rattle.scheme_model.specs.Ident.{Ident as Identifier}
 use Rattle.scheme_model.specs.ScopedExpansion.{FramedIdent}

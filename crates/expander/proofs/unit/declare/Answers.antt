@@ -1,4 +1,4 @@
-use Rattle.std.proofs.Common.{◌≡◌, ◌+◌, ◌≤◌, ◌^◌, List, [], length, false, true, None, Err, sym, ap, ◌∙◌, subst}
+use Rattle.std.proofs.Common.{◌+◌, ◌≤◌, ◌^◌, [], length, false, true, None, sym, subst}
 use Rattle.std.specs.Prelude.{OnOk}
 use Rattle.scheme_model.specs.Program.{enough_turns}
 use Rattle.scheme_model.specs.Ident.{Ident as Identifier}

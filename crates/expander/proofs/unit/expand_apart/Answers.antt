@@ -1,4 +1,4 @@
-use Rattle.std.proofs.Common.{◌≡◌, ◌+◌, ◌^◌, List, [], length, false, true, None, Result, Err, sym, ap, ◌∙◌, subst}
+use Rattle.std.proofs.Common.{◌^◌, [], length, false, true, None, Result, sym, ap, ◌∙◌, subst}
 use Rattle.std.specs.Prelude.{OnOk}
 use Rattle.scheme_model.specs.Cores.{Part}
 use Rattle.scheme_model.specs.Ident.{Ident as Identifier}

@@ -1,4 +1,4 @@
-use Rattle.std.proofs.Common.{◌<◌, ◌^◌, List, [], Ok, false, sym, subst, arith}
+use Rattle.std.proofs.Common.{◌<◌, ◌^◌, [], false, sym, subst, arith}
 use Rattle.scheme_model.specs.Measures.{tree_size}
 use Rattle.scheme_model.specs.Program.{enough_turns}
 use Rattle.scheme_model.specs.UnitExpansion.{one_form}

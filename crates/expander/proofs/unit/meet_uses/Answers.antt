@@ -1,6 +1,4 @@
-use Rattle.std.proofs.Common.{◌≡◌, List, [], length, false, true, None, refl, sym, ap, ◌∙◌, subst}
-use Rattle.scheme_model.specs.Ident.{Ident as Identifier}
-use Rattle.scheme_model.specs.Order.{WaitingUse}
+use Rattle.std.proofs.Common.{[], length, false, true, None, refl, sym, ap, subst}
 use Rattle.scheme_model.specs.ScopedExpansion.{ScopedState}
 use Rattle.core_tree.specs.Names.{AllMatch}
 use Rattle.core_tree.specs.declared.traces.Trace.{Trace}

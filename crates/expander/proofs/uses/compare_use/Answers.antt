@@ -1,5 +1,4 @@
 use Rattle.std.proofs.Common.{List, true, sym, subst}
-use Rattle.scheme_model.specs.Order.{comparisons}
 use Rattle.core_tree.specs.Names.{AllMatch}
 use Rattle.unit_scopes.specs.declared.uses.Comparison.{Comparison}
 use Rattle.expander.specs.Ready.{rules_asked}

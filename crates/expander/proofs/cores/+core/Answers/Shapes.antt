@@ -4,9 +4,9 @@ use Rattle.std.specs.List.{AllByRecursion}
 use denote.Enum.Bare.{true_same, false_same}
 use Rattle.scheme_model.specs.Measures.{tree_size}
 use Rattle.scheme_model.specs.Requirements.{Known}
-use Rattle.scheme_model.specs.Cores.{Core, If, CaseLambda, Lambda}
+use Rattle.scheme_model.specs.Cores.{Core}
 use Rattle.scheme_model.specs.Steps.{Step}
-use Rattle.scheme_model.specs.Expression.{whole, expand}
+use Rattle.scheme_model.specs.Expression.{expand}
 use Rattle.scheme_model.specs.ScopedExpansion.{Frames}
 use Rattle.syntax_tree.specs.Looks.{PartsStand}
 use Rattle.syntax_tree.specs.Works.{StandsFor}
