@@ -1,18 +1,17 @@
 -- A scope binds an identifier to what it bound it to before, or to nothing: what was bound since is undone.
-use Rattle.std.proofs.Common.{◌≡◌, ℕ, zero, suc, ◌<◌, Bool, true, false, cond, List, [], ◌∷◌, map, length, set, slice_get, is_some, Option, Some, None, Result, Ok, Err, OnOk, OnErr, refl, sym, ap, ◌∙◌, subst, inl, inr}
+use Rattle.std.proofs.Common.{◌≡◌, ℕ, zero, suc, ◌<◌, Bool, true, false, cond, List, [], ◌∷◌, set, slice_get, is_some, Option, Some, None, Result, Ok, Err, OnOk, OnErr, refl, sym, ap, ◌∙◌, subst, inl, inr}
 use Rattle.std.specs.Prelude.{◌⊎◌}
 use Rattle.std.specs.Ordering.{nat_cmp, eq_by_cmp}
 use Rattle.std.specs.Cmp.{nat_cmp_total, Equal-is}
-use Rattle.std.specs.BTreeMap.{BTreeMap, is_at, Updates}
+use Rattle.std.specs.BTreeMap.{is_at}
 use Rattle.std.specs.BTreeMap as tree
 use Rattle.std.specs.FinMap.{FinMap, get, insert, remove, from_entries, nat_cmp-IsAntisymmetric, get-insert, get-remove, same_map}
 use Rattle.std.specs.Option.{option_and_then}
 use Rattle.syntax_tree.specs.declared.meaning.Meaning.{Meaning}
 use Rattle.syntax_tree.specs.declared.symbols.UseNo.{UseNo}
-use Rattle.syntax_tree.proofs.Places.{none_some}
 use Rattle.scope_env.specs.declared.env.Scope as kept
 use Rattle.scope_env.specs.declared.marks.Marks as code
-use Rattle.scope_env.specs.Environment.{Environment, Scope, IsSound, bound_in, bound_as, changed_at, with_bound, with_before}
+use Rattle.scope_env.specs.Environment.{Environment, Scope, bound_in, bound_as, changed_at, with_bound, with_before}
 use Rattle.scope_env.specs.Kept.{scope_of, environment_of, uses_of}
 use Rattle.scope_env.specs.Marks.{marked_for, IsKept}
 use Rattle.scope_env.specs.Resolved.{bound_at}

@@ -1,4 +1,4 @@
-use Rattle.std.proofs.Common.{◌≡◌, List, ℕ, set, None, sym, ap, ◌∙◌, refl, subst}
+use Rattle.std.proofs.Common.{None, sym, ap, ◌∙◌, refl, subst}
 use Rattle.scope_env.specs.Environment.{Environment, with_before}
 use Rattle.scope_env.specs.Kept.{environment_of}
 use Rattle.scope_env.specs.Marks.{IsKept}

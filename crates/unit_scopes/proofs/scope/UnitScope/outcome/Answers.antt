@@ -1,4 +1,4 @@
-use Rattle.std.proofs.Common.{◌≡◌, Bool, true, false, None, sym, ap, ◌∙◌}
+use Rattle.std.proofs.Common.{Bool, None, sym, ap, ◌∙◌}
 use Rattle.scheme_model.specs.Questions.{outcome_by}
 use Rattle.scheme_model.specs.ScopedExpansion.{body_around, meaning_next, definition_added, is_defined}
 use Rattle.unit_scopes.proofs.DefineLaws.{comes_so, changes}
