@@ -1,5 +1,5 @@
 -- One macro more.
-use Rattle.std.proofs.Common.{◌≡◌, ℕ, Bool, Some, refl, ap, ◌∙◌, sym}
+use Rattle.std.proofs.Common.{◌≡◌, ℕ, Bool, Some, None, refl, ap, ◌∙◌, sym}
 use Rattle.std.specs.Prelude.{if◌then◌else◌}
 use Rattle.std.specs.BTreeMap.{BTreeMap, get}
 use Rattle.std.specs.Ordering.{is_eq}
@@ -32,3 +32,18 @@ module _ (old : Macros) (form : ℕ) (k : Macro) (last : ℕ) (meaning : Meaning
       by (Global v j) = h (v, j) ∙ ap (λ (b : Bool). if b then Some k else get pair_cmp old.globals.all (v, j)) (key_is u i v j)
       by (Standard s) = refl
       by (Free s) = refl
+
+-- one macro less
+pub gone_global : (old : Macros) (new : UnitMacros) (u i : ℕ) → ((q : ℕ × ℕ) → get pair_cmp new.all q ≡ (if is_eq (pair_cmp (u, i) q) then None else get pair_cmp old.globals.all q)) → (f : ℕ) (m : Meaning) →
+    macro_in (record old { globals = new }) f m ≡ (if same_key f (Global u i) f m then None else macro_in old f m)
+gone_global old new u i h f (Local j) = refl
+gone_global old new u i h f (Global v j) = h (v, j) ∙ ap (λ (b : Bool). if b then None else get pair_cmp old.globals.all (v, j)) (key_is u i v j)
+gone_global old new u i h f (Standard s) = refl
+gone_global old new u i h f (Free s) = refl
+
+-- the editions that were given are all one
+pub given_same : (old : Macros) (last f : ℕ) (m : Meaning) → macro_in (record old { editions = last }) f m ≡ macro_in old f m
+given_same old last f (Local n) = refl
+given_same old last f (Global u i) = refl
+given_same old last f (Standard s) = refl
+given_same old last f (Free s) = refl

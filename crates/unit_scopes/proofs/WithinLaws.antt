@@ -71,6 +71,10 @@ pub macro_put_fits : {V E : Type 0} (r : Result V E) (m n : BTreeMap (ℕ × ℕ
 macro_put_fits (Ok v) m n key kept before after updates same fits le all u i k there = macro_more_fits (get pair_cmp m (u, i)) (get pair_cmp n (u, i)) (is_at (pair_cmp key) (u, i)) kept before after (updates.0 (u, i)) fits le (all u i) k there
 macro_put_fits (Err e) m n key kept before after updates same fits le all u i k there = let h = all u i k (sym (ap (lookup (is_at (pair_cmp (u, i)))) same) ∙ there) in omega (arith, h, le)
 
+pub macro_gone_fits : (o p : Option Macro) (b : Bool) (newest : ℕ) → p ≡ cond b None o → ((k : Macro) → o ≡ Some k → k.scope ≤ newest) → (k : Macro) → p ≡ Some k → k.scope ≤ newest
+macro_gone_fits o p true newest is all k there = none_some k (sym is ∙ there)
+macro_gone_fits o p false newest is all k there = all k (sym is ∙ there)
+
 -- ---- lists that are written over
 
 pub whole_slice : {A : Type 0} (len : ℕ) (new old : List A) → length new ≡ length old → len ≡ length old → take len (new ++ drop (length new) old) ≡ new

@@ -1,8 +1,8 @@
 -- What is local to the forms of units, and is forgotten between two of them (R7RS 4.3, 5.3).
-use Rattle.std.specs.Prelude.{◌≡◌, ℕ, ◌+◌, ◌≤◌, ◌<◌, List, [], ◌∷◌, length, Bool, true, false, Some, None}
+use Rattle.std.specs.Prelude.{◌≡◌, ℕ, ◌+◌, ◌≤◌, ◌<◌, List, [], ◌∷◌, length, false, Some, None}
 use Rattle.std.specs.FinMap.{get}
 use Rattle.scheme_model.specs.Identifiers.{Number}
-use Rattle.scheme_model.specs.Meaning.{Meaning, Local, Global, Standard, Free}
+use Rattle.scheme_model.specs.Meaning.{Meaning, Local}
 use Rattle.scheme_model.specs.Ident.{Ident}
 use Rattle.scheme_model.specs.Order.{Note, LookedUp, Compared, Transformer}
 use Rattle.scheme_model.specs.ScopedExpansion.{Frames, FramedIdent, ScopedState, macro_at}

@@ -1,8 +1,9 @@
 //! The macros of all units, by what means them.
-ghost use Rattle.std.specs.Prelude.{◌≡◌, ℕ, ◌+◌, None, IfOk, OnOk, OnErr};
+ghost use Rattle.std.specs.Prelude.{◌≡◌, ℕ, ◌+◌, None, IfOk, OnOk, OnErr, if◌then◌else◌};
 ghost use Rattle.std.specs.Option.{option_copied};
 ghost use Rattle.syntax_tree.specs.declared.meaning.Meaning.{Meaning as AnyMeaning};
-ghost use Rattle.unit_scopes.specs.Macros.{macro_in, edition_in, numbered, IsBound, Keeps};
+ghost use Rattle.syntax_tree.specs.declared.meaning.Meaning.TheVariants.{Global as GlobalOf};
+ghost use Rattle.unit_scopes.specs.Macros.{macro_in, edition_in, numbered, same_key, IsBound, Keeps};
 
 use crate::unit_macros::UnitMacros;
 use ls_base::{Items, Mem, Memory};
@@ -12,7 +13,7 @@ use std::alloc::Global;
 use std::collections::BTreeMap;
 use syntax_tree::meaning::Meaning;
 use syntax_tree::rules::Rules;
-use syntax_tree::symbols::SymNo;
+use syntax_tree::symbols::{IdNo, SymNo};
 
 /// A macro: the scope in which it was defined, its rules, and their leaves; and its edition, a number that it is given when it is
 /// kept, from 1 on.
@@ -82,6 +83,16 @@ impl Macros {
         let mut kept = kept;
         kept.edition = edition;
         self.editions = edition;
+        self.keep_as(form, meaning, kept)
+    }
+
+    /// Keeps a macro as what means this in a form, with the edition that it has. Nothing free means a macro.
+    pub fn keep_as(&mut self, form: u32, meaning: Meaning, kept: Macro) -> Mem<()>
+        requires { IsBound meaning }
+        ensures kept { OnOk result (Keeps self.old self.new form meaning kept) }
+        ensures editions { self.new.editions ≡ self.old.editions }
+        ensures err { OnErr result ((f : ℕ) (m : AnyMeaning) → macro_in self.new f m ≡ macro_in self.old f m) }
+    {
         match meaning {
             Meaning::Local(number) => {
                 self.locals.insert((form, number), kept)?;
@@ -95,6 +106,15 @@ impl Macros {
             Meaning::Free(_) => {}
         }
         Ok(())
+    }
+
+    /// Takes out the macro that a unit defines as this identifier, where it does.
+    pub fn take(&mut self, unit: u32, ident: IdNo) -> Option<Macro>
+        ensures taken { (f : ℕ) → result ≡ macro_in self.old f (GlobalOf unit ident) }
+        ensures gone { (f : ℕ) (m : AnyMeaning) → macro_in self.new f m ≡ (if same_key f (GlobalOf unit ident) f m then None else macro_in self.old f m) }
+        ensures editions { self.new.editions ≡ self.old.editions }
+    {
+        self.globals.take(unit, ident)
     }
 }
 

@@ -51,6 +51,14 @@ impl UnitMacros {
         Ok(())
     }
 
+    /// Takes out the macro that a unit defines as this identifier, where it does.
+    pub fn take(&mut self, unit: u32, ident: IdNo) -> Option<Macro>
+        ensures taken { result ≡ get pair_cmp self.old.all (unit, ident) }
+        ensures gone { (q : ℕ × ℕ) → get pair_cmp self.new.all q ≡ (if is_eq (pair_cmp (unit, ident) q) then None else get pair_cmp self.old.all q) }
+    {
+        self.all.remove(&(unit, ident))
+    }
+
     /// Macros of newer scopes than this one are from now on of this one.
     pub fn keep_within(&mut self, last: ScopeNo)
         ensures { (u i : ℕ) → get pair_cmp self.new.all (u, i) ≡ option_map (macro_within last) (get pair_cmp self.old.all (u, i)) }
