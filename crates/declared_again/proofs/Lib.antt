@@ -1,0 +1,2 @@
+pub mod EndingSides  -- A form that is gone through has made in its unit what its definitions made, at each moment
+pub mod MadeAgain  -- What a form leaves is made again by its definitions, one after another

@@ -1,0 +1,61 @@
+-- How the definitions of a form in its unit end, and what those that stand make (R7RS 5.3).
+use Rattle.std.specs.Prelude.{◌≡◌, List, [], ◌∷◌, ◌++◌, Option, None, Result}
+use Rattle.scheme_model.specs.Ident.{Ident}
+use Rattle.scheme_model.specs.ExpansionFaults.{Named}
+use Rattle.scheme_model.specs.Meaning.{Global}
+use Rattle.scheme_model.specs.RulesShape.{Rules}
+use Rattle.scheme_model.specs.Order.{Note, is_some}
+use Rattle.scheme_model.specs.Substitution.{Table}
+use Rattle.scheme_model.specs.ScopedExpansion.{Frames, FramedIdent, ScopedMacro, ScopedState, macro_added, definition_added}
+use Rattle.scheme_model.specs.Questions.{Moment, Around, Question, LooksUp, UsesRules, Compares, IsAssigned, Requires, Defines, Outcome, Stands, Redefines, StoodBefore, unit_outcome}
+use Rattle.forgotten_locals.specs.Outside.{macros_outside}
+
+-- a definition of the form in its unit, at its moment, in view of the form's notes by then
+pub record Ending : Type 0 where
+  pub moment : Moment
+  pub frames : Frames
+  pub name : Named Ident
+  pub rules : Option (Rules Ident)
+  pub notes : List (Note FramedIdent)
+
+-- those among a form's questions, latest first as these are
+abbrev pub endings : List (Moment × Question) → List Ending
+endings [] = []
+endings ((n, LooksUp i) ∷ qs) = endings qs
+endings ((n, UsesRules m) ∷ qs) = endings qs
+endings ((n, Compares l i) ∷ qs) = endings qs
+endings ((n, IsAssigned i) ∷ qs) = endings qs
+endings ((n, Requires l) ∷ qs) = endings qs
+endings ((n, Defines fs x r ns) ∷ qs) = record { moment = n; frames = fs; name = x; rules = r; notes = ns } ∷ endings qs
+
+abbrev pub ending_in : Around → Ending → Outcome
+ending_in w e = unit_outcome w e.moment e.frames e.name e.rules e.notes
+
+-- what definitions make of the surroundings, each where it stood: their table and their macros, latest first
+abbrev pub table_if : Outcome → Around → Ending → Table → Table
+table_if Stands w e t = record { unit = w.state.unit; form = w.state.form; ident = e.name.name; keyword = is_some e.rules; occ = e.name.occ } ∷ t
+table_if Redefines w e t = t
+table_if StoodBefore w e t = t
+
+abbrev pub macros_if : Outcome → Around → Ending → List ScopedMacro → List ScopedMacro
+macros_if Stands w e ks = macro_added (Global w.state.unit e.name.name) e.frames e.rules ks
+macros_if Redefines w e ks = ks
+macros_if StoodBefore w e ks = ks
+
+abbrev pub table_made : Around → List Ending → Table
+table_made w [] = []
+table_made w (e ∷ es) = table_if (ending_in w e) w e (table_made w es)
+
+abbrev pub macros_made : Around → List Ending → List ScopedMacro
+macros_made w [] = []
+macros_made w (e ∷ es) = macros_if (ending_in w e) w e (macros_made w es)
+
+-- the state that they make of another one, one definition after another
+abbrev pub made_if : Outcome → Ending → ScopedState → ScopedState
+made_if Stands e s = definition_added None e.name e.rules e.frames s
+made_if Redefines e s = s
+made_if StoodBefore e s = s
+
+abbrev pub made_again : Around → List Ending → ScopedState → ScopedState
+made_again w [] s = s
+made_again w (e ∷ es) s = made_if (ending_in w e) e (made_again w es s)
