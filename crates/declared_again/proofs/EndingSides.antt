@@ -1,6 +1,6 @@
 -- A form that is gone through has made in its unit what its definitions made, at each moment: of all steps these alone make a definition
 -- of the unit, or a macro that isn't local.
-use Rattle.std.proofs.Common.{◌≡◌, ℕ, suc, ◌+◌, List, [], ◌∷◌, ◌++◌, append_assoc, Bool, Option, Some, None, Result, Ok, Err, refl, sym, ap, ◌∙◌, subst}
+use Rattle.std.proofs.Common.{◌≡◌, ℕ, suc, ◌+◌, List, [], ◌∷◌, ◌++◌, append_assoc, Option, Some, None, Result, Ok, Err, refl, sym, ap, ◌∙◌, subst}
 use Rattle.scheme_model.specs.Identifiers.{Number}
 use Rattle.scheme_model.specs.Ident.{Ident}
 use Rattle.scheme_model.specs.Trees.{Tree}
@@ -8,7 +8,7 @@ use Rattle.scheme_model.specs.ExpansionFaults.{Named, Fault, KeywordRedefined, D
 use Rattle.scheme_model.specs.Meaning.{Meaning, Local, Global, Standard, Free, same_meaning, head_as}
 use Rattle.scheme_model.specs.RulesShape.{Rules}
 use Rattle.scheme_model.specs.Cores.{Bound}
-use Rattle.scheme_model.specs.Order.{Note, LookedUp, Compared, Pending, Renamed, Transformer, Asked, Meant, Headed, RulesOf, Alike, Assigns, Library, Ops, is_some, run}
+use Rattle.scheme_model.specs.Order.{Note, LookedUp, Compared, Pending, Renamed, Transformer, Asked, Meant, Headed, RulesOf, Alike, Assigns, Library, Ops, is_some}
 use Rattle.scheme_model.specs.Expression.{meaning_of}
 use Rattle.scheme_model.specs.UnitExpansion.{one_form}
 use Rattle.scheme_model.specs.Substitution.{unchanged}
@@ -21,49 +21,75 @@ use Rattle.model_laws.proofs.FrameHeads.{IfMacro}
 use Rattle.form_laws.proofs.Sides.{Results, NoteLike, TransformerLike, PendingLike, RenamedLike, Answer, Sides}
 use Rattle.form_laws.proofs.SideRuns.{run_runs}
 use Rattle.forgotten_locals.specs.Outside.{macros_outside}
-use Rattle.declared_again.specs.Endings.{Ending, endings, table_if, macros_if, table_made, macros_made}
+use Rattle.declared_again.specs.Endings.{Ending, endings, table_if, macros_if, table_made, macros_made, Made, MadeAtEach}
 
 -- ---- questions that are no definitions
 
-own_none : (o : Option Number) (n : Moment) (i : Ident) (rest : List (Moment × Question)) → endings (dated n (unless_own o (LooksUp i ∷ [])) ++ rest) ≡ endings rest
-own_none None n i rest = refl
-own_none (Some v) n i rest = refl
+abbrev NoDefinition : Question → Type 0
+NoDefinition (LooksUp i) = Unit {0}
+NoDefinition (UsesRules m) = Unit {0}
+NoDefinition (Compares l i) = Unit {0}
+NoDefinition (IsAssigned i) = Unit {0}
+NoDefinition (Requires l) = Unit {0}
+NoDefinition (Defines fs x r ns) = ⊥
 
-both_none : (o p : Option Number) (n : Moment) (l i : Ident) (rest : List (Moment × Question)) → endings (dated n (unless_own o (unless_own p (Compares l i ∷ []))) ++ rest) ≡ endings rest
-both_none None None n l i rest = refl
-both_none None (Some v) n l i rest = refl
-both_none (Some u) p n l i rest = refl
+abbrev NoDefinitions : List Question → Type 0
+NoDefinitions [] = Unit {0}
+NoDefinitions (q ∷ qs) = NoDefinition q × NoDefinitions qs
 
-rules_none : (m : Meaning) (n : Moment) (rest : List (Moment × Question)) → endings (dated n (unless_local m) ++ rest) ≡ endings rest
-rules_none (Local v) n rest = refl
-rules_none (Global u i) n rest = refl
-rules_none (Standard x) n rest = refl
-rules_none (Free x) n rest = refl
+unless_none : (o : Option Number) (qs : List Question) → NoDefinitions qs → NoDefinitions (unless_own o qs)
+unless_none None qs h = h
+unless_none (Some v) qs h = tt
 
-assigned_none : (b : Option Number) (n : Moment) (i : Ident) (rest : List (Moment × Question)) → endings (dated n (in_unit b (IsAssigned i)) ++ rest) ≡ endings rest
-assigned_none None n i rest = refl
-assigned_none (Some b) n i rest = refl
+rules_none : (m : Meaning) → NoDefinitions (unless_local m)
+rules_none (Local v) = tt
+rules_none (Global u i) = (tt, tt)
+rules_none (Standard x) = (tt, tt)
+rules_none (Free x) = (tt, tt)
 
-one_none : (n : Moment) (q : Asked Frames Ident) (rest : List (Moment × Question)) → endings (dated n (left_to_ask n q) ++ rest) ≡ endings rest
-one_none n (Meant fs i) rest = own_none (own_local (own_at n) fs i) n i rest
-one_none n (Headed fs i) rest = own_none (own_local (own_at n) fs i) n i rest
-one_none n (RulesOf m) rest = rules_none m n rest
-one_none n (Alike ds l fs i) rest = both_none (own_local (own_at n) ds l) (own_local (own_at n) fs i) n l i rest
-one_none n (Assigns fs i) rest = assigned_none (body_around fs) n i rest
-one_none n (Library l) rest = refl
+assigned_none : (b : Option Number) (i : Ident) → NoDefinitions (in_unit b (IsAssigned i))
+assigned_none None i = (tt, tt)
+assigned_none (Some b) i = tt
+
+left_none : (n : Moment) (q : Asked Frames Ident) → NoDefinitions (left_to_ask n q)
+left_none n (Meant fs i) = unless_none (own_local (own_at n) fs i) (LooksUp i ∷ []) (tt, tt)
+left_none n (Headed fs i) = unless_none (own_local (own_at n) fs i) (LooksUp i ∷ []) (tt, tt)
+left_none n (RulesOf m) = rules_none m
+left_none n (Alike ds l fs i) =
+    unless_none (own_local (own_at n) ds l) (unless_own (own_local (own_at n) fs i) (Compares l i ∷ [])) (unless_none (own_local (own_at n) fs i) (Compares l i ∷ []) (tt, tt))
+left_none n (Assigns fs i) = assigned_none (body_around fs) i
+left_none n (Library l) = (tt, tt)
+
+dated_none : (n : Moment) (qs : List Question) (rest : List (Moment × Question)) → NoDefinitions qs → endings (dated n qs ++ rest) ≡ endings rest
+dated_none n [] rest h = refl
+dated_none n (LooksUp i ∷ qs) rest h = dated_none n qs rest h.1
+dated_none n (UsesRules m ∷ qs) rest h = dated_none n qs rest h.1
+dated_none n (Compares l i ∷ qs) rest h = dated_none n qs rest h.1
+dated_none n (IsAssigned i ∷ qs) rest h = dated_none n qs rest h.1
+dated_none n (Requires l ∷ qs) rest h = dated_none n qs rest h.1
+dated_none n (Defines fs x r ns ∷ qs) rest h = absurd h.0
 
 pub asked_none : (n : Moment) (qs : List (Asked Frames Ident)) (rest : List (Moment × Question)) → endings (all_left n qs ++ rest) ≡ endings rest
 asked_none n [] rest = refl
-asked_none n (q ∷ qs) rest = ap endings (append_assoc (dated n (left_to_ask n q)) (all_left n qs) rest) ∙ (one_none n q (all_left n qs ++ rest) ∙ asked_none n qs rest)
+asked_none n (q ∷ qs) rest =
+    ap endings (append_assoc (dated n (left_to_ask n q)) (all_left n qs) rest) ∙ (dated_none n (left_to_ask n q) (all_left n qs ++ rest) (left_none n q) ∙ asked_none n qs rest)
+
+module _ (w : Around) (n : Moment) where
+  dated_made : (qs : List Question) (rest : List (Moment × Question)) → NoDefinitions qs → Made w n (endings rest) → MadeAtEach w rest → MadeAtEach w (dated n qs ++ rest)
+  dated_made [] rest none now h = h
+  dated_made (q ∷ qs) rest none now h = (subst (Made w n) (sym (dated_none n qs rest none.1)) now, dated_made qs rest none.1 now h)
+
+  pub asked_made : (qs : List (Asked Frames Ident)) (rest : List (Moment × Question)) → Made w n (endings rest) → MadeAtEach w rest → MadeAtEach w (all_left n qs ++ rest)
+  asked_made [] rest now h = h
+  asked_made (q ∷ qs) rest now h =
+      subst (MadeAtEach w) (sym (append_assoc (dated n (left_to_ask n q)) (all_left n qs) rest))
+      (dated_made (left_to_ask n q) (all_left n qs ++ rest) (left_none n q) (subst (Made w n) (sym (asked_none n qs rest)) now) (asked_made qs rest now h))
 
 -- ---- what was made by a moment
 
 module _ (w : Around) where
-  abbrev pub Made : Moment → List Ending → Type 0
-  Made n es = (n.table ≡ table_made w es) × (macros_outside n.macros ≡ macros_made w es)
-
   abbrev pub Told : Asking → Type 0
-  Told s = Made s.moment (endings s.asked)
+  Told s = Made w s.moment (endings s.asked) × MadeAtEach w s.asked
 
   module _ (n : Moment) (rest : List (Moment × Question)) (fs : Frames) (x : Named Ident) (p : Pending Ident FramedIdent) where
     abbrev defined_in_unit : Option (Rules Ident) → Outcome → Type 0
@@ -71,22 +97,25 @@ module _ (w : Around) where
         let e : Ending = record { moment = n; frames = fs; name = x; rules = r; notes = p.notes } in let m = (ended o w None x r fs p n).1 in
         (m.table ≡ table_if o w e (table_made w (endings rest))) × (macros_outside m.macros ≡ macros_if o w e (macros_made w (endings rest)))
 
-    unit_told : (r : Option (Rules Ident)) (o : Outcome) → Made n (endings rest) → defined_in_unit r o
+    unit_told : (r : Option (Rules Ident)) (o : Outcome) → Made w n (endings rest) → defined_in_unit r o
     unit_told r Redefines h = h
     unit_told r StoodBefore h = h
     unit_told None Stands h = (λ j. record { unit = w.state.unit; form = w.state.form; ident = x.name; keyword = is_some {A = Rules Ident} None; occ = x.occ } ∷ h.0 j, h.1)
     unit_told (Some r) Stands h =
         (λ j. record { unit = w.state.unit; form = w.state.form; ident = x.name; keyword = is_some (Some r); occ = x.occ } ∷ h.0 j, λ j. record { meaning = Global w.state.unit x.name; frames = fs; rules = r } ∷ h.1 j)
 
-    body_told : (b : Number) (r : Option (Rules Ident)) (o : Outcome) → Made n (endings rest) → Made (ended o w (Some b) x r fs p n).1 (endings rest)
+    body_told : (b : Number) (r : Option (Rules Ident)) (o : Outcome) → Made w n (endings rest) → Made w (ended o w (Some b) x r fs p n).1 (endings rest)
     body_told b r Redefines h = h
     body_told b r StoodBefore h = h
     body_told b None Stands h = h
     body_told b (Some r) Stands h = h
 
-    pub define_told : (r : Option (Rules Ident)) (b : Option Number) → Made n (endings rest) → Made (ended (outcome w n b fs x r p.notes) w b x r fs p n).1 (endings (dated n (in_unit b (Defines fs x r p.notes)) ++ rest))
-    define_told r None h = unit_told r (unit_outcome w n fs x r p.notes) h
-    define_told r (Some b) h = body_told b r (outcome w n (Some b) fs x r p.notes) h
+    abbrev after : Option (Rules Ident) → Option Number → Asking
+    after r b = record { moment = (ended (outcome w n b fs x r p.notes) w b x r fs p n).1; asked = dated n (in_unit b (Defines fs x r p.notes)) ++ rest }
+
+    pub define_told : (r : Option (Rules Ident)) (b : Option Number) → Made w n (endings rest) → MadeAtEach w rest → Told (after r b)
+    define_told r None h each = (unit_told r (unit_outcome w n fs x r p.notes) h, (h, each))
+    define_told r (Some b) h each = (body_told b r (outcome w n (Some b) fs x r p.notes) h, each)
 
   -- ---- the expansion beside itself
 
@@ -177,7 +206,7 @@ module _ (w : Around) where
     placed = λ s e f d i. (λ j. record { frames = d j; ident = i });
     answered = λ s t h qs a. all_answered s t h qs;
     ask_back = λ s qs a. tt;
-    ask_later = λ s qs h. subst (Made s.moment) (sym (asked_none s.moment qs s.asked)) h;
+    ask_later = λ s qs h. (subst (Made w s.moment) (sym (asked_none s.moment qs s.asked)) h.0, asked_made w s.moment qs s.asked h.0 h.1);
     ask_near = λ s t h qs. h;
     ask_means = λ s qs e i. refl;
     counts = λ s t h. (λ j. let z : Moment = h j in record { locals = z.locals; uses = z.uses; nodes = z.nodes; keywords = z.keywords; met = z.met });
@@ -219,7 +248,7 @@ module _ (w : Around) where
     inside = λ s e ts. tt;
     inside_bounds = λ s e ts x y d. d;
     define_back = λ s n r e p a. tt;
-    define_later = λ s e f g d x r p q l h. define_told s.moment s.asked e x p r (body_around e) h;
+    define_later = λ s e f g d x r p q l h. define_told s.moment s.asked e x p r (body_around e) h.0 h.1;
     define_some = λ s e f g d x r p q l. some_by (body_around e) x r e p q l s.moment (outcome w s.moment (body_around e) e x r p.notes);
     define_near = λ s t h e f g d x r p q l a. defined_near s t h e f d x r p q l;
   }
@@ -227,4 +256,4 @@ module _ (w : Around) where
   pub made_by_then : (turns : ℕ) (t : Tree Ident) → Told (set_aside_asking w turns t).1
   made_by_then turns t =
       let law = run_runs here here Fits sides [] [] tt turns (one_form t []) (one_form t []) (no_questions w) refl (record { todo = refl; aside = tt; uses = refl; notes = refl }) in
-      law.after (refl, refl)
+      law.after ((refl, refl), tt)

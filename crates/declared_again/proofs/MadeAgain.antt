@@ -1,19 +1,17 @@
 -- What a form leaves is made again by its definitions, one after another.
-use Rattle.std.proofs.Common.{◌≡◌, ℕ, List, [], ◌∷◌, ◌++◌, Bool, true, false, Option, Some, None, refl, sym, ap, ◌∙◌}
+use Rattle.std.proofs.Common.{◌≡◌, List, [], ◌∷◌, ◌++◌, Bool, true, false, Option, Some, None, refl, sym, ap, ◌∙◌}
 use Rattle.std.specs.Prelude.{if◌then◌else◌}
 use Rattle.scheme_model.specs.Ident.{Ident}
-use Rattle.scheme_model.specs.Trees.{Tree}
 use Rattle.scheme_model.specs.ExpansionFaults.{Named}
 use Rattle.scheme_model.specs.Meaning.{Global}
 use Rattle.scheme_model.specs.RulesShape.{Rules}
 use Rattle.scheme_model.specs.Order.{is_some}
 use Rattle.scheme_model.specs.Substitution.{Table}
 use Rattle.scheme_model.specs.ScopedExpansion.{Frames, ScopedMacro, ScopedState, macro_added, definition_added}
-use Rattle.scheme_model.specs.Questions.{Moment, Around, Outcome, Stands, Redefines, StoodBefore}
-use Rattle.scheme_model.specs.FormsAlike.{set_aside_asking, again}
+use Rattle.scheme_model.specs.Questions.{Moment, Around, Question, Outcome, Stands, Redefines, StoodBefore}
+use Rattle.scheme_model.specs.FormsAlike.{again}
 use Rattle.forgotten_locals.specs.Outside.{is_outside, macros_outside, outside}
-use Rattle.declared_again.specs.Endings.{Ending, endings, ending_in, table_if, macros_if, table_made, macros_made, made_if, made_again}
-use Rattle.declared_again.proofs.EndingSides.{made_by_then}
+use Rattle.declared_again.specs.Endings.{Ending, endings, ending_in, table_if, macros_if, table_made, macros_made, made_if, made_again, Made, MadeAtEach, IsMadeAgain, AreMadeAgain}
 
 kept_if : (b : Bool) (k : ScopedMacro) (xs ys : List ScopedMacro) → (if b then k ∷ (xs ++ ys) else (xs ++ ys)) ≡ (if b then k ∷ xs else xs) ++ ys
 kept_if true k xs ys = refl
@@ -44,14 +42,15 @@ module _ (w : Around) (s : ScopedState) (unit : s.unit ≡ w.state.unit) (form :
   all_made [] = refl
   all_made (e ∷ es) = ap (made_if (ending_in w e) e) (all_made es) ∙ one_more (ending_in w e) e (table_made w es) (macros_made w es)
 
-pub left_is_made : (w v : Around) (turns : ℕ) (t : Tree Ident) → v.state.unit ≡ w.state.unit → v.state.form ≡ w.state.form →
-    let q = (set_aside_asking w turns t).1 in let s = outside (again v q.moment) in let m = made_again w (endings q.asked) (outside v.state) in
-    s ≡ record m { locals = s.locals; uses = s.uses; nodes = s.nodes; bodies = s.bodies; keywords = s.keywords; met = s.met }
-left_is_made w v turns t unit form =
-    let q = (set_aside_asking w turns t).1 in
-    let s = outside (again v q.moment) in
-    let told = made_by_then w turns t in
+-- by a moment, put into other surroundings of the form
+pub moment_is_made : (w v : Around) (n : Moment) (es : List Ending) → Made w n es → v.state.unit ≡ w.state.unit → v.state.form ≡ w.state.form → IsMadeAgain w v n es
+moment_is_made w v n es told unit form =
+    let s = outside (again v n) in
     let table = told.0 in
-    let macros = macros_both q.moment.macros v.state.macros ∙ ap (λ (ks : List ScopedMacro). ks ++ macros_outside v.state.macros) told.1 in
+    let macros = macros_both n.macros v.state.macros ∙ ap (λ (ks : List ScopedMacro). ks ++ macros_outside v.state.macros) told.1 in
     (λ j. record s { table = table j ++ v.state.table; macros = macros j })
-    ∙ sym (ap (λ (m : ScopedState). record m { locals = s.locals; uses = s.uses; nodes = s.nodes; bodies = s.bodies; keywords = s.keywords; met = s.met }) (all_made w (outside v.state) unit form (endings q.asked)))
+    ∙ sym (ap (λ (m : ScopedState). record m { locals = s.locals; uses = s.uses; nodes = s.nodes; bodies = s.bodies; keywords = s.keywords; met = s.met }) (all_made w (outside v.state) unit form es))
+
+pub each_is_made : (w v : Around) (qs : List (Moment × Question)) → MadeAtEach w qs → v.state.unit ≡ w.state.unit → v.state.form ≡ w.state.form → AreMadeAgain w v qs
+each_is_made w v [] h unit form = tt
+each_is_made w v (q ∷ qs) h unit form = (moment_is_made w v q.0 (endings qs) h.0 unit form, each_is_made w v qs h.1 unit form)

@@ -1,5 +1,5 @@
 -- How the definitions of a form in its unit end, and what those that stand make (R7RS 5.3).
-use Rattle.std.specs.Prelude.{◌≡◌, List, [], ◌∷◌, ◌++◌, Option, None, Result}
+use Rattle.std.specs.Prelude.{◌≡◌, List, [], ◌∷◌, Option, None}
 use Rattle.scheme_model.specs.Ident.{Ident}
 use Rattle.scheme_model.specs.ExpansionFaults.{Named}
 use Rattle.scheme_model.specs.Meaning.{Global}
@@ -8,7 +8,8 @@ use Rattle.scheme_model.specs.Order.{Note, is_some}
 use Rattle.scheme_model.specs.Substitution.{Table}
 use Rattle.scheme_model.specs.ScopedExpansion.{Frames, FramedIdent, ScopedMacro, ScopedState, macro_added, definition_added}
 use Rattle.scheme_model.specs.Questions.{Moment, Around, Question, LooksUp, UsesRules, Compares, IsAssigned, Requires, Defines, Outcome, Stands, Redefines, StoodBefore, unit_outcome}
-use Rattle.forgotten_locals.specs.Outside.{macros_outside}
+use Rattle.scheme_model.specs.FormsAlike.{again}
+use Rattle.forgotten_locals.specs.Outside.{macros_outside, outside}
 
 -- a definition of the form in its unit, at its moment, in view of the form's notes by then
 pub record Ending : Type 0 where
@@ -59,3 +60,26 @@ made_if StoodBefore e s = s
 abbrev pub made_again : Around → List Ending → ScopedState → ScopedState
 made_again w [] s = s
 made_again w (e ∷ es) s = made_if (ending_in w e) e (made_again w es s)
+
+-- ---- at each moment
+
+-- what isn't local of what the form had made by a moment is what these make
+abbrev pub Made : Around → Moment → List Ending → Type 0
+Made w n es = (n.table ≡ table_made w es) × (macros_outside n.macros ≡ macros_made w es)
+
+-- so it is at the moment of each question, by the definitions that were asked before it
+abbrev pub MadeAtEach : Around → List (Moment × Question) → Type 0
+MadeAtEach w [] = Unit {0}
+MadeAtEach w (q ∷ qs) = Made w q.0 (endings qs) × MadeAtEach w qs
+
+-- ---- in other surroundings
+
+-- a moment there, without what is local, is what these definitions make of the surroundings, but for what the form has counted and met
+abbrev pub IsMadeAgain : (w v : Around) → Moment → List Ending → Type 0
+IsMadeAgain w v n es =
+    let s = outside (again v n) in s ≡ record (made_again w es (outside v.state)) { locals = s.locals; uses = s.uses; nodes = s.nodes; bodies = s.bodies; keywords = s.keywords; met = s.met }
+
+-- and so is that of each question
+abbrev pub AreMadeAgain : (w v : Around) → List (Moment × Question) → Type 0
+AreMadeAgain w v [] = Unit {0}
+AreMadeAgain w v (q ∷ qs) = IsMadeAgain w v q.0 (endings qs) × AreMadeAgain w v qs
