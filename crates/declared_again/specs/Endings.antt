@@ -1,5 +1,5 @@
 -- How the definitions of a form in its unit end, and what those that stand make (R7RS 5.3).
-use Rattle.std.specs.Prelude.{◌≡◌, List, [], ◌∷◌, Option, None}
+use Rattle.std.specs.Prelude.{◌≡◌, List, [], ◌∷◌, Option, None, ◌++◌}
 use Rattle.scheme_model.specs.Ident.{Ident}
 use Rattle.scheme_model.specs.ExpansionFaults.{Named}
 use Rattle.scheme_model.specs.Meaning.{Global}
@@ -83,3 +83,15 @@ IsMadeAgain w v n es =
 abbrev pub AreMadeAgain : (w v : Around) → List (Moment × Question) → Type 0
 AreMadeAgain w v [] = Unit {0}
 AreMadeAgain w v (q ∷ qs) = IsMadeAgain w v q.0 (endings qs) × AreMadeAgain w v qs
+
+-- ---- the form's notes
+
+-- they are these with some before them in the list, as later notes are
+abbrev pub IsEarlier : List (Note FramedIdent) → List (Note FramedIdent) → Type 0
+IsEarlier ns ms = (more : List (Note FramedIdent)) × (ms ≡ more ++ ns)
+
+-- each definition was made in the unit itself, in view of notes that the form still has at the next one, and the last in view of notes that
+-- it has in the end
+abbrev pub MadeInOrder : List Ending → List (Note FramedIdent) → Type 0
+MadeInOrder [] ms = Unit {0}
+MadeInOrder (e ∷ es) ms = (e.frames ≡ []) × IsEarlier e.notes ms × MadeInOrder es e.notes

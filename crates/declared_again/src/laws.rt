@@ -4,7 +4,7 @@ ghost use Rattle.scheme_model.specs.Ident.{Ident as Identifier};
 ghost use Rattle.scheme_model.specs.Trees.{Tree};
 ghost use Rattle.scheme_model.specs.Questions.{Around};
 ghost use Rattle.scheme_model.specs.FormsAlike.{set_aside_asking};
-ghost use Rattle.declared_again.specs.Endings.{endings, Made, MadeAtEach, IsMadeAgain, AreMadeAgain};
+ghost use Rattle.declared_again.specs.Endings.{endings, Made, MadeAtEach, IsMadeAgain, AreMadeAgain, MadeInOrder};
 
 /// Of all that a form that is gone through has made, what isn't local is what its definitions made in its unit (R7RS 5.3), at its end and
 /// at the moment of each question: so it is made again in other surroundings of the form by those that stood, one after another.
@@ -12,4 +12,10 @@ pub fn definitions_make_what_is_left()
     ensures made { (w : Around) (turns : ℕ) (t : Tree Identifier) → let q = (set_aside_asking w turns t).1 in Made w q.moment (endings q.asked) × MadeAtEach w q.asked }
     ensures again { (w v : Around) (turns : ℕ) (t : Tree Identifier) → v.state.unit ≡ w.state.unit → v.state.form ≡ w.state.form →
         let q = (set_aside_asking w turns t).1 in IsMadeAgain w v q.moment (endings q.asked) × AreMadeAgain w v q.asked }
+{}
+
+/// The definitions of a form that is gone through are made in its unit itself, one after another (R7RS 5.3): each in view of notes that the
+/// form still has at the next one, and in the end.
+pub fn definitions_are_made_in_order()
+    ensures { (w : Around) (turns : ℕ) (t : Tree Identifier) → let q = set_aside_asking w turns t in MadeInOrder (endings q.1.asked) q.0.notes }
 {}
