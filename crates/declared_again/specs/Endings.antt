@@ -6,9 +6,10 @@ use Rattle.scheme_model.specs.Meaning.{Global}
 use Rattle.scheme_model.specs.RulesShape.{Rules}
 use Rattle.scheme_model.specs.Order.{Note, is_some}
 use Rattle.scheme_model.specs.Substitution.{Table}
-use Rattle.scheme_model.specs.ScopedExpansion.{Frames, FramedIdent, ScopedMacro, ScopedState, macro_added, definition_added}
+use Rattle.scheme_model.specs.ScopedExpansion.{Frames, FramedIdent, ScopedMacro, UsePlace, ScopedState, macro_added, definition_added}
 use Rattle.scheme_model.specs.Questions.{Moment, Around, Question, LooksUp, UsesRules, Compares, IsAssigned, Requires, Defines, Outcome, Stands, Redefines, StoodBefore, unit_outcome}
 use Rattle.scheme_model.specs.FormsAlike.{again}
+use Rattle.form_laws.specs.Begins.{Each}
 use Rattle.forgotten_locals.specs.Outside.{macros_outside, outside}
 
 -- a definition of the form in its unit, at its moment, in view of the form's notes by then
@@ -95,3 +96,9 @@ IsEarlier ns ms = (more : List (Note FramedIdent)) × (ms ≡ more ++ ns)
 abbrev pub MadeInOrder : List Ending → List (Note FramedIdent) → Type 0
 MadeInOrder [] ms = Unit {0}
 MadeInOrder (e ∷ es) ms = (e.frames ≡ []) × IsEarlier e.notes ms × MadeInOrder es e.notes
+
+-- ---- at the root
+
+-- nothing is inside a body: macros were defined, and used ones were, at the root of their units
+abbrev pub AtRoot : Moment → Type 0
+AtRoot n = Each (λ (p : UsePlace). p.frames ≡ []) n.places × Each (λ (k : ScopedMacro). k.frames ≡ []) n.macros × (n.definitions ≡ [])
