@@ -4,10 +4,11 @@ use Rattle.scheme_model.specs.Ident.{Ident}
 use Rattle.scheme_model.specs.ExpansionFaults.{Named}
 use Rattle.scheme_model.specs.Meaning.{Global}
 use Rattle.scheme_model.specs.RulesShape.{Rules}
-use Rattle.scheme_model.specs.Order.{Note, is_some}
-use Rattle.scheme_model.specs.Substitution.{Table}
-use Rattle.scheme_model.specs.ScopedExpansion.{Frames, FramedIdent, ScopedMacro, UsePlace, ScopedState, macro_added, definition_added}
-use Rattle.scheme_model.specs.Questions.{Moment, Around, Question, LooksUp, UsesRules, Compares, IsAssigned, Requires, Defines, Outcome, Stands, Redefines, StoodBefore, unit_outcome}
+use Rattle.scheme_model.specs.Order.{Note, LookedUp, Compared, is_some}
+use Rattle.scheme_model.specs.Substitution.{Table, any}
+use Rattle.scheme_model.specs.ScopedExpansion.{Frames, FramedIdent, ScopedMacro, UsePlace, ScopedState, macro_added, definition_added, meaning_next, is_defined}
+use Rattle.scheme_model.specs.CountedExpansion.{refused_here}
+use Rattle.scheme_model.specs.Questions.{Moment, Around, Question, LooksUp, UsesRules, Compares, IsAssigned, Requires, Defines, Outcome, Stands, Redefines, StoodBefore, outcome_by, unit_outcome}
 use Rattle.scheme_model.specs.FormsAlike.{again}
 use Rattle.form_laws.specs.Begins.{Each}
 use Rattle.forgotten_locals.specs.Outside.{macros_outside, outside}
@@ -102,3 +103,12 @@ MadeInOrder (e ∷ es) ms = (e.frames ≡ []) × IsEarlier e.notes ms × MadeInO
 -- nothing is inside a body: macros were defined, and used ones were, at the root of their units
 abbrev pub AtRoot : Moment → Type 0
 AtRoot n = Each (λ (p : UsePlace). p.frames ≡ []) n.places × Each (λ (k : ScopedMacro). k.frames ≡ []) n.macros × (n.definitions ≡ [])
+
+abbrev pub NoteAtRoot : Note FramedIdent → Type 0
+NoteAtRoot (LookedUp l head keyword) = l.frames ≡ []
+NoteAtRoot (Compared l j held) = (l.frames ≡ []) × (j.frames ≡ [])
+
+-- how a definition ends in a state outside of all forms, in view of these notes of the form and of those before it
+abbrev pub outcome_outside : Around → ScopedState → Named Ident → Option (Rules Ident) → List (Note FramedIdent) → Outcome
+outcome_outside v s x r ns =
+    outcome_by (any (refused_here (definition_added None x r [] s) (meaning_next s None x.name) (is_some r)) (ns ++ v.notes)) (is_defined s None x.name)
