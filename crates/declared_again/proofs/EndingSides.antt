@@ -198,6 +198,8 @@ module _ (w : Around) where
     like = λ s l k. k ≡ l;
     bounds = λ fs. Same;
     notes = λ s fs. SameNotes;
+    ruled = λ s m. Unit {0};
+    ruled_there = λ s m a. tt;
     itself = λ s h. h;
     then_ = λ s t u a b h. b (a h);
     fits_later = λ s t a e f d. d;
@@ -207,8 +209,10 @@ module _ (w : Around) where
     answered = λ s t h qs a. all_answered s t h qs;
     ask_back = λ s qs a. tt;
     ask_later = λ s qs h. (subst (Made w s.moment) (sym (asked_none s.moment qs s.asked)) h.0, asked_made w s.moment qs s.asked h.0 h.1);
-    ask_near = λ s t h qs. h;
+    ask_near = λ s t h qs rs l. h;
     ask_means = λ s qs e i. refl;
+    ask_macro = λ s qs m. refl;
+    ask_meant = λ t rs f i. refl;
     counts = λ s t h. (λ j. let z : Moment = h j in record { locals = z.locals; uses = z.uses; nodes = z.nodes; keywords = z.keywords; met = z.met });
     spend_back = λ s n a. tt;
     spend_later = λ s n h. h;
