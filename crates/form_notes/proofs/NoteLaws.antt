@@ -82,7 +82,7 @@ module _ (names : Names) (r : Since) where
           own = subst (λ (own : BTreeSet ℕ). OwnStands names own r) (sym (ap (λ (n : code_noting.Noting). n.own) a.rest)) s.own;
           notes = subst (λ (xs : List code_note.Note). HaveNotes names r xs ns) (sym p.1) (subst (HaveNotes names r (old.notes ++ x ∷ [])) m.2 (have_more old.notes ms x m.0 m.1 s.notes));
           order = subst (λ (k : ℕ). InOrder k new.notes (length r.own)) (sym (ap (λ (n : code_noting.Noting). n.first) a.rest))
-          (subst (InOrder old.first new.notes) (no_more (length r.own) (stood x.question) none) (order_more old.first (length r.own) old.notes new.notes x p.1 m.3 s.order));
+              (subst (InOrder old.first new.notes) (no_more (length r.own) (stood x.question) none) (order_more old.first (length r.own) old.notes new.notes x p.1 m.3 s.order));
         };
   }
 

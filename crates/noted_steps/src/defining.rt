@@ -118,9 +118,5 @@ fn note_failed(units: &mut UnitScope, spot: Spot, ident: IdNo, number: u32)
         return;
     }
     let redefines = number == code::KEYWORD_REDEFINED;
-    units
-        .form
-        .trace
-        .notes
-        .fail_definition(ident, redefines);
+    units.form.trace.notes.fail_definition(ident, redefines);
 }

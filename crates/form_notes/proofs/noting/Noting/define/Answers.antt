@@ -1,7 +1,7 @@
-use Rattle.std.proofs.Common.{◌≡◌, ◌+◌, ℕ, List, ◌∷◌, length, ◌++◌, refl, sym, ap, ◌∙◌, subst, add-one}
+use Rattle.std.proofs.Common.{◌+◌, ℕ, List, ◌∷◌, length, refl, sym, ap, ◌∙◌, subst, add-one}
 use Rattle.std.specs.BTreeSet.{BTreeSet}
 use Rattle.scheme_model.specs.Questions.{Defines, Ends, Stands}
-use Rattle.form_notes.specs.Noted.{Noted, defined_as}
+use Rattle.form_notes.specs.Noted.{Noted}
 use Rattle.form_notes.specs.Standing.{HaveNotes, InOrder, OwnStands}
 use Rattle.form_notes.specs.declared.notes.Note as code_note
 use Rattle.form_notes.specs.declared.notes.Outcome.TheVariants as outcomes
