@@ -28,6 +28,7 @@ reordered names x r ms ns forth back h = record {
           all = λ m there. s.notes.all m (back m there);
           alone = λ y there. (let p = s.notes.alone y there in (p.0, forth p.0 p.1, p.2));
         };
+        order = s.order;
       };
 }
 

@@ -25,7 +25,6 @@ ghost use Rattle.noted_steps.specs.Standing.{Stands, with_notes};
 
 use core_forms::NamePart;
 use feature_requirements::fault::{ExpandFault, code};
-use form_notes::Outcome;
 use form_parts::items::Spot;
 use scheme_model::Occ;
 use syntax_tree::symbols::IdNo;
@@ -104,11 +103,6 @@ fn note_made(units: &mut UnitScope, work: &Work, spot: Spot, ident: IdNo)
     if spot.in_body {
         return;
     }
-    units
-        .form
-        .trace
-        .notes
-        .end_definition(ident, Outcome::Stands);
     units.form.trace.notes.define(&work.symbols, ident);
 }
 
@@ -123,20 +117,6 @@ fn note_failed(units: &mut UnitScope, spot: Spot, ident: IdNo, number: u32)
     if spot.in_body {
         return;
     }
-    units
-        .form
-        .trace
-        .notes
-        .end_definition(ident, failed_outcome(number));
-}
-
-/// How a definition ended that has the fault of this number.
-fn failed_outcome(number: u32) -> Outcome
-    ensures { result ≡ failed_as number }
-{
-    if number == code::KEYWORD_REDEFINED {
-        Outcome::Redefines
-    } else {
-        Outcome::StoodBefore
-    }
+    let redefines = number == code::KEYWORD_REDEFINED;
+    units.form.trace.notes.fail_definition(ident, redefines);
 }
