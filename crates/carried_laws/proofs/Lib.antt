@@ -4,6 +4,7 @@ pub mod AtWork  -- The forms of a unit at work, each gone through and then expan
 pub mod Staying  -- Entries that have their answers where the forms of a unit are gone through and expanded anew have them where these are kept, one form behind another
 pub mod StayingPrograms  -- So it is in a program, unit by unit
 pub mod CarriedStays  -- A form that asks alike before and after under some numbers may be kept there, of what it came to before under these numbers
+pub mod StaysOn  -- An entry that may stay in a program may stay in the next one too, where its form asks alike before and after
 pub mod BrokenForms  -- A form that is broken when it is gone through uses no macro later
 pub mod Bound  -- Where all carried forms are kept, no more macro uses are worked than the work of the event
 pub mod Places  -- What stands at a place of a list

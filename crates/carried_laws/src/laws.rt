@@ -103,3 +103,10 @@ pub fn programs_keep_what_is_carried()
     ensures worked { (before after : List OpenDocument) → AreOpenOnce before → AreOpenOnce after → AllHomesGoOn before after → let ds = read_documents after in let all = units_of ds in let units = prepare all 0 all in
         program_worked all units (known_in ds) (carried_keeping before after) (length units) scoped_before ≤ work before after }
 {}
+
+/// An entry that may stay where a form is worked on may stay in the next program too, where the form asks alike before and after under some numbers that
+/// tell the old ones: it asked the same where it was expanded (R7RS 4.3, 5.3). So entries may be kept over any number of events.
+pub fn entries_stay_on()
+    ensures { (r : Renumbering) (b : HasOldNumbers r) (n : ℕ) (k : KeptForm) (f g : WorkedForm) → IsAtWork n f → Stays n (f.form, f.tree) (Some k) f → asks_alike r f g ≡ true → r.form n f.form ≡ g.form → move_tree (change r) f.tree ≡ g.tree →
+        Stays (r.unit n) (g.form, g.tree) (Some (kept_as r k)) g }
+{}

@@ -2,6 +2,7 @@
 ghost use Rattle.std.specs.Prelude.{◌≡◌, []};
 
 use crate::cores::{Binder, Target};
+use form_notes::Noting;
 use ls_base::{Items, Text};
 use scheme_model::Occ;
 use std::alloc::Global;
@@ -14,12 +15,14 @@ pub struct MacroUse {
     pub literals: Vec<Target>,
 }
 
-/// What the expansion of a form met, in order: what the form defines in its unit, keywords of core forms and macro uses.
+/// What the expansion of a form met, in order: what the form defines in its unit, keywords of core forms and macro uses; and what the
+/// form noted of its questions.
 #[derive(Drop)]
 pub struct Trace {
     pub definitions: Items<Binder>,
     pub keywords: Items<Target>,
     pub uses: Items<MacroUse>,
+    pub notes: Noting,
 }
 
 /// The fault of a form that is broken: its code, the identifier that it names, with that identifier's place, the place of the form
@@ -38,10 +41,12 @@ pub fn blank_trace(alloc: Global) -> Trace
     ensures definitions { result.definitions ≡ [] }
     ensures keywords { result.keywords ≡ [] }
     ensures uses { result.uses ≡ [] }
+    ensures notes { result.notes.notes ≡ [] }
 {
     Trace {
         definitions: Items::new(alloc),
         keywords: Items::new(alloc),
         uses: Items::new(alloc),
+        notes: Noting::new(alloc),
     }
 }

@@ -4,33 +4,32 @@ use Rattle.std.specs.Prelude.{String}
 use Rattle.std.specs.BTreeSet.{BTreeSet, contains_text}
 use Rattle.std.specs.declared.alloc.Global.{Global}
 use Rattle.scheme_model.specs.declared.Occ.{Occ}
-use Rattle.scheme_model.specs.Trees.{Tree}
-use Rattle.scheme_model.specs.Ident.{Ident as Identifier}
 use Rattle.scheme_model.specs.Requirements.{Known}
 use Rattle.scheme_model.specs.Cores.{Core}
 use Rattle.scheme_model.specs.Steps.{Broken, Step}
-use Rattle.scheme_model.specs.Expression.{expression, expand, node}
-use Rattle.scheme_model.specs.ScopedExpansion.{Frames, ScopedState}
+use Rattle.scheme_model.specs.Expression.{node}
+use Rattle.scheme_model.specs.ScopedExpansion.{Frames}
 use Rattle.syntax_tree.specs.Works.{IsOpened}
 use Rattle.syntax_tree.specs.declared.trees.Work.{Work}
-use Rattle.syntax_tree.specs.declared.trees.nodes.Tree as number
 use Rattle.syntax_tree.specs.declared.trees.table.Region.{Region}
 use Rattle.core_tree.specs.Cores.{CoreStands}
 use Rattle.core_tree.specs.declared.cores.Core as code_core
 use Rattle.unit_scopes.specs.Counts.{Begins}
 use Rattle.feature_requirements.specs.Judged.{Knows, library_text}
-use Rattle.unit_scopes.specs.State.{Stands}
-use Rattle.unit_scopes.specs.Stepped.{spent}
-use Rattle.unit_scopes.specs.Outcomes.{At, Grows, SameForm, Stays, Moves, Ends, Runs, CanLook, WorksOn, IsEnough, IsEnoughBelow, HasRoom, Spends}
-use Rattle.expander.specs.Ready.{IsSettled, Settles, Reads, Expanding}
-use Rattle.unit_scopes.specs.Searched.{searched}
+use Rattle.unit_scopes.specs.Outcomes.{At, Grows, SameForm, IsEnough, IsEnoughBelow, HasRoom, Spends}
+use Rattle.expander.specs.Ready.{Reads, Expanding}
 use Rattle.expander.specs.declared.expressions.Ready.TheVariants as ready
 use Rattle.feature_requirements.specs.declared.fault.ExpandFault.{ExpandFault}
 use Rattle.feature_requirements.specs.declared.fault.ExpandFault.TheVariants as fault
 use Rattle.unit_scopes.specs.declared.scope.UnitScope.{UnitScope}
-use Rattle.unit_scopes.proofs.OutcomeLaws.{ends_after, moves_here, here_ends}
-use Rattle.unit_scopes.proofs.CountingStands.{nodes_stand}
-use Rattle.unit_scopes.proofs.NodeLaws.{spends, begins_goes, here_done}
+use Rattle.noted_steps.specs.Noting.{Noting, noting}
+use Rattle.noted_steps.specs.Standing.{Stands}
+use Rattle.noted_steps.specs.Stepped.{spent}
+use Rattle.noted_steps.specs.Outcomes.{Stays, Moves, Ends, Runs}
+use Rattle.noted_steps.proofs.OutcomeLaws.{ends_after, moves_here, here_ends}
+use Rattle.noted_steps.proofs.CountingStands.{nodes_stand}
+use Rattle.noted_steps.proofs.NodeLaws.{spends, begins_goes, here_done}
+use Rattle.noted_steps.specs.Kept.{CanLook}
 
 -- ---- what can be done after a call
 
@@ -43,21 +42,21 @@ pub record IsAfter (old new : Work) (region : Region) (u v : UnitScope) (scope :
 pub all_known : (libraries : BTreeSet (String Global)) → (known : Known) × Knows libraries known
 all_known libraries = (λ n. contains_text libraries (library_text n), λ n written. refl)
 
-pub moves_after : (old new : Work) (region : Region) (u v : UnitScope) (scope : ℕ) (ls : List Frames) (fs : Frames) (t : ScopedState) → At ls scope fs → Moves old new region u v ls t → IsAfter old new region u v scope
+pub moves_after : (old new : Work) (region : Region) (u v : UnitScope) (scope : ℕ) (ls : List Frames) (fs : Frames) (t : Noting) → At ls scope fs → Moves old new region u v ls t → IsAfter old new region u v scope
 moves_after old new region u v scope ls fs t at m = record {
   look = record { layout = m.layout; state = t; frames = fs; stands = m.stays.stands; at = m.kept scope fs at };
   work = m.stays.work;
   same = m.stays.same;
 }
 
-pub stays_after : (old new : Work) (region : Region) (u v : UnitScope) (scope : ℕ) (ls : List Frames) (fs : Frames) (t : ScopedState) → At ls scope fs → Stays old new region u v ls t → IsAfter old new region u v scope
+pub stays_after : (old new : Work) (region : Region) (u v : UnitScope) (scope : ℕ) (ls : List Frames) (fs : Frames) (t : Noting) → At ls scope fs → Stays old new region u v ls t → IsAfter old new region u v scope
 stays_after old new region u v scope ls fs t at m = record {
   look = record { layout = ls; state = t; frames = fs; stands = m.stands; at = at };
   work = m.work;
   same = m.same;
 }
 
-pub runs_after : {X Y : Type 0} (P : List Frames → X → Y → Type 0) (old new : Work) (region : Region) (u v : UnitScope) (scope : ℕ) (x : X) (step : Known → Frames → Step ScopedState Y) → CanLook old u scope → Runs P old new region u v scope (Ok x) step → IsAfter old new region u v scope
+pub runs_after : {X Y : Type 0} (P : List Frames → X → Y → Type 0) (old new : Work) (region : Region) (u v : UnitScope) (scope : ℕ) (x : X) (step : Known → Frames → Step Noting Y) → CanLook old u scope → Runs P old new region u v scope (Ok x) step → IsAfter old new region u v scope
 runs_after P old new region u v scope x step l h =
     let k = all_known u.libraries in
     let ends = h k.0 l.layout l.state l.frames k.1 l.stands l.at in
@@ -117,41 +116,23 @@ enough_below_later depth uses later turns more h = omega (arith, h, more)
 
 -- ---- a node that begins
 
-module _ (known : Known) (work new : Work) (region : Region) (u w v : UnitScope) (ls : List Frames) (s : ScopedState) (here : Option Occ) (n : ℕ) (e : Stands work u ls s) where
-  pub node_then : {V B : Type 0} (Q : List Frames → V → B → Type 0) (parts : ℕ → Step ScopedState B) (depth below : ℕ) (result : Result V ExpandFault) → Begins u w here n depth (Ok below) →
-      (Stands work w ls (spent n s) → Ends Q work new region w v ls result (parts below (spent n s))) → Ends Q work new region u v ls result (node (searched known) here n depth parts s)
+module _ (known : Known) (work new : Work) (region : Region) (u w v : UnitScope) (ls : List Frames) (s : Noting) (here : Option Occ) (n : ℕ) (e : Stands work u ls s) where
+  pub node_then : {V B : Type 0} (Q : List Frames → V → B → Type 0) (parts : ℕ → Step Noting B) (depth below : ℕ) (result : Result V ExpandFault) → Begins u w here n depth (Ok below) →
+      (Stands work w ls (spent n s) → Ends Q work new region w v ls result (parts below (spent n s))) → Ends Q work new region u v ls result (node (noting known) here n depth parts s)
   unfolding moves_here
   node_then {V} {B} Q parts depth below result h next =
       let goes = begins_goes known work region u w ls s here n e parts depth below h in
-      subst (λ (p : Result B Broken × ScopedState). Ends Q work new region u v ls result p) (sym goes.0)
+      subst (λ (p : Result B Broken × Noting). Ends Q work new region u v ls result p) (sym goes.0)
       (ends_after Q work work new region u w v ls (spent n s) result (parts below (spent n s)) (moves_here work work region u w ls (spent n s) goes.1) (next goes.1.stands))
 
 -- a step behind one that opened no scope
-pub stays_then : {V B : Type 0} (Q : List Frames → V → B → Type 0) (a b c : Work) (region : Region) (u w v : UnitScope) (ls : List Frames) (s : ScopedState) (result : Result V ExpandFault) (p : Result B Broken × ScopedState) → Stays a b region u w ls s → Ends Q b c region w v ls result p → Ends Q a c region u v ls result p
+pub stays_then : {V B : Type 0} (Q : List Frames → V → B → Type 0) (a b c : Work) (region : Region) (u w v : UnitScope) (ls : List Frames) (s : Noting) (result : Result V ExpandFault) (p : Result B Broken × Noting) → Stays a b region u w ls s → Ends Q b c region w v ls result p → Ends Q a c region u v ls result p
 unfolding moves_here
 stays_then Q a b c region u w v ls s result p m h = ends_after Q a b c region u w v ls s result p (moves_here a b region u w ls s m) h
 
--- ---- an expression that was settled
-
-module _ (known : Known) (depth turns : ℕ) (old new : Work) (region : Region) (u w : UnitScope) (ls : List Frames) (fs : Frames) (p : Result Core Broken × ScopedState) where
-  pub settles_then : {V : Type 0} (Q : List Frames → V → Core → Type 0) (c : Work) (v : UnitScope) (x : number.Tree × Option Occ) (result : Result V ExpandFault) → Settles known depth turns old new region u w ls fs (Ok x) p →
-      ((t : Tree Identifier) (s : ScopedState) (left : ℕ) → Stands new w ls s → WorksOn new region x.0 t → IsEnoughBelow depth w.form.budget.uses left → IsSettled known s fs t →
-      Ends Q new c region w v ls result (expression (expand (searched known) left) (searched known) depth x.1 fs t s)) → Ends Q old c region u v ls result p
-  settles_then Q c v x result h next =
-      let settled = h.4 in
-      let less = enough_less depth w.form.budget.uses settled.turns_left settled.enough in
-      subst (λ (q : Result Core Broken × ScopedState). Ends Q old c region u v ls result q) (sym settled.same)
-      (stays_then Q old new c region u w v ls h.1 result (expression (expand (searched known) settled.turns_left) (searched known) depth x.1 fs h.0 h.1) h.2
-      (next h.0 h.1 settled.turns_left h.2.stands h.3 less settled.settled))
-
-  pub settles_fail : {V : Type 0} (Q : List Frames → V → Core → Type 0) (e : ExpandFault) → Settles known depth turns old new region u w ls fs (Err e) p → Ends Q old new region u w ls (Err e) p
-  settles_fail {V} Q (fault.At e) h = here_ends (λ (x : V) (y : Core). Q ls x y) old new region u w ls (Err (fault.At e)) p h
-  settles_fail Q fault.Full h = h
-  settles_fail Q fault.Memory h = h
-
 -- ---- an expression that was read
 
-module _ (known : Known) (depth : ℕ) (here : Option Occ) (work : Work) (region : Region) (u v : UnitScope) (ls : List Frames) (fs : Frames) (step : Expanding → Result Core Broken × ScopedState) (f : Expanding) where
+module _ (known : Known) (depth : ℕ) (here : Option Occ) (work : Work) (region : Region) (u v : UnitScope) (ls : List Frames) (fs : Frames) (step : Expanding → Result Core Broken × Noting) (f : Expanding) where
   pub reads_core : (c : code_core.Core) → Reads known depth here work region u v ls fs (Ok (ready.Core c)) step → Ends (λ layout. CoreStands work v.unit v.form.number) work work region u v ls (Ok c) (step f)
   reads_core c h =
       let P = CoreStands work v.unit v.form.number in
@@ -161,6 +142,6 @@ module _ (known : Known) (depth : ℕ) (here : Option Occ) (work : Work) (region
   unfolding moves_here
   reads_fail Q (fault.At e) h =
       let is = h.4 f in
-      subst (λ (q : Result Core Broken × ScopedState). Ends Q work work region u v ls (Err (fault.At e)) q) (sym is) (moves_here work work region u v ls h.1 h.2, (h.0, refl, h.3))
+      subst (λ (q : Result Core Broken × Noting). Ends Q work work region u v ls (Err (fault.At e)) q) (sym is) (moves_here work work region u v ls h.1 h.2, (h.0, refl, h.3))
   reads_fail Q fault.Full h = h
   reads_fail Q fault.Memory h = h

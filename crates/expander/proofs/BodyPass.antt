@@ -7,7 +7,7 @@ use Rattle.scheme_model.specs.Requirements.{Known}
 use Rattle.scheme_model.specs.Steps.{Broken, Step, ◌>>=◌, done}
 use Rattle.scheme_model.specs.Order.{Here, Item, WaitingUse, Left, Pending, Pass, meet_all, forms_at, run}
 use Rattle.scheme_model.specs.Expression.{left_of}
-use Rattle.scheme_model.specs.ScopedExpansion.{Frames, FramedIdent, ScopedState, next_number}
+use Rattle.scheme_model.specs.ScopedExpansion.{Frames, FramedIdent}
 use Rattle.syntax_tree.specs.Looks.{PartsStand, AllNamed}
 use Rattle.syntax_tree.specs.declared.trees.Work.{Work}
 use Rattle.syntax_tree.specs.declared.trees.nodes.Tree as number
@@ -18,13 +18,11 @@ use Rattle.core_tree.specs.Names.{AllMatch}
 use Rattle.unit_scopes.specs.Asks.{AskedStands}
 use Rattle.expander.specs.Bodies.{BodyFor, body_pass}
 use Rattle.feature_requirements.specs.Judged.{Knows}
-use Rattle.unit_scopes.specs.State.{Stands, most_locals}
-use Rattle.unit_scopes.specs.Stepped.{entered, entered_frames, with_uses}
+use Rattle.unit_scopes.specs.State.{most_locals}
 use Rattle.form_parts.specs.FormsSeen.{form_at}
-use Rattle.unit_scopes.specs.Kept.{KeptFor, WaitsFor, PendingFor, NoteFor, NotesFor, SpotFor, forms_size, left_with}
-use Rattle.unit_scopes.specs.Outcomes.{At, CanLook, Leaves, Stays, Moves, Ends}
+use Rattle.unit_scopes.specs.Kept.{KeptFor, WaitsFor, PendingFor, NoteFor, NotesFor, forms_size, left_with}
+use Rattle.unit_scopes.specs.Outcomes.{At, Leaves}
 use Rattle.expander.specs.Passed.{CanPass, Passes}
-use Rattle.unit_scopes.specs.Searched.{searched}
 use Rattle.unit_scopes.specs.declared.asked.Asked.{Asked}
 use Rattle.unit_scopes.specs.declared.asked.Note as code_note
 use Rattle.feature_requirements.specs.declared.fault.ExpandFault.{ExpandFault}
@@ -34,11 +32,19 @@ use Rattle.form_parts.specs.declared.items.Pending as code_pending
 use Rattle.form_parts.specs.declared.items.Spot.{Spot}
 use Rattle.form_parts.specs.declared.items.WaitingUse as code_waiting
 use Rattle.unit_scopes.specs.declared.scope.UnitScope.{UnitScope}
-use Rattle.unit_scopes.proofs.BodiesStand.{body_stands, body_opens}
-use Rattle.unit_scopes.proofs.BodyScopes.{new_binds}
-use Rattle.unit_scopes.proofs.UsesMet.{met_stays, left_behind}
+use Rattle.noted_steps.proofs.BodiesStand.{body_stands, new_binds}
+use Rattle.unit_scopes.proofs.BodiesStand.{body_opens}
+use Rattle.noted_steps.proofs.NoteLaws.{plainly}
+use Rattle.noted_steps.proofs.UsesMet.{MeetsAlone, met_stays, left_behind}
 use Rattle.expander.proofs.FormRows.{todo_stands}
-use Rattle.unit_scopes.proofs.OutcomeLaws.{grows_itself, stays_on, leaves_on, fills_on}
+use Rattle.unit_scopes.proofs.OutcomeLaws.{grows_itself}
+use Rattle.noted_steps.specs.Noting.{Noting, state_of, next_number, noting}
+use Rattle.noted_steps.specs.Standing.{Stands}
+use Rattle.noted_steps.specs.Stepped.{entered, entered_frames}
+use Rattle.noted_steps.specs.Outcomes.{Stays, Moves, Ends}
+use Rattle.noted_steps.proofs.OutcomeLaws.{stays_on, leaves_on, fills_on}
+use Rattle.noted_steps.specs.Kept.{SpotFor}
+use Rattle.noted_steps.specs.Kept.{CanLook}
 
 forms_of_size : (here : Here) (ts : Trees Identifier) → forms_size (forms_at here ts) ≡ trees_size ts
 forms_of_size here no_trees = refl
@@ -66,7 +72,7 @@ module _ (work : Work) (region : Region) (u w : UnitScope) (scope inner : ℕ) (
   abbrev start : Pending Identifier FramedIdent
   start = record { todo = forms_at here ts; aside = []; uses = []; notes = [] }
 
-  module _ (ls : List Frames) (s : ScopedState) (fs : Frames) (at : At ls scope fs) (e : Stands work u ls s) where
+  module _ (ls : List Frames) (s : Noting) (fs : Frames) (at : At ls scope fs) (e : Stands work u ls s) where
     abbrev inside : List Frames
     inside = ls ++ entered_frames s fs ∷ []
 
@@ -91,7 +97,7 @@ module _ (work : Work) (region : Region) (u w : UnitScope) (scope inner : ℕ) (
       inside = record {
         body = next_number s s.bodies;
         outer = fs;
-        opened = body_opens work u ls s scope fs at e;
+        opened = body_opens work u ls (state_of s) scope fs at (plainly work u ls s e);
         frames = refl;
         binds = new_binds work u ls s scope e;
       };
@@ -132,7 +138,7 @@ module _ (work : Work) (region : Region) (u w : UnitScope) (scope inner : ℕ) (
           (room_inside u.form.budget.locals (left_with start.todo u.form.budget.uses) (most_locals u.form.budget.nodes) (few_left (forms_size (forms_at here ts)) u.form.budget.uses (trees_size ts) (forms_of_size here ts) small) room);
     }
 
-    moves_inside : (new : Work) (v : UnitScope) (t : ScopedState) → Stays work new region w v inside t → Moves work new region u v ls t
+    moves_inside : (new : Work) (v : UnitScope) (t : Noting) → Stays work new region w v inside t → Moves work new region u v ls t
     moves_inside new v t h = record {
       layout = inside;
       kept = λ n gs there. get_front ls (entered_frames s fs ∷ []) n gs there;
@@ -143,36 +149,36 @@ module _ (work : Work) (region : Region) (u w : UnitScope) (scope inner : ℕ) (
     moves_in = record { layout = inside; kept = λ n gs there. get_front ls (entered_frames s fs ∷ []) n gs there; stays = body_stays }
 
     module _ (known : Known) (turns : ℕ) (new : Work) (v : UnitScope) where
-      abbrev went : Pass Identifier FramedIdent × ScopedState
-      went = run (searched known) turns (entered_frames s fs) start (entered s)
+      abbrev went : Pass Identifier FramedIdent × Noting
+      went = run (noting known) turns (entered_frames s fs) start (entered s)
 
       abbrev Went : (last : code_pending.Pending) (asked2 : Asked) → Result (Unit {0}) ExpandFault → Type 0
       Went last asked2 result = Passes work new region w v inside spot (entered_frames s fs) (left_with start.todo w.form.budget.uses) last asked2 result went
 
       -- what the pass says of these forms
       pub pass_inside : (last : code_pending.Pending) (asked2 : Asked) (result : Result (Unit {0}) ExpandFault) → Knows u.libraries known → 2 ^ 39 ≤ turns →
-          ((known : Known) (ls : List Frames) (s : ScopedState) (fs : Frames) (p : Pending Identifier FramedIdent) (turns : ℕ) → Knows u.libraries known → Stands work w ls s → SpotFor work w ls s spot fs → PendingFor work region w.unit w.form.number todo p →
-          NotesFor work ls asked p.notes → left_with p.todo w.form.budget.uses < turns → Passes work new region w v ls spot fs (left_with p.todo w.form.budget.uses) last asked2 result (run (searched known) turns fs p s)) →
+          ((known : Known) (ls : List Frames) (s : Noting) (fs : Frames) (p : Pending Identifier FramedIdent) (turns : ℕ) → Knows u.libraries known → Stands work w ls s → SpotFor work w ls s spot fs → PendingFor work region w.unit w.form.number todo p →
+          NotesFor work ls asked p.notes → left_with p.todo w.form.budget.uses < turns → Passes work new region w v ls spot fs (left_with p.todo w.form.budget.uses) last asked2 result (run (noting known) turns fs p s)) →
           Went last asked2 result
       pass_inside last asked2 result knows enough passes = passes known inside (entered s) (entered_frames s fs) start turns knows inside_stands spot_inside pending_inside notes_inside (turns_inside turns enough)
 
-      abbrev meeting : Left Identifier → Step ScopedState (Frames × List (Item Identifier))
-      meeting l t = done (entered_frames s fs, l.items) (meet_all (searched known) (entered_frames s fs) l.uses t)
+      abbrev meeting : Left Identifier → Step Noting (Frames × List (Item Identifier))
+      meeting l t = done (entered_frames s fs, l.items) (meet_all (noting known) (entered_frames s fs) l.uses t)
 
       -- its macro uses can be met
       pub can_meet : (last : code_pending.Pending) (asked2 : Asked) → Went last asked2 (Ok tt) → CanLook new v inner
       can_meet last asked2 h = record { layout = inside; state = went.1; frames = entered_frames s fs; stands = h.2.stays.stands; at = h.2.placed.at }
 
-      pub body_ends : (last : code_pending.Pending) (asked2 : Asked) (h : Went last asked2 (Ok tt)) (x : UnitScope) → x ≡ with_uses v x.form.trace.uses → ((known : Known) (ls : List Frames) (s : ScopedState) (fs : Frames) (us : List (WaitingUse Identifier)) → Stands new v ls s → At ls inner fs →
-          AllMatch (WaitsFor new v.unit v.form.number) last.uses.items us → Stands new x ls (meet_all (searched known) fs us s)) →
+      pub body_ends : (last : code_pending.Pending) (asked2 : Asked) (h : Went last asked2 (Ok tt)) (x : UnitScope) → MeetsAlone v x → ((known : Known) (ls : List Frames) (s : Noting) (fs : Frames) (us : List (WaitingUse Identifier)) → Stands new v ls s → At ls inner fs →
+          AllMatch (WaitsFor new v.unit v.form.number) last.uses.items us → Stands new x ls (meet_all (noting known) fs us s)) →
           Ends (BodyFor new region x.unit x.form.number) work new region u x ls (Ok (inner, last.aside)) (body_pass turns here ts known fs s)
       unfolding moves_inside
       body_ends last asked2 h x same meets =
-          let t = meet_all (searched known) (entered_frames s fs) h.0.uses went.1 in
+          let t = meet_all (noting known) (entered_frames s fs) h.0.uses went.1 in
           let met = meets known inside went.1 (entered_frames s fs) h.0.uses h.2.stays.stands h.2.placed.at h.3.uses in
           let end : (left_of went >>= meeting) ≡ (Ok (entered_frames s fs, h.0.items), t) = ap (λ (r : Result (Left Identifier) Broken). (r, went.1) >>= meeting) h.1 in
           let stays = met_stays work new region w v x inside went.1 t h.2.stays met same in
-          subst (λ (q : Result (Frames × List (Item Identifier)) Broken × ScopedState). Ends (BodyFor new region x.unit x.form.number) work new region u x ls (Ok (inner, last.aside)) q) (sym end)
+          subst (λ (q : Result (Frames × List (Item Identifier)) Broken × Noting). Ends (BodyFor new region x.unit x.form.number) work new region u x ls (Ok (inner, last.aside)) q) (sym end)
           ((entered_frames s fs, h.0.items), moves_inside new x t stays, refl, (spot_inside.at, subst (λ (y : UnitScope). AllMatch (KeptFor new region y.unit y.form.number) last.aside.items h.0.items) (sym same) h.3.aside))
 
       -- no memory for the uses
@@ -182,7 +188,7 @@ module _ (work : Work) (region : Region) (u w : UnitScope) (scope inner : ℕ) (
       pub body_fails : {X : Type 0} (last : code_pending.Pending) (asked2 : Asked) (Q : List Frames → X → Frames × List (Item Identifier) → Type 0) (x : ExpandFault) → Went last asked2 (Err x) → Ends Q work new region u v ls (Err x) (body_pass turns here ts known fs s)
       body_fails {X} last asked2 Q (fault.At x) h =
           let end : (left_of went >>= meeting) ≡ (Err h.0, went.1) = ap (λ (r : Result (Left Identifier) Broken). (r, went.1) >>= meeting) h.1 in
-          subst (λ (q : Result (Frames × List (Item Identifier)) Broken × ScopedState). Ends Q work new region u v ls (Err (fault.At x)) q) (sym end)
+          subst (λ (q : Result (Frames × List (Item Identifier)) Broken × Noting). Ends Q work new region u v ls (Err (fault.At x)) q) (sym end)
           (moves_inside new v went.1 h.2.stays, (h.0, refl, h.3))
       body_fails last asked2 Q fault.Full h =
           let g = subst (λ (x : UnitScope). Passes work new region x v inside spot (entered_frames s fs) (left_with start.todo w.form.budget.uses) last asked2 (Err fault.Full) went) child h in

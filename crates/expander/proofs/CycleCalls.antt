@@ -21,57 +21,59 @@ use Rattle.core_tree.specs.declared.cores.CorePart as code_part
 use Rattle.expander.specs.Bodies.{BodyFor, body_pass}
 use Rattle.expander.specs.Expanded.{AreKeptAtWork, BodyAtWork, ClauseAtWork, ClauseStands, KeptAtWork}
 use Rattle.unit_scopes.specs.Kept.{ClauseFor, KeptFor}
-use Rattle.unit_scopes.specs.Outcomes.{CanLook, IsAtWork, IsEnough, IsEnoughBelow, Runs}
-use Rattle.unit_scopes.specs.Searched.{searched}
+use Rattle.unit_scopes.specs.Outcomes.{IsAtWork, IsEnough, IsEnoughBelow}
 use Rattle.expander.specs.declared.expressions.At as code_at
 use Rattle.feature_requirements.specs.declared.fault.ExpandFault.{ExpandFault}
 use Rattle.form_parts.specs.declared.items.Kept as code_kept
 use Rattle.unit_scopes.specs.declared.scope.UnitScope.{UnitScope}
 use Rattle.expander.proofs.AfterLaws.{IsAfter, all_known, enough_there, runs_after}
+use Rattle.noted_steps.specs.Outcomes.{Runs}
+use Rattle.noted_steps.specs.Noting.{noting}
+use Rattle.noted_steps.specs.Kept.{CanLook}
 
 module _ (old new : Work) (region : Region) (u v : UnitScope) (at : code_at.At) where
   -- an expression
   abbrev pub ExpandRuns : number.Tree → Result code_core.Core ExpandFault → Type 0
   ExpandRuns form result = (t : Tree Identifier) (turns : ℕ) → StandsFor old form t → IsEnough at.depth u.form.budget.uses turns →
-      Runs (λ (layout : List Frames). CoreStands new v.unit v.form.number) old new region u v at.scope result (λ known fs. expand (searched known) turns at.depth at.here fs (whole t))
+      Runs (λ (layout : List Frames). CoreStands new v.unit v.form.number) old new region u v at.scope result (λ known fs. expand (noting known) turns at.depth at.here fs (whole t))
 
   pub expand_after : (form : number.Tree) (x : code_core.Core) → CanLook old u at.scope → IsAtWork old region form → ExpandRuns form (Ok x) → IsAfter old new region u v at.scope
   expand_after form x look works h =
       let turns : ℕ = (at.depth + 1) * 2 ^ 40 in
-      runs_after (λ (layout : List Frames). CoreStands new v.unit v.form.number) old new region u v at.scope x (λ known fs. expand (searched known) turns at.depth at.here fs (whole works.0.0)) look
+      runs_after (λ (layout : List Frames). CoreStands new v.unit v.form.number) old new region u v at.scope x (λ known fs. expand (noting known) turns at.depth at.here fs (whole works.0.0)) look
       (h works.0.0 turns works.0.1 (enough_there at.depth u.form.budget.uses))
 
   -- a clause
   abbrev pub ProcedureRuns : ClauseShape → Result code_clause.Clause ExpandFault → Type 0
   ProcedureRuns clause result = (c : Clause Identifier) (turns : ℕ) → ClauseFor old region clause c → IsEnough at.depth u.form.budget.uses turns →
-      Runs (λ (layout : List Frames). ClauseStands new v.unit v.form.number) old new region u v at.scope result (λ known fs. procedure (expand (searched known) turns) (searched known) at.depth at.here fs c)
+      Runs (λ (layout : List Frames). ClauseStands new v.unit v.form.number) old new region u v at.scope result (λ known fs. procedure (expand (noting known) turns) (noting known) at.depth at.here fs c)
 
   pub procedure_after : (clause : ClauseShape) (x : code_clause.Clause) → CanLook old u at.scope → ClauseAtWork old region clause → ProcedureRuns clause (Ok x) → IsAfter old new region u v at.scope
   procedure_after clause x look works h =
       let turns : ℕ = (at.depth + 1) * 2 ^ 40 in
-      runs_after (λ (layout : List Frames). ClauseStands new v.unit v.form.number) old new region u v at.scope x (λ known fs. procedure (expand (searched known) turns) (searched known) at.depth at.here fs works.0) look
+      runs_after (λ (layout : List Frames). ClauseStands new v.unit v.form.number) old new region u v at.scope x (λ known fs. procedure (expand (noting known) turns) (noting known) at.depth at.here fs works.0) look
       (h works.0 turns works.1 (enough_there at.depth u.form.budget.uses))
 
   -- a procedure
   abbrev pub LambdaRuns : ClauseShape → Result code_core.Core ExpandFault → Type 0
   LambdaRuns clause result = (c : Clause Identifier) (turns : ℕ) → ClauseFor old region clause c → IsEnoughBelow at.depth u.form.budget.uses turns →
-      Runs (λ (layout : List Frames). CoreStands new v.unit v.form.number) old new region u v at.scope result (λ known fs. lambda (expand (searched known) turns) (searched known) at.depth at.here fs c)
+      Runs (λ (layout : List Frames). CoreStands new v.unit v.form.number) old new region u v at.scope result (λ known fs. lambda (expand (noting known) turns) (noting known) at.depth at.here fs c)
 
   pub lambda_after : (clause : ClauseShape) (x : code_core.Core) → CanLook old u at.scope → ClauseAtWork old region clause → LambdaRuns clause (Ok x) → IsAfter old new region u v at.scope
   lambda_after clause x look works h =
       let turns : ℕ = (at.depth + 1) * 2 ^ 40 in
-      runs_after (λ (layout : List Frames). CoreStands new v.unit v.form.number) old new region u v at.scope x (λ known fs. lambda (expand (searched known) turns) (searched known) at.depth at.here fs works.0) look
+      runs_after (λ (layout : List Frames). CoreStands new v.unit v.form.number) old new region u v at.scope x (λ known fs. lambda (expand (noting known) turns) (noting known) at.depth at.here fs works.0) look
       (h works.0 turns works.1 (omega arith))
 
   -- what was set aside
   abbrev pub ItemRuns : code_kept.Kept → Result code_part.CorePart ExpandFault → Type 0
   ItemRuns kept result = (i : Item Identifier) (turns : ℕ) → KeptFor old region u.unit u.form.number kept i → IsEnough at.depth u.form.budget.uses turns →
-      Runs (λ (layout : List Frames). PartStands new v.unit v.form.number) old new region u v at.scope result (λ known fs. item_part (expand (searched known) turns) (searched known) at.depth fs i)
+      Runs (λ (layout : List Frames). PartStands new v.unit v.form.number) old new region u v at.scope result (λ known fs. item_part (expand (noting known) turns) (noting known) at.depth fs i)
 
   pub item_after : (kept : code_kept.Kept) (x : code_part.CorePart) → CanLook old u at.scope → KeptAtWork old region u kept → ItemRuns kept (Ok x) → IsAfter old new region u v at.scope
   item_after kept x look works h =
       let turns : ℕ = (at.depth + 1) * 2 ^ 40 in
-      runs_after (λ (layout : List Frames). PartStands new v.unit v.form.number) old new region u v at.scope x (λ known fs. item_part (expand (searched known) turns) (searched known) at.depth fs works.0) look
+      runs_after (λ (layout : List Frames). PartStands new v.unit v.form.number) old new region u v at.scope x (λ known fs. item_part (expand (noting known) turns) (noting known) at.depth fs works.0) look
       (h works.0 turns works.1 (enough_there at.depth u.form.budget.uses))
 
   -- the forms of a body

@@ -14,7 +14,7 @@ use Rattle.scheme_model.specs.Cores.{Core}
 use Rattle.scheme_model.specs.Steps.{Broken, ◌>>=◌}
 use Rattle.scheme_model.specs.Order.{Here, head_of, given}
 use Rattle.scheme_model.specs.Expression.{mark_of, core_form}
-use Rattle.scheme_model.specs.ScopedExpansion.{Frames, ScopedState}
+use Rattle.scheme_model.specs.ScopedExpansion.{Frames}
 use Rattle.syntax_tree.specs.Works.{StandsFor}
 use Rattle.syntax_tree.specs.declared.trees.Work.{Work}
 use Rattle.syntax_tree.specs.declared.trees.nodes.Tree as number
@@ -35,19 +35,22 @@ use Rattle.core_tree.specs.declared.cores.Core as code_core
 use Rattle.expander.specs.CoreSteps.{core_step, IsLeft}
 use Rattle.form_parts.specs.Marked.{mark_within}
 use Rattle.expander.specs.Ready.{Expanding, Reads}
-use Rattle.unit_scopes.specs.Searched.{searched}
-use Rattle.unit_scopes.specs.State.{Stands}
-use Rattle.unit_scopes.specs.Outcomes.{EndsHere}
 use Rattle.unit_scopes.specs.Told.{told, Tells}
 use Rattle.expander.specs.declared.expressions.Ready as code_ready
 use Rattle.expander.specs.declared.expressions.Ready.TheVariants as ready
 use Rattle.feature_requirements.specs.declared.fault.ExpandFault.{ExpandFault}
 use Rattle.feature_requirements.specs.declared.fault.ExpandFault.TheVariants as fault
 use Rattle.unit_scopes.specs.declared.scope.UnitScope.{UnitScope}
-use Rattle.unit_scopes.proofs.OutcomeLaws.{stays_itself, leaves_itself}
+use Rattle.unit_scopes.proofs.OutcomeLaws.{leaves_itself}
 use Rattle.expander.proofs.FitLaws.{shape_fits}
 use Rattle.expander.proofs.ShapeLaws.{core_form_is}
 use Rattle.form_parts.proofs.QuasiReads.{marks_within}
+use Rattle.noted_steps.specs.Asked.{form_asked}
+use Rattle.noted_steps.specs.Noting.{Noting, noting}
+use Rattle.noted_steps.specs.Standing.{Stands, with_notes}
+use Rattle.noted_steps.specs.Outcomes.{EndsHere}
+use Rattle.noted_steps.proofs.OutcomeLaws.{stays_itself, noted_stays}
+use Rattle.expander.proofs.ListLaws.{reads_behind}
 
 -- ---- marks
 
@@ -148,58 +151,69 @@ fault_same IncludeRefused = refl
 fault_same OutOfTurns = refl
 
 -- a fault as the code tells it
-abbrev pub RefusedBy : Work → ScopedState → Here → Fault Identifier → ExpandFault → Type 0
+abbrev pub RefusedBy : Work → Noting → Here → Fault Identifier → ExpandFault → Type 0
 RefusedBy work s here b (fault.At e) = IsFault work.symbols e (record { fault = b; here = here })
 RefusedBy work s here b fault.Full = ⊥
 RefusedBy work s here b fault.Memory = ⊥
 
-module _ (known : Known) (depth : ℕ) (here : Here) (fs : Frames) (s : ScopedState) (c : CoreKeyword) (ts : Trees Identifier) (tail : Tail Identifier) where
+module _ (known : Known) (depth : ℕ) (here : Here) (fs : Frames) (s : Noting) (c : CoreKeyword) (ts : Trees Identifier) (tail : Tail Identifier) where
   abbrev pub shape_here : Result Shape (Fault Identifier)
-  shape_here = shape_of c true (λ i. mark_of (head_of (searched known) fs s i)) ts tail
+  shape_here = shape_of c true (λ i. mark_of (head_of (noting known) fs s i)) ts tail
 
-  abbrev then_step : Expanding → Result Shape (Fault Identifier) → Result Core Broken × ScopedState
-  then_step f r = given (λ i. i) here r s >>= core_step f (searched known) depth here fs c
+  abbrev asked : Noting
+  asked = form_asked known fs c ts tail s
 
-  pub shaped_goes : (f : Expanding) (m : Shape) → shape_here ≡ Ok m → core_form f (searched known) depth here fs c ts tail s ≡ core_step f (searched known) depth here fs c m s
+  abbrev then_step : Expanding → Result Shape (Fault Identifier) → Result Core Broken × Noting
+  then_step f r = given (λ i. i) here r asked >>= core_step f (noting known) depth here fs c
+
+  pub shaped_goes : (f : Expanding) (m : Shape) → shape_here ≡ Ok m → core_form f (noting known) depth here fs c ts tail s ≡ core_step f (noting known) depth here fs c m asked
   shaped_goes f m h = core_form_is known f depth here fs s c ts tail ∙ ap (then_step f) h
 
-  pub shaped_fails : (f : Expanding) (e : Fault Identifier) → shape_here ≡ Err e → core_form f (searched known) depth here fs c ts tail s ≡ (Err (record { fault = e; here = here }), s)
+  pub shaped_fails : (f : Expanding) (e : Fault Identifier) → shape_here ≡ Err e → core_form f (noting known) depth here fs c ts tail s ≡ (Err (record { fault = e; here = here }), asked)
   shaped_fails f e h =
-      let at : Fault Identifier → Result Core Broken × ScopedState = λ g. (Err (record { fault = g; here = here }), s) in
+      let at : Fault Identifier → Result Core Broken × Noting = λ g. (Err (record { fault = g; here = here }), asked) in
       core_form_is known f depth here fs s c ts tail ∙ (ap (then_step f) h ∙ ap at (fault_same e))
 
   -- ---- what was read
 
-  module _ (work : Work) (region : Region) (u : UnitScope) (ls : List Frames) (stands : Stands work u ls s) where
-    abbrev forms : Expanding → Result Core Broken × ScopedState
-    forms f = core_form f (searched known) depth here fs c ts tail s
+  module _ (work : Work) (region : Region) (u : UnitScope) (ls : List Frames) (stands : Stands work u ls asked) where
+    abbrev forms : Expanding → Result Core Broken × Noting
+    forms f = core_form f (noting known) depth here fs c ts tail s
 
     pub misread_reads : (x : ExpandFault) (r : Result code_ready.Ready ExpandFault) → IsErrAnd r (λ g. g ≡ x) → Tells work.symbols here x shape_here → Reads known depth here work region u u ls fs r forms
     misread_reads x (Ok y) is h = absurd is
     misread_reads x (Err g) is h = subst (λ (e : ExpandFault). Reads known depth here work region u u ls fs (Err e) forms) (sym is) (go x h)
       where
         go : (e : ExpandFault) → Tells work.symbols here e shape_here → Reads known depth here work region u u ls fs (Err e) forms
-        go (fault.At e) h = (record { fault = h.0; here = here }, s, stays_itself work region u ls s stands, h.2, λ f. shaped_fails f h.0 h.1)
+        go (fault.At e) h = (record { fault = h.0; here = here }, asked, stays_itself work region u ls asked stands, h.2, λ f. shaped_fails f h.0 h.1)
         go fault.Full h = absurd h
         go fault.Memory h = leaves_itself work region u stands.form.few_nodes
 
     pub shape_reads : (k : code_keyword.CoreKeyword) (shape : code_shape.CoreShape) (m : Shape) → keyword_as k ≡ Some c → shape_here ≡ Ok m → ShapeFor work shape m → ShapeNamed work region shape → trees_size ts ≤ 4194304 → IsLeft m →
         Reads known depth here work region u u ls fs (Ok (ready.Shape k shape)) forms
     shape_reads k shape m is read for named few left = (
-      s,
-      stays_itself work region u ls s stands,
-      (c, m, is, for, named, (shape_fits c true (λ i. mark_of (head_of (searched known) fs s i)) ts tail m few read, left), λ f. shaped_goes f m read),
+      asked,
+      stays_itself work region u ls asked stands,
+      (c, m, is, for, named, (shape_fits c true (λ i. mark_of (head_of (noting known) fs s i)) ts tail m few read, left), λ f. shaped_goes f m read),
     )
 
     -- a fault at once
-    pub refused_reads : (m : Shape) (b : Fault Identifier) (e : ExpandFault) → shape_here ≡ Ok m → ((f : Expanding) → core_step f (searched known) depth here fs c m s ≡ (Err (record { fault = b; here = here }), s)) → RefusedBy work s here b e →
+    pub refused_reads : (m : Shape) (b : Fault Identifier) (e : ExpandFault) → shape_here ≡ Ok m → ((f : Expanding) → core_step f (noting known) depth here fs c m asked ≡ (Err (record { fault = b; here = here }), asked)) → RefusedBy work s here b e →
         Reads known depth here work region u u ls fs (Err e) forms
-    refused_reads m b (fault.At e) read refused told = (record { fault = b; here = here }, s, stays_itself work region u ls s stands, told, λ f. shaped_goes f m read ∙ refused f)
+    refused_reads m b (fault.At e) read refused told = (record { fault = b; here = here }, asked, stays_itself work region u ls asked stands, told, λ f. shaped_goes f m read ∙ refused f)
     refused_reads m b fault.Full read refused told = absurd told
     refused_reads m b fault.Memory read refused told = absurd told
 
+-- what is read once the form's questions were noted
+pub noted_reads : (known : Known) (depth : ℕ) (here : Here) (work : Work) (region : Region) (u w v : UnitScope) (ls : List Frames) (fs : Frames) (s : Noting) (c : CoreKeyword) (ts : Trees Identifier) (tail : Tail Identifier) (r : Result code_ready.Ready ExpandFault) → Stands work u ls s → w ≡ with_notes u w.form.trace.notes →
+    Stands work w ls (form_asked known fs c ts tail s) → Reads known depth here work region w v ls fs r (λ f. core_form f (noting known) depth here fs c ts tail s) → Reads known depth here work region u v ls fs r (λ f. core_form f (noting known) depth here fs c ts tail s)
+noted_reads known depth here work region u w v ls fs s c ts tail r e same stands h =
+    let t = form_asked known fs c ts tail s in
+    let forms : Expanding → Result Core Broken × Noting = λ f. core_form f (noting known) depth here fs c ts tail s in
+    reads_behind known depth here work region u w v ls fs t r forms forms (noted_stays work region u w ls s t e same stands) (λ f. refl) h
+
 -- a step that was made of what was read
-pub here_reads : (known : Known) (depth : ℕ) (here : Option Occ) (work : Work) (region : Region) (u v : UnitScope) (ls : List Frames) (fs : Frames) (step : Expanding → Result Core Broken × ScopedState) (p : Result Core Broken × ScopedState) (x : code_core.Core) →
+pub here_reads : (known : Known) (depth : ℕ) (here : Option Occ) (work : Work) (region : Region) (u v : UnitScope) (ls : List Frames) (fs : Frames) (step : Expanding → Result Core Broken × Noting) (p : Result Core Broken × Noting) (x : code_core.Core) →
     ((f : Expanding) → step f ≡ p) → EndsHere (CoreStands work u.unit u.form.number) work work region u v ls (Ok x) p → Reads known depth here work region u v ls fs (Ok (ready.Core x)) step
 here_reads known depth here work region u v ls fs step p x same h = (
   p.1,
@@ -211,7 +225,7 @@ here_reads known depth here work region u v ls fs step p x same h = (
   ),
 )
 
-pub here_unread : {X : Type 0} (P : X → Core → Type 0) (known : Known) (depth : ℕ) (here : Option Occ) (work : Work) (region : Region) (u v : UnitScope) (ls : List Frames) (fs : Frames) (step : Expanding → Result Core Broken × ScopedState) (p : Result Core Broken × ScopedState) (x : ExpandFault) (r : Result code_ready.Ready ExpandFault) →
+pub here_unread : {X : Type 0} (P : X → Core → Type 0) (known : Known) (depth : ℕ) (here : Option Occ) (work : Work) (region : Region) (u v : UnitScope) (ls : List Frames) (fs : Frames) (step : Expanding → Result Core Broken × Noting) (p : Result Core Broken × Noting) (x : ExpandFault) (r : Result code_ready.Ready ExpandFault) →
     IsErrAnd r (λ g. g ≡ x) → ((f : Expanding) → step f ≡ p) → EndsHere P work work region u v ls (Err x) p → Reads known depth here work region u v ls fs r step
 here_unread P known depth here work region u v ls fs step p x (Ok y) is same h = absurd is
 here_unread {X} P known depth here work region u v ls fs step p x (Err g) is same h = subst (λ (e : ExpandFault). Reads known depth here work region u v ls fs (Err e) step) (sym is) (go x h)

@@ -10,9 +10,9 @@ use Rattle.scheme_model.specs.Meaning.{Local}
 use Rattle.scheme_model.specs.RulesShape.{Rules}
 use Rattle.scheme_model.specs.Requirements.{Known}
 use Rattle.scheme_model.specs.Steps.{Broken, ◌>>=◌, done, fails}
-use Rattle.scheme_model.specs.Order.{Here, RulesParts, is_rules, head_of, rules_parts, rules_parts_of, rules_at}
+use Rattle.scheme_model.specs.Order.{Here, Headed, RulesParts, is_rules, head_of, rules_parts, rules_parts_of, rules_at}
 use Rattle.scheme_model.specs.Expression.{heads, keep_all}
-use Rattle.scheme_model.specs.ScopedExpansion.{Frames, ScopedState}
+use Rattle.scheme_model.specs.ScopedExpansion.{Frames}
 use Rattle.syntax_tree.specs.Names.{AreToldApart}
 use Rattle.syntax_tree.specs.Works.{StandsFor}
 use Rattle.syntax_tree.specs.declared.meaning.Meaning.TheVariants as meanings
@@ -22,60 +22,80 @@ use Rattle.core_forms.specs.Parts.{AreMacros}
 use Rattle.core_forms.specs.declared.shape.LocalMacro.{LocalMacro}
 use Rattle.core_tree.specs.declared.cores.Binder as code_binder
 use Rattle.expander.specs.Bodies.{HaveNumbers, RulesAre}
-use Rattle.unit_scopes.specs.Macros.{Keeps}
-use Rattle.unit_scopes.specs.State.{IsMacro, Stands}
-use Rattle.unit_scopes.specs.Stepped.{kept, with_macros}
-use Rattle.unit_scopes.specs.Outcomes.{CanLook, Stays, EndsHere}
-use Rattle.unit_scopes.specs.Searched.{searched}
+use Rattle.unit_scopes.specs.Macros.{Keeps, numbered}
+use Rattle.unit_scopes.specs.State.{IsMacro}
+use Rattle.unit_scopes.specs.Stepped.{with_macros}
 use Rattle.feature_requirements.specs.declared.fault.ExpandFault.{ExpandFault}
 use Rattle.unit_scopes.specs.declared.macros.Macro.{Macro}
 use Rattle.unit_scopes.specs.declared.macros.Macros.{Macros}
 use Rattle.unit_scopes.specs.declared.scope.UnitScope.{UnitScope}
-use Rattle.unit_scopes.proofs.KeptStands.{kept_stands}
-use Rattle.unit_scopes.proofs.OutcomeLaws.{grows_itself, stays_itself, stays_on, here_after, here_fails, bound_goes}
+use Rattle.noted_steps.proofs.KeptStands.{kept_stands}
+use Rattle.unit_scopes.proofs.OutcomeLaws.{grows_itself}
+use Rattle.noted_steps.specs.Noting.{Noting, state_of, noting}
+use Rattle.noted_steps.specs.Standing.{Stands}
+use Rattle.noted_steps.specs.Stepped.{kept}
+use Rattle.noted_steps.specs.Outcomes.{Stays, EndsHere}
+use Rattle.noted_steps.proofs.OutcomeLaws.{stays_itself, stays_on, here_after, here_fails, bound_goes}
+use Rattle.noted_steps.specs.Kept.{CanLook}
 
 -- ---- rules that have a head
 
 abbrev no_list : Here → Result (List (RulesParts Identifier)) Broken
 no_list at = Err (record { fault = BadForm; here = at })
 
-module _ (known : Known) (here : Here) (fs : Frames) (s : ScopedState) where
-  abbrev headed : Trees Identifier → RulesParts Identifier → ScopedState → Result (List (RulesParts Identifier)) Broken × ScopedState
-  headed ts r t = heads (searched known) here fs ts t >>= λ rs. done (r ∷ rs)
+module _ (known : Known) (here : Here) (fs : Frames) where
+  abbrev Heads : Type 0
+  Heads = Result (List (RulesParts Identifier)) Broken × Noting
 
-  behind_it : (t : Tree Identifier) (ts : Trees Identifier) (r : RulesParts Identifier) (rs : List (RulesParts Identifier)) → rules_parts_of t ≡ Some r → (x : Result (List (RulesParts Identifier)) Broken × ScopedState) →
-      ((qs : List (RulesParts Identifier)) → x ≡ (Ok qs, s) → RulesAre ts qs) → (x >>= λ qs. done (r ∷ qs)) ≡ (Ok rs, s) → RulesAre (tree t ts) rs
-  behind_it t ts r rs is (Ok qs, u) later h =
-      let value : Ok (r ∷ qs) ≡ Ok rs = ap (λ (p : Result (List (RulesParts Identifier)) Broken × ScopedState). p.0) h in
-      let state : u ≡ s = ap (λ (p : Result (List (RulesParts Identifier)) Broken × ScopedState). p.1) h in
-      let list : r ∷ qs ≡ rs = cc in
-      subst (RulesAre (tree t ts)) list (is, later qs (ap (λ (v : ScopedState). (Ok qs, v)) state))
-  behind_it t ts r rs is (Err e, u) later h =
-      let value : Err e ≡ Ok rs = ap (λ (p : Result (List (RulesParts Identifier)) Broken × ScopedState). p.0) h in
-      absurd cc
+  abbrev with_head : RulesParts Identifier → Heads → Heads
+  with_head r q = q >>= λ rs. done (r ∷ rs)
 
-  pub heads_tell : (ts : Trees Identifier) (rs : List (RulesParts Identifier)) → heads (searched known) here fs ts s ≡ done rs s → RulesAre ts rs
-  heads_tell no_trees rs h =
-      let value : Ok [] ≡ Ok rs = ap (λ (p : Result (List (RulesParts Identifier)) Broken × ScopedState). p.0) h in
-      let list : [] ≡ rs = cc in
-      subst (RulesAre no_trees) list tt
-  heads_tell (tree t ts) rs h = by (heads_tell ts) (rules_parts_of t) refl h
+  abbrev headed : Trees Identifier → RulesParts Identifier → Noting → Heads
+  headed ts r t = with_head r (heads (noting known) here fs ts t)
+
+  -- the state with the head asked
+  abbrev head_state : RulesParts Identifier → Noting → Noting
+  head_state r s = (noting known).ask (Headed fs r.head ∷ []) s
+
+  abbrev by_test : Bool → RulesParts Identifier → Trees Identifier → Noting → Heads
+  by_test b r ts t = (if b then done r t else fails here BadForm t) >>= headed ts
+
+  behind_it : (t : Tree Identifier) (ts : Trees Identifier) (r : RulesParts Identifier) (rs : List (RulesParts Identifier)) → rules_parts_of t ≡ Some r → (x : Heads) → ((qs : List (RulesParts Identifier)) → x.0 ≡ Ok qs → RulesAre ts qs) → (with_head r x).0 ≡ Ok rs → RulesAre (tree t ts) rs
+  behind_it t ts r rs is (Ok qs, u) later h = let list : r ∷ qs ≡ rs = cc in subst (RulesAre (tree t ts)) list (is, later qs refl)
+  behind_it t ts r rs is (Err e, u) later h = absurd cc
+
+  pub heads_tell : (ts : Trees Identifier) (s : Noting) (rs : List (RulesParts Identifier)) → (heads (noting known) here fs ts s).0 ≡ Ok rs → RulesAre ts rs
+  heads_tell no_trees s rs h = let list : [] ≡ rs = cc in subst (RulesAre no_trees) list tt
+  heads_tell (tree t ts) s rs h = by (λ u. heads_tell ts u) (rules_parts_of t) refl h
     where
-      by_head : ((qs : List (RulesParts Identifier)) → heads (searched known) here fs ts s ≡ (Ok qs, s) → RulesAre ts qs) → (b : Bool) (r : RulesParts Identifier) → rules_parts_of t ≡ Some r → ((if b then done r s else fails here BadForm s) >>= headed ts) ≡ done rs s → RulesAre (tree t ts) rs
-      by_head later true r is g = behind_it t ts r rs is (heads (searched known) here fs ts s) later g
-      by_head later false r is g =
-          let value : no_list here ≡ Ok rs = ap (λ (p : Result (List (RulesParts Identifier)) Broken × ScopedState). p.0) g in
-          absurd cc
+      by_head : (u : Noting) → ((qs : List (RulesParts Identifier)) → (heads (noting known) here fs ts u).0 ≡ Ok qs → RulesAre ts qs) → (b : Bool) (r : RulesParts Identifier) → rules_parts_of t ≡ Some r → (by_test b r ts u).0 ≡ Ok rs → RulesAre (tree t ts) rs
+      by_head u later true r is g = behind_it t ts r rs is (heads (noting known) here fs ts u) later g
+      by_head u later false r is g = let clash : no_list here ≡ Ok rs = g in absurd cc
 
-      by : ((qs : List (RulesParts Identifier)) → heads (searched known) here fs ts s ≡ (Ok qs, s) → RulesAre ts qs) → (o : Option (RulesParts Identifier)) → rules_parts_of t ≡ o → (rules_parts (searched known) here fs o s >>= headed ts) ≡ done rs s → RulesAre (tree t ts) rs
-      by later None is g =
-          let value : no_list here ≡ Ok rs = ap (λ (p : Result (List (RulesParts Identifier)) Broken × ScopedState). p.0) g in
-          absurd cc
-      by later (Some r) is g = by_head later (is_rules (head_of (searched known) fs s r.head)) r is g
+      by : ((u : Noting) (qs : List (RulesParts Identifier)) → (heads (noting known) here fs ts u).0 ≡ Ok qs → RulesAre ts qs) → (o : Option (RulesParts Identifier)) → rules_parts_of t ≡ o → (rules_parts (noting known) here fs o s >>= headed ts).0 ≡ Ok rs → RulesAre (tree t ts) rs
+      by later None is g = let clash : no_list here ≡ Ok rs = g in absurd cc
+      by later (Some r) is g = by_head (head_state r s) (later (head_state r s)) (is_rules (head_of (noting known) fs s r.head)) r is g
+
+  put_state : (r : RulesParts Identifier) (x : Heads) → (with_head r x).1 ≡ x.1
+  put_state r (Ok rs, t) = refl
+  put_state r (Err e, t) = refl
+
+  test_state : (b : Bool) (r : RulesParts Identifier) (ts : Trees Identifier) (u : Noting) → state_of (heads (noting known) here fs ts u).1 ≡ state_of u → state_of (by_test b r ts u).1 ≡ state_of u
+  test_state true r ts u later = ap state_of (put_state r (heads (noting known) here fs ts u)) ∙ later
+  test_state false r ts u later = refl
+
+  parts_state : (o : Option (RulesParts Identifier)) (ts : Trees Identifier) (s : Noting) → ((u : Noting) → state_of (heads (noting known) here fs ts u).1 ≡ state_of u) → state_of (rules_parts (noting known) here fs o s >>= headed ts).1 ≡ state_of s
+  parts_state None ts s later = refl
+  parts_state (Some r) ts s later = test_state (is_rules (head_of (noting known) fs s r.head)) r ts (head_state r s) (later (head_state r s))
+
+  -- heads are asked, and nothing else changes
+  pub heads_state : (ts : Trees Identifier) (s : Noting) → state_of (heads (noting known) here fs ts s).1 ≡ state_of s
+  heads_state no_trees s = refl
+  heads_state (tree t ts) s = parts_state (rules_parts_of t) ts s (heads_state ts)
 
 -- ---- the next macro
 
-pub record Next (work : Work) (s : ScopedState) (bs : List code_binder.Binder) (vs : List Number) (ts : Trees Identifier) (rs : List (RulesParts Identifier)) (k : ℕ) (x : LocalMacro) (b : code_binder.Binder) : Type 0 where
+pub record Next (work : Work) (s : Noting) (bs : List code_binder.Binder) (vs : List Number) (ts : Trees Identifier) (rs : List (RulesParts Identifier)) (k : ℕ) (x : LocalMacro) (b : code_binder.Binder) : Type 0 where
   pub number : Number
   pub rules : Tree Identifier
   pub parts : RulesParts Identifier
@@ -86,7 +106,7 @@ pub record Next (work : Work) (s : ScopedState) (bs : List code_binder.Binder) (
   pub rules_split : behind k ts ≡ tree rules (behind (k + 1) ts)
   pub parts_split : drop k rs ≡ parts ∷ drop (k + 1) rs
 
-pub next_macro : (work : Work) (s : ScopedState) (ms : List LocalMacro) (ns : List (Named Identifier)) (ts : Trees Identifier) (bs : List code_binder.Binder) (vs : List Number) (rs : List (RulesParts Identifier)) (k : ℕ) (d : LocalMacro) (c : code_binder.Binder) →
+pub next_macro : (work : Work) (s : Noting) (ms : List LocalMacro) (ns : List (Named Identifier)) (ts : Trees Identifier) (bs : List code_binder.Binder) (vs : List Number) (rs : List (RulesParts Identifier)) (k : ℕ) (d : LocalMacro) (c : code_binder.Binder) →
     AreMacros work ms ns ts → HaveNumbers s bs vs → RulesAre ts rs → k < length ms → k < length bs → Next work s bs vs ts rs k (get_or ms k d) (get_or bs k c)
 next_macro work s [] ns ts bs vs rs k d c h g r l m = absurd (omega (arith, l))
 next_macro work s (x ∷ ms) [] ts bs vs rs k d c h g r l m = absurd h
@@ -111,7 +131,7 @@ next_macro work s (x ∷ ms) (n ∷ ns) (tree t ts) (b ∷ bs) (v ∷ vs) (q ∷
       parts_split = p.parts_split ∙ ap (λ (i : ℕ). p.parts ∷ drop i (q ∷ rs)) more;
     }
 
-pub rules_past : (work : Work) (s : ScopedState) (bs : List code_binder.Binder) (vs : List Number) (k : ℕ) → HaveNumbers s bs vs → length bs ≤ k → drop k vs ≡ []
+pub rules_past : (work : Work) (s : Noting) (bs : List code_binder.Binder) (vs : List Number) (k : ℕ) → HaveNumbers s bs vs → length bs ≤ k → drop k vs ≡ []
 rules_past work s [] [] zero h l = refl
 rules_past work s [] [] (suc k) h l = refl
 rules_past work s [] (v ∷ vs) k h l = absurd h
@@ -130,61 +150,61 @@ rules_there work (x ∷ ms) (n ∷ ns) (tree t ts) (r ∷ rs) zero d h g l = (t,
 rules_there work (x ∷ ms) (n ∷ ns) (tree t ts) (r ∷ rs) (suc k) d h g l = rules_there work ms ns ts rs k d h.1 g.1 (omega (arith, l))
 
 -- a scope that can be looked up still can, once a macro was read and kept
-pub looks_on : (work : Work) (region : Region) (u w : UnitScope) (scope number : ℕ) (look : CanLook work u scope) (m : Macro) (ms : Macros) (x : Result (Rules Identifier) Broken × ScopedState) → AreToldApart work.symbols.idents → AreToldApart work.symbols.symbols →
-    EndsHere (λ (k : Macro) (rs : Rules Identifier). IsMacro work look.layout k (record { env = look.frames; rules = rs })) work work region u w look.layout (Ok m) x → Keeps w.macros ms w.form.number (meanings.Local number) m → CanLook work (with_macros w ms) scope
-looks_on work region u w scope number look m ms x apart told ends keeps =
+pub looks_on : (work : Work) (region : Region) (u w : UnitScope) (scope number edition : ℕ) (look : CanLook work u scope) (m : Macro) (ms : Macros) (x : Result (Rules Identifier) Broken × Noting) → AreToldApart work.symbols.idents → AreToldApart work.symbols.symbols →
+    EndsHere (λ (k : Macro) (rs : Rules Identifier). IsMacro work look.layout k (record { env = look.frames; rules = rs })) work work region u w look.layout (Ok m) x → Keeps w.macros ms w.form.number (meanings.Local number) (numbered m edition) → CanLook work (with_macros w ms) scope
+looks_on work region u w scope number edition look m ms x apart told ends keeps =
     let t = x.1 in
     record {
       layout = look.layout;
       state = kept (Local (record { unit = t.unit; form = t.form; count = number })) (record { env = look.frames; rules = ends.0 }) t;
       frames = look.frames;
-      stands = kept_stands work w look.layout t ms (meanings.Local number) (Local (record { unit = t.unit; form = t.form; count = number })) m (record { env = look.frames; rules = ends.0 }) apart told keeps tt refl ends.3 ends.1.stands;
+      stands = kept_stands work w look.layout t ms (meanings.Local number) (record { unit = t.unit; form = t.form; count = number }) m (record { env = look.frames; rules = ends.0 }) edition apart told keeps tt refl ends.3 ends.1.stands;
       at = look.at;
     }
 
 -- ---- so far
 
-module _ (known : Known) (here : Here) (fs : Frames) (work : Work) (region : Region) (u : UnitScope) (ls : List Frames) (s : ScopedState) (vs : List Number) (ts : Trees Identifier) (rs : List (RulesParts Identifier)) where
+module _ (known : Known) (here : Here) (fs : Frames) (work : Work) (region : Region) (u : UnitScope) (ls : List Frames) (s : Noting) (vs : List Number) (ts : Trees Identifier) (rs : List (RulesParts Identifier)) where
   pub record KeptSoFar (v : UnitScope) (k : ℕ) : Type 0 where
-    pub state : ScopedState
+    pub state : Noting
     pub stays : Stays work work region u v ls state
-    pub rest : keep_all (searched known) here fs vs ts rs s ≡ keep_all (searched known) here fs (drop k vs) (behind k ts) (drop k rs) state
+    pub rest : keep_all (noting known) here fs vs ts rs s ≡ keep_all (noting known) here fs (drop k vs) (behind k ts) (drop k rs) state
 
   pub none_kept : Stands work u ls s → KeptSoFar u 0
   none_kept e = record { state = s; stays = stays_itself work region u ls s e; rest = refl }
 
   module _ (before : Stands work u ls s) (v w : UnitScope) (k : ℕ) (h : KeptSoFar v k) (bs : List code_binder.Binder) (x : LocalMacro) (b : code_binder.Binder) (n : Next work s bs vs ts rs k x b) where
-    abbrev one : Result (Rules Identifier) Broken × ScopedState
-    one = rules_at (searched known) here n.rules n.parts h.state
+    abbrev one : Result (Rules Identifier) Broken × Noting
+    one = rules_at (noting known) here n.rules n.parts h.state
 
-    abbrev next_kept : Rules Identifier → ScopedState → Result (Unit {0}) Broken × ScopedState
-    next_kept rules t = keep_all (searched known) here fs (drop (k + 1) vs) (behind (k + 1) ts) (drop (k + 1) rs) ((searched known).keep n.number rules fs t)
+    abbrev next_kept : Rules Identifier → Noting → Result (Unit {0}) Broken × Noting
+    next_kept rules t = keep_all (noting known) here fs (drop (k + 1) vs) (behind (k + 1) ts) (drop (k + 1) rs) ((noting known).keep n.number rules fs t)
 
-    split : keep_all (searched known) here fs vs ts rs s ≡ (one >>= next_kept)
+    split : keep_all (noting known) here fs vs ts rs s ≡ (one >>= next_kept)
     split =
         h.rest
-        ∙ (ap (λ (l : List Number). keep_all (searched known) here fs l (behind k ts) (drop k rs) h.state) n.numbers_split
-        ∙ (ap (λ (l : Trees Identifier). keep_all (searched known) here fs (n.number ∷ drop (k + 1) vs) l (drop k rs) h.state) n.rules_split
-        ∙ ap (λ (l : List (RulesParts Identifier)). keep_all (searched known) here fs (n.number ∷ drop (k + 1) vs) (tree n.rules (behind (k + 1) ts)) l h.state) n.parts_split))
+        ∙ (ap (λ (l : List Number). keep_all (noting known) here fs l (behind k ts) (drop k rs) h.state) n.numbers_split
+        ∙ (ap (λ (l : Trees Identifier). keep_all (noting known) here fs (n.number ∷ drop (k + 1) vs) l (drop k rs) h.state) n.rules_split
+        ∙ ap (λ (l : List (RulesParts Identifier)). keep_all (noting known) here fs (n.number ∷ drop (k + 1) vs) (tree n.rules (behind (k + 1) ts)) l h.state) n.parts_split))
 
     abbrev Made : Macro → Rules Identifier → Type 0
     Made m rules = IsMacro work ls m (record { env = fs; rules = rules })
 
     -- the binder is of the form at work
-    number_there : (t : ScopedState) → Stays work work region v w ls t → Local n.number ≡ Local (record { unit = t.unit; form = t.form; count = b.number })
+    number_there : (t : Noting) → Stays work work region v w ls t → Local n.number ≡ Local (record { unit = t.unit; form = t.form; count = b.number })
     number_there t m =
         let unit : s.unit ≡ t.unit = sym before.unit ∙ (sym h.stays.same.unit ∙ (sym m.same.unit ∙ m.stands.unit)) in
         let form : s.form ≡ t.form = sym before.form.number ∙ (sym h.stays.same.number ∙ (sym m.same.number ∙ m.stands.form.number)) in
         ap Local (n.is ∙ (λ i. record { unit = unit i; form = form i; count = b.number }))
 
-    pub one_kept : (m : Macro) (ms : Macros) → AreToldApart work.symbols.idents → AreToldApart work.symbols.symbols → EndsHere Made work work region v w ls (Ok m) one → Keeps w.macros ms w.form.number (meanings.Local b.number) m → KeptSoFar (with_macros w ms) (k + 1)
-    one_kept m ms apart told ends keeps =
+    pub one_kept : (m : Macro) (ms : Macros) (edition : ℕ) → AreToldApart work.symbols.idents → AreToldApart work.symbols.symbols → EndsHere Made work work region v w ls (Ok m) one → Keeps w.macros ms w.form.number (meanings.Local b.number) (numbered m edition) → KeptSoFar (with_macros w ms) (k + 1)
+    one_kept m ms edition apart told ends keeps =
         let t = one.1 in
         let after = kept (Local n.number) (record { env = fs; rules = ends.0 }) t in
         record {
           state = after;
           stays = stays_on work work work region u w (with_macros w ms) ls t after (stays_on work work work region u v w ls h.state t h.stays ends.1) (record {
-            stands = kept_stands work w ls t ms (meanings.Local b.number) (Local n.number) m (record { env = fs; rules = ends.0 }) apart told keeps tt (number_there t ends.1) ends.3 ends.1.stands;
+            stands = kept_stands work w ls t ms (meanings.Local b.number) n.number m (record { env = fs; rules = ends.0 }) edition apart told keeps tt (number_there t ends.1) ends.3 ends.1.stands;
             work = grows_itself work region;
             counted = omega arith;
             same = record { unit = refl; number = refl; root = refl; libraries = refl; roots = refl; uses = omega arith; nodes = omega arith };
@@ -192,12 +212,12 @@ module _ (known : Known) (here : Here) (fs : Frames) (work : Work) (region : Reg
           rest = split ∙ bound_goes one next_kept ends.0 ends.2;
         }
 
-    pub rules_fail : {X : Type 0} (Q : X → Unit {0} → Type 0) (e : ExpandFault) → EndsHere Made work work region v w ls (Err e) one → EndsHere Q work work region u w ls (Err e) (keep_all (searched known) here fs vs ts rs s)
+    pub rules_fail : {X : Type 0} (Q : X → Unit {0} → Type 0) (e : ExpandFault) → EndsHere Made work work region v w ls (Err e) one → EndsHere Q work work region u w ls (Err e) (keep_all (noting known) here fs vs ts rs s)
     rules_fail {X} Q e ends =
-        subst (λ (q : Result (Unit {0}) Broken × ScopedState). EndsHere Q work work region u w ls (Err e) q) (sym split)
+        subst (λ (q : Result (Unit {0}) Broken × Noting). EndsHere Q work work region u w ls (Err e) q) (sym split)
         (here_after Q work work work region u v w ls h.state (Err e) (one >>= next_kept) h.stays (here_fails Made Q work work region v w ls e one next_kept ends))
 
-  pub all_kept : (v : UnitScope) (k : ℕ) (bs : List code_binder.Binder) → KeptSoFar v k → HaveNumbers s bs vs → length bs ≤ k → EndsHere (λ (done : Unit {0}) (also : Unit {0}). Unit {0}) work work region u v ls (Ok tt) (keep_all (searched known) here fs vs ts rs s)
+  pub all_kept : (v : UnitScope) (k : ℕ) (bs : List code_binder.Binder) → KeptSoFar v k → HaveNumbers s bs vs → length bs ≤ k → EndsHere (λ (done : Unit {0}) (also : Unit {0}). Unit {0}) work work region u v ls (Ok tt) (keep_all (noting known) here fs vs ts rs s)
   all_kept v k bs h numbers past =
-      let end = h.rest ∙ ap (λ (l : List Number). keep_all (searched known) here fs l (behind k ts) (drop k rs) h.state) (rules_past work s bs vs k numbers past) in
-      subst (λ (q : Result (Unit {0}) Broken × ScopedState). EndsHere (λ (done : Unit {0}) (also : Unit {0}). Unit {0}) work work region u v ls (Ok tt) q) (sym end) (tt, h.stays, refl, tt)
+      let end = h.rest ∙ ap (λ (l : List Number). keep_all (noting known) here fs l (behind k ts) (drop k rs) h.state) (rules_past work s bs vs k numbers past) in
+      subst (λ (q : Result (Unit {0}) Broken × Noting). EndsHere (λ (done : Unit {0}) (also : Unit {0}). Unit {0}) work work region u v ls (Ok tt) q) (sym end) (tt, h.stays, refl, tt)

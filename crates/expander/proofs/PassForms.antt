@@ -9,9 +9,8 @@ use Rattle.scheme_model.specs.Keywords.{CoreKeyword, Auxiliary}
 use Rattle.scheme_model.specs.Meaning.{Meaning, Head, IsCore, IsAuxiliary, IsMacro, IsNone, is_keyword}
 use Rattle.scheme_model.specs.Requirements.{Known}
 use Rattle.scheme_model.specs.Cores.{Target}
-use Rattle.scheme_model.specs.Order.{Here, Form, Expression, Note, LookedUp, Pending, Pass, Going, Transformer, put, noted, read_then, head_of, target_of, here_at, run_core, run_use, run_head, run_form}
-use Rattle.scheme_model.specs.CountedExpansion.{means_here}
-use Rattle.scheme_model.specs.ScopedExpansion.{Frames, FramedIdent, ScopedState, macro_at}
+use Rattle.scheme_model.specs.Order.{Here, Form, Expression, Note, LookedUp, Headed, RulesOf, Pending, Pass, Going, Transformer, put, noted, read_then, head_of, target_of, here_at, run_core, run_use, run_head, run_form}
+use Rattle.scheme_model.specs.ScopedExpansion.{Frames, FramedIdent, macro_at}
 use Rattle.core_forms.specs.Ends.{keyword_as}
 use Rattle.core_forms.specs.Forms.{Shape, shape_in}
 use Rattle.core_forms.specs.Parts.{IsNameIfAny}
@@ -25,17 +24,14 @@ use Rattle.syntax_tree.specs.declared.trees.table.Region.{Region}
 use Rattle.core_tree.specs.Names.{IsTarget}
 use Rattle.core_tree.specs.Traces.{IsFault}
 use Rattle.core_tree.specs.declared.cores.Target as code_target
-use Rattle.unit_scopes.specs.Defining.{CanGo}
 use Rattle.form_parts.specs.Heads.{IsHead}
-use Rattle.unit_scopes.specs.State.{Stands, most_locals}
-use Rattle.unit_scopes.specs.Stepped.{met, with_keyword}
+use Rattle.unit_scopes.specs.State.{most_locals}
+use Rattle.unit_scopes.specs.Stepped.{with_keyword}
 use Rattle.feature_requirements.specs.Judged.{IsBadForm}
-use Rattle.unit_scopes.specs.Kept.{FormFor, PendingFor, NotesFor, SpotFor, left_with}
-use Rattle.unit_scopes.specs.Outcomes.{At, CanLook, Stays}
+use Rattle.unit_scopes.specs.Kept.{FormFor, PendingFor, NotesFor, left_with}
+use Rattle.unit_scopes.specs.Outcomes.{At}
 use Rattle.expander.specs.Passed.{CanPass, GoesOn, IsPassed, ShapeFits, shape_weight}
 use Rattle.form_parts.specs.FormsSeen.{head_name_of, takes_effect}
-use Rattle.unit_scopes.specs.Used.{CanUse, UseFor}
-use Rattle.unit_scopes.specs.Searched.{searched}
 use Rattle.unit_scopes.specs.declared.asked.Asked.{Asked}
 use Rattle.feature_requirements.specs.declared.fault.ExpandFault.{ExpandFault}
 use Rattle.feature_requirements.specs.declared.fault.ExpandFault.TheVariants as fault
@@ -47,7 +43,6 @@ use Rattle.form_parts.specs.declared.items.Pending as code_pending
 use Rattle.form_parts.specs.declared.items.Spot.{Spot}
 use Rattle.unit_scopes.specs.declared.scope.UnitScope.{UnitScope}
 use Rattle.unit_scopes.specs.declared.uses.Use as code_use
-use Rattle.unit_scopes.proofs.CountingStands.{keyword_stands}
 use Rattle.expander.proofs.DefinitionSteps.{StaysBeside, aside_now}
 use Rattle.expander.proofs.FitLaws.{some_node, shape_fits}
 use Rattle.unit_scopes.proofs.NodeLaws.{plain_is}
@@ -55,6 +50,14 @@ use Rattle.unit_scopes.proofs.OutcomeLaws.{grows_itself, leaves_itself}
 use Rattle.expander.proofs.PassLaws.{spot_same, goes_misread, goes_so}
 use Rattle.expander.proofs.ReadLaws.{HeadNamed, head_named, target_at}
 use Rattle.expander.proofs.WeightLaws.{weight_less, shape_passes}
+use Rattle.noted_steps.specs.Noting.{means_here, Noting, state_of, noting}
+use Rattle.expander.proofs.LooseLaws.{loose, stand_on, place_on}
+use Rattle.noted_steps.specs.Standing.{Stands, with_notes}
+use Rattle.noted_steps.specs.Stepped.{met}
+use Rattle.noted_steps.specs.Outcomes.{Stays}
+use Rattle.noted_steps.proofs.CountingStands.{keyword_stands}
+use Rattle.noted_steps.specs.Kept.{SpotFor, UseFor}
+use Rattle.noted_steps.specs.Kept.{CanGo, CanLook, CanUse}
 
 -- ---- heads
 
@@ -78,37 +81,41 @@ no_keyword IsNone is = refl
 
 -- ---- what the definition does
 
-module _ (known : Known) (work : Work) (fs : Frames) (s : ScopedState) (m : Form Identifier) (p : Pending Identifier FramedIdent) (x : NamePart) (here : Here) (is_here : here ≡ here_at (λ i. i) m.tree m.here) (n : HeadNamed work m.tree x) where
+module _ (known : Known) (work : Work) (fs : Frames) (s : Noting) (m : Form Identifier) (p : Pending Identifier FramedIdent) (x : NamePart) (here : Here) (is_here : here ≡ here_at (λ i. i) m.tree m.here) (n : HeadNamed work m.tree x) where
   abbrev pub looked_up : Note FramedIdent
-  looked_up = LookedUp (record { frames = fs; ident = n.ident }) true (is_keyword (head_of (searched known) fs s n.ident))
+  looked_up = LookedUp (record { frames = fs; ident = n.ident }) true (is_keyword (head_of (noting known) fs s n.ident))
 
   abbrev pub keyword : Target
-  keyword = target_of (searched known) fs s n.ident n.place
+  keyword = target_of (noting known) fs s n.ident n.place
 
-  abbrev by_head : Going Identifier FramedIdent ScopedState → Head → Pass Identifier FramedIdent × ScopedState
-  by_head go h = run_head (searched known) go here fs h keyword m n.parts n.tail (noted (looked_up ∷ []) p) s
+  -- the head is asked
+  abbrev pub headed_state : Noting
+  headed_state = (noting known).ask (Headed fs n.ident ∷ []) s
 
-  headed : (go : Going Identifier FramedIdent ScopedState) → run_form (searched known) go fs (here_at (λ i. i) m.tree m.here) m m.tree p s ≡ by_head go (head_of (searched known) fs s n.ident)
-  headed go = ap (λ (h : Here). run_form (searched known) go fs h m m.tree p s) (sym is_here) ∙ ap (λ (t : Tree Identifier). run_form (searched known) go fs here m t p s) n.is
+  abbrev by_head : Going Identifier FramedIdent Noting → Head → Pass Identifier FramedIdent × Noting
+  by_head go h = run_head (noting known) go here fs h keyword m n.parts n.tail (noted (looked_up ∷ []) p) headed_state
 
-  pub by_core : (c : CoreKeyword) → head_of (searched known) fs s n.ident ≡ IsCore c → (go : Going Identifier FramedIdent ScopedState) →
-      run_form (searched known) go fs (here_at (λ i. i) m.tree m.here) m m.tree p s ≡ run_core (searched known) go here fs c keyword m n.parts n.tail (noted (looked_up ∷ []) p) s
+  headed : (go : Going Identifier FramedIdent Noting) → run_form (noting known) go fs (here_at (λ i. i) m.tree m.here) m m.tree p s ≡ by_head go (head_of (noting known) fs s n.ident)
+  headed go = ap (λ (h : Here). run_form (noting known) go fs h m m.tree p s) (sym is_here) ∙ ap (λ (t : Tree Identifier). run_form (noting known) go fs here m t p s) n.is
+
+  pub by_core : (c : CoreKeyword) → head_of (noting known) fs s n.ident ≡ IsCore c → (go : Going Identifier FramedIdent Noting) →
+      run_form (noting known) go fs (here_at (λ i. i) m.tree m.here) m m.tree p s ≡ run_core (noting known) go here fs c keyword m n.parts n.tail (noted (looked_up ∷ []) p) headed_state
   by_core c is go = headed go ∙ ap (by_head go) is
 
-  pub by_auxiliary : (a : Auxiliary) → head_of (searched known) fs s n.ident ≡ IsAuxiliary a → (go : Going Identifier FramedIdent ScopedState) →
-      run_form (searched known) go fs (here_at (λ i. i) m.tree m.here) m m.tree p s ≡ go (put (Expression m) (noted (looked_up ∷ []) p)) s
+  pub by_auxiliary : (a : Auxiliary) → head_of (noting known) fs s n.ident ≡ IsAuxiliary a → (go : Going Identifier FramedIdent Noting) →
+      run_form (noting known) go fs (here_at (λ i. i) m.tree m.here) m m.tree p s ≡ go (put (Expression m) (noted (looked_up ∷ []) p)) headed_state
   by_auxiliary a is go = headed go ∙ ap (by_head go) is
 
-  pub by_none : head_of (searched known) fs s n.ident ≡ IsNone → (go : Going Identifier FramedIdent ScopedState) →
-      run_form (searched known) go fs (here_at (λ i. i) m.tree m.here) m m.tree p s ≡ go (put (Expression m) (noted (looked_up ∷ []) p)) s
+  pub by_none : head_of (noting known) fs s n.ident ≡ IsNone → (go : Going Identifier FramedIdent Noting) →
+      run_form (noting known) go fs (here_at (λ i. i) m.tree m.here) m m.tree p s ≡ go (put (Expression m) (noted (looked_up ∷ []) p)) headed_state
   by_none is go = headed go ∙ ap (by_head go) is
 
-  pub by_macro : (d : Meaning) (t : Transformer Frames Identifier) → head_of (searched known) fs s n.ident ≡ IsMacro d → macro_at s.macros d ≡ Some t → (go : Going Identifier FramedIdent ScopedState) →
-      run_form (searched known) go fs (here_at (λ i. i) m.tree m.here) m m.tree p s ≡ run_use (searched known) go here fs keyword (Some t) m n.parts n.tail (noted (looked_up ∷ []) p) s
+  pub by_macro : (d : Meaning) (t : Transformer Frames Identifier) → head_of (noting known) fs s n.ident ≡ IsMacro d → macro_at s.macros d ≡ Some t → (go : Going Identifier FramedIdent Noting) →
+      run_form (noting known) go fs (here_at (λ i. i) m.tree m.here) m m.tree p s ≡ run_use (noting known) go here fs keyword (Some t) m n.parts n.tail (noted (looked_up ∷ []) p) ((noting known).ask (RulesOf d ∷ []) headed_state)
   by_macro d t is there go =
       headed go
       ∙ (ap (by_head go) is
-      ∙ ap (λ (o : Option (Transformer Frames Identifier)). run_use (searched known) go here fs keyword o m n.parts n.tail (noted (looked_up ∷ []) p) s) there)
+      ∙ ap (λ (o : Option (Transformer Frames Identifier)). run_use (noting known) go here fs keyword o m n.parts n.tail (noted (looked_up ∷ []) p) ((noting known).ask (RulesOf d ∷ []) headed_state)) there)
 
 -- ---- what is left, with one note more
 
@@ -127,6 +134,20 @@ can_pass_noted work region u spot given todo old new can q notes = record {
   pending = noted_pending work region u.unit u.form.number todo can.left (q ∷ []) can.pending;
   notes = notes;
   room = can.room;
+}
+
+-- the same where notes alone were changed
+unfoldable pub can_pass_on : (work : Work) (region : Region) (u v : UnitScope) (spot : Spot) (given : ℕ) (todo : code_pending.Pending) (asked : Asked) → v ≡ with_notes u v.form.trace.notes → CanPass work region u spot given todo asked → CanPass work region v spot given todo asked
+can_pass_on work region u v spot given todo asked same can = record {
+  layout = can.layout;
+  state = loose (state_of can.state);
+  frames = can.frames;
+  left = can.left;
+  stands = stand_on work u v same can.layout can.state can.stands;
+  placed = place_on work u v same can.layout can.state (loose (state_of can.state)) spot can.frames refl can.placed;
+  pending = subst (λ (x : UnitScope). PendingFor work region x.unit x.form.number todo can.left) (sym same) can.pending;
+  notes = can.notes;
+  room = subst (λ (x : UnitScope). x.form.budget.locals + left_with can.left.todo x.form.budget.uses + given ≤ most_locals x.form.budget.nodes) (sym same) can.room;
 }
 
 -- ---- a core form that is read
@@ -177,7 +198,7 @@ can_pass_met work region u spot given less todo asked x k can is le =
     less_room a given less most room le = omega (arith, room, le)
 
 -- the keyword is met, and nothing else changes
-pub keyword_stays : (work : Work) (region : Region) (u : UnitScope) (ls : List Frames) (s : ScopedState) (x : code_target.Target) (k : Target) → IsTarget work.symbols s.unit s.form x k → Stands work u ls s → Stays work work region u (with_keyword u x) ls (met k s)
+pub keyword_stays : (work : Work) (region : Region) (u : UnitScope) (ls : List Frames) (s : Noting) (x : code_target.Target) (k : Target) → IsTarget work.symbols s.unit s.form x k → Stands work u ls s → Stays work work region u (with_keyword u x) ls (met k s)
 keyword_stays work region u ls s x k is e = record {
   stands = keyword_stands work u ls s x k is e;
   work = grows_itself work region;
@@ -203,9 +224,9 @@ Tells_fault names at fault.Full = ⊥
 Tells_fault names at fault.Memory = ⊥
 
 -- no clause has a shape, or none could be judged
-pub goes_bad : (region : Region) (ls : List Frames) (spot : Spot) (fs : Frames) (before : List (Form Identifier)) (given : ℕ) (todo : code_pending.Pending) (asked : Asked) (known : Known) (work : Work) (u : UnitScope) (s : ScopedState) (here : Here) (e : ExpandFault)
-    (r : Result (Option (Trees Identifier)) (Fault Identifier)) (p : Pending Identifier FramedIdent) (next : Going Identifier FramedIdent ScopedState → Option (Trees Identifier) → ScopedState → Pass Identifier FramedIdent × ScopedState) →
-    Stands work u ls s → SpotFor work u ls s spot fs → NotesFor work ls asked p.notes → IsBadForm here e r → GoesOn work work region u u ls spot fs before given todo asked (Err e) (λ go. read_then (searched known) here p r (next go) s)
+pub goes_bad : (region : Region) (ls : List Frames) (spot : Spot) (fs : Frames) (before : List (Form Identifier)) (given : ℕ) (todo : code_pending.Pending) (asked : Asked) (known : Known) (work : Work) (u : UnitScope) (s : Noting) (here : Here) (e : ExpandFault)
+    (r : Result (Option (Trees Identifier)) (Fault Identifier)) (p : Pending Identifier FramedIdent) (next : Going Identifier FramedIdent Noting → Option (Trees Identifier) → Noting → Pass Identifier FramedIdent × Noting) →
+    Stands work u ls s → SpotFor work u ls s spot fs → NotesFor work ls asked p.notes → IsBadForm here e r → GoesOn work work region u u ls spot fs before given todo asked (Err e) (λ go. read_then (noting known) here p r (next go) s)
 goes_bad region ls spot fs before given todo asked known work u s here (fault.At e) r p next stands placed notes h =
     goes_misread region ls spot fs before given todo asked known work u s here (fault.At e) r p next stands.form.few_nodes stands placed notes
     (BadForm, h.0, subst (λ (x : ExpandFault). Tells_fault work.symbols here x) (sym h.1) (plain_is work.symbols here BadForm refl refl))
@@ -213,14 +234,14 @@ goes_bad region ls spot fs before given todo asked known work u s here fault.Ful
 goes_bad region ls spot fs before given todo asked known work u s here fault.Memory r p next stands placed notes h = leaves_itself work region u stands.form.few_nodes
 
 -- what the chosen forms come to
-pub read_is : (known : Known) (here : Here) (p : Pending Identifier FramedIdent) (r : Result (Option (Trees Identifier)) (Fault Identifier)) (o : Option (Trees Identifier)) (next : Option (Trees Identifier) → ScopedState → Pass Identifier FramedIdent × ScopedState) (s : ScopedState) → r ≡ Ok o →
-    read_then (searched known) here p r next s ≡ next o s
-read_is known here p r o next s is = ap (λ (x : Result (Option (Trees Identifier)) (Fault Identifier)). read_then (searched known) here p x next s) is
+pub read_is : (known : Known) (here : Here) (p : Pending Identifier FramedIdent) (r : Result (Option (Trees Identifier)) (Fault Identifier)) (o : Option (Trees Identifier)) (next : Option (Trees Identifier) → Noting → Pass Identifier FramedIdent × Noting) (s : Noting) → r ≡ Ok o →
+    read_then (noting known) here p r next s ≡ next o s
+read_is known here p r o next s is = ap (λ (x : Result (Option (Trees Identifier)) (Fault Identifier)). read_then (noting known) here p x next s) is
 
 -- ---- a form that is set aside
 
-pub sets_aside : (work : Work) (region : Region) (u : UnitScope) (ls : List Frames) (spot : Spot) (fs : Frames) (s : ScopedState) (p : Pending Identifier FramedIdent) (ns : List (Note FramedIdent)) (old new : code_pending.Pending) (asked : Asked) (m : Form Identifier) (x : code_form.Form)
-    (f : Going Identifier FramedIdent ScopedState → Pass Identifier FramedIdent × ScopedState) → ((go : Going Identifier FramedIdent ScopedState) → f go ≡ go (put (Expression m) (noted ns p)) s) → Stands work u ls s → SpotFor work u ls s spot fs → FormFor work region x m →
+pub sets_aside : (work : Work) (region : Region) (u : UnitScope) (ls : List Frames) (spot : Spot) (fs : Frames) (s : Noting) (p : Pending Identifier FramedIdent) (ns : List (Note FramedIdent)) (old new : code_pending.Pending) (asked : Asked) (m : Form Identifier) (x : code_form.Form)
+    (f : Going Identifier FramedIdent Noting → Pass Identifier FramedIdent × Noting) → ((go : Going Identifier FramedIdent Noting) → f go ≡ go (put (Expression m) (noted ns p)) s) → Stands work u ls s → SpotFor work u ls s spot fs → FormFor work region x m →
     PendingFor work region u.unit u.form.number old p → NotesFor work ls asked (ns ++ p.notes) → StaysBeside old new → new.aside.items ≡ old.aside.items ++ kept.Expression x ∷ [] →
     GoesOn work work region u u ls spot fs p.todo (tree_size m.tree) new asked (Ok tt) f
 sets_aside work region u ls spot fs s p ns old new asked m x f same stands placed on pending notes todo aside =
@@ -239,9 +260,9 @@ pub can_look : (work : Work) (region : Region) (u : UnitScope) (spot : Spot) (gi
 can_look work region u spot given todo asked can = record { layout = can.layout; state = can.state; frames = can.frames; stands = can.stands; at = can.placed.at }
 
 -- the use of a macro at the head of a form
-pub use_for : (known : Known) (work : Work) (s : ScopedState) (fs : Frames) (scope : ℕ) (here : Here) (form : number.Tree) (t : Tree Identifier) (x : NamePart) (k : code_target.Target) (n : HeadNamed work t x) (m : Transformer Frames Identifier) →
-    IsTarget work.symbols s.unit s.form k (target_of (searched known) fs s n.ident n.place) → macro_at s.macros (means_here s fs n.ident) ≡ Some m → StandsFor work form t →
-    UseFor work s (record { scope = scope; here = here; keyword = k; form = form }) (target_of (searched known) fs s n.ident n.place) m n.parts n.tail
+pub use_for : (known : Known) (work : Work) (s : Noting) (fs : Frames) (scope : ℕ) (here : Here) (form : number.Tree) (t : Tree Identifier) (x : NamePart) (k : code_target.Target) (n : HeadNamed work t x) (m : Transformer Frames Identifier) →
+    IsTarget work.symbols s.unit s.form k (target_of (noting known) fs s n.ident n.place) → macro_at s.macros (means_here s fs n.ident) ≡ Some m → StandsFor work form t →
+    UseFor work s (record { scope = scope; here = here; keyword = k; form = form }) (target_of (noting known) fs s n.ident n.place) m n.parts n.tail
 use_for known work s fs scope here form t x k n m target macro stand = record {
   target = target;
   macro = macro;

@@ -13,7 +13,7 @@ use Rattle.scheme_model.specs.Ident.{Ident as Identifier}
 use Rattle.scheme_model.specs.Requirements.{Known}
 use Rattle.scheme_model.specs.Steps.{Broken, done}
 use Rattle.scheme_model.specs.Order.{Here, Form, Note, LookedUp, Compared, Pending, Pass, Going, first, forms_at, caught, read_then, splice}
-use Rattle.scheme_model.specs.ScopedExpansion.{Frames, FramedIdent, ScopedState}
+use Rattle.scheme_model.specs.ScopedExpansion.{Frames, FramedIdent}
 use Rattle.syntax_tree.specs.Names.{KeepsNames, AreToldApart}
 use Rattle.syntax_tree.specs.Looks.{PartsStand, AllNamed}
 use Rattle.syntax_tree.specs.declared.trees.Work.{Work}
@@ -25,14 +25,10 @@ use Rattle.core_tree.specs.Names.{AllMatch}
 use Rattle.unit_scopes.specs.Asks.{AreWithin, AskedStands}
 use Rattle.unit_scopes.specs.Chains.{body_chain}
 use Rattle.unit_scopes.specs.Counts.{with_nodes, Counts}
-use Rattle.unit_scopes.specs.State.{Stands}
-use Rattle.unit_scopes.specs.Stepped.{spent}
 use Rattle.form_parts.specs.FormsSeen.{form_at}
 use Rattle.unit_scopes.specs.Told.{Tells}
-use Rattle.unit_scopes.specs.Kept.{FormFor, KeptFor, PendingFor, NoteFor, NotesFor, IsIn, SpotFor, forms_size, left_with, WaitsFor}
-use Rattle.unit_scopes.specs.Outcomes.{Stays}
+use Rattle.unit_scopes.specs.Kept.{FormFor, KeptFor, PendingFor, NoteFor, NotesFor, IsIn, forms_size, left_with, WaitsFor}
 use Rattle.expander.specs.Passed.{GoesOn}
-use Rattle.unit_scopes.specs.Searched.{searched}
 use Rattle.unit_scopes.specs.Used.{ComparisonFor, note_of}
 use Rattle.unit_scopes.specs.declared.asked.Asked.{Asked}
 use Rattle.unit_scopes.specs.declared.asked.Note as code_note
@@ -48,22 +44,29 @@ use Rattle.unit_scopes.specs.declared.uses.Comparison.{Comparison}
 use Rattle.unit_scopes.proofs.BodyScopes.{binds_on}
 use Rattle.unit_scopes.proofs.CountingStands.{all_last}
 use Rattle.unit_scopes.proofs.DefineLaws.{is_in_on}
-use Rattle.unit_scopes.proofs.NodeLaws.{plain_is, spends, counting_goes, counting_fails}
-use Rattle.unit_scopes.proofs.OutcomeLaws.{stays_itself, stays_on, moves_here, leaves_on, fills_on}
+use Rattle.unit_scopes.proofs.NodeLaws.{plain_is}
 use Rattle.expander.proofs.FormRows.{todo_stands}
 use Rattle.expander.proofs.PassSteps.{fault_same}
+use Rattle.noted_steps.specs.Noting.{Noting, state_of, noting}
+use Rattle.noted_steps.proofs.NoteLaws.{plainly}
+use Rattle.noted_steps.specs.Standing.{Stands}
+use Rattle.noted_steps.specs.Stepped.{spent}
+use Rattle.noted_steps.specs.Outcomes.{Stays}
+use Rattle.noted_steps.proofs.NodeLaws.{spends, counting_goes, counting_fails}
+use Rattle.noted_steps.proofs.OutcomeLaws.{stays_itself, stays_on, moves_here, leaves_on, fills_on}
+use Rattle.noted_steps.specs.Kept.{SpotFor}
 
 -- ---- where forms are gone through
 
-pub spot_same : (work : Work) (u v : UnitScope) (ls : List Frames) (s t : ScopedState) (spot : Spot) (fs : Frames) → v.env ≡ u.env → v.root ≡ u.root → t.definitions ≡ s.definitions → SpotFor work u ls s spot fs → SpotFor work v ls t spot fs
-spot_same work u v ls s t spot fs env root same h = record { at = h.at; inside = is_in_on work ls spot.scope fs u v s t spot.in_body env root same h.inside }
+pub spot_same : (work : Work) (u v : UnitScope) (ls : List Frames) (s t : Noting) (spot : Spot) (fs : Frames) → v.env ≡ u.env → v.root ≡ u.root → t.definitions ≡ s.definitions → SpotFor work u ls s spot fs → SpotFor work v ls t spot fs
+spot_same work u v ls s t spot fs env root same h = record { at = h.at; inside = is_in_on work ls spot.scope fs u v (state_of s) (state_of t) spot.in_body env root same h.inside }
 
 -- over names that have grown
-pub spot_on : (old new : Work) (u v : UnitScope) (ls : List Frames) (s t : ScopedState) (spot : Spot) (fs : Frames) → KeepsNames old.symbols new.symbols → AreToldApart new.symbols.idents → Stands old u ls s →
+pub spot_on : (old new : Work) (u v : UnitScope) (ls : List Frames) (s t : Noting) (spot : Spot) (fs : Frames) → KeepsNames old.symbols new.symbols → AreToldApart new.symbols.idents → Stands old u ls s →
     v.env.scopes ≡ u.env.scopes → v.root ≡ u.root → t.definitions ≡ s.definitions → SpotFor old u ls s spot fs → SpotFor new v ls t spot fs
 spot_on old new u v ls s t spot fs keeps apart e scopes root same h = record { at = h.at; inside = by spot.in_body h.inside }
   where
-    by : (b : Bool) → IsIn old u ls s spot.scope fs b → IsIn new v ls t spot.scope fs b
+    by : (b : Bool) → IsIn old u ls (state_of s) spot.scope fs b → IsIn new v ls (state_of t) spot.scope fs b
     by true i = record {
       body = i.body;
       outer = i.outer;
@@ -71,7 +74,7 @@ spot_on old new u v ls s t spot fs keeps apart e scopes root same h = record { a
       frames = i.frames;
       binds = λ n.
           ap (λ (xs : List Scope). option_and_then (λ (x : Scope). get x.bound n) (slice_get xs spot.scope)) scopes
-          ∙ (binds_on old new u ls s spot.scope i.body i.opened.uses i.outer keeps apart (h.at ∙ ap Some i.frames) e i.binds n
+          ∙ (binds_on old new u ls (state_of s) spot.scope i.body i.opened.uses i.outer keeps apart (h.at ∙ ap Some i.frames) (plainly old u ls s e) i.binds n
           ∙ ap (λ ds. bound_by new.symbols (body_chain ds i.body) n) (sym same));
     }
     by false i = (i.0 ∙ sym root, i.1)
@@ -91,12 +94,12 @@ one_noted work ls old new note q ns items stands is h = record {
 
 module _ (region : Region) (ls : List Frames) (spot : Spot) (fs : Frames) (before : List (Form Identifier)) (given : ℕ) (todo : code_pending.Pending) (asked : Asked) where
   -- a step that is another, whatever goes on behind it
-  pub goes_so : (old new : Work) (u v : UnitScope) (result : Result (Unit {0}) ExpandFault) (f g : Going Identifier FramedIdent ScopedState → Pass Identifier FramedIdent × ScopedState) → ((go : Going Identifier FramedIdent ScopedState) → f go ≡ g go) →
+  pub goes_so : (old new : Work) (u v : UnitScope) (result : Result (Unit {0}) ExpandFault) (f g : Going Identifier FramedIdent Noting → Pass Identifier FramedIdent × Noting) → ((go : Going Identifier FramedIdent Noting) → f go ≡ g go) →
       GoesOn old new region u v ls spot fs before given todo asked result g → GoesOn old new region u v ls spot fs before given todo asked result f
-  goes_so old new u v result f g same h = subst (λ (x : Going Identifier FramedIdent ScopedState → Pass Identifier FramedIdent × ScopedState). GoesOn old new region u v ls spot fs before given todo asked result x) (λ i go. sym (same go) i) h
+  goes_so old new u v result f g same h = subst (λ (x : Going Identifier FramedIdent Noting → Pass Identifier FramedIdent × Noting). GoesOn old new region u v ls spot fs before given todo asked result x) (λ i go. sym (same go) i) h
 
   -- behind what counts no use and takes no local
-  pub goes_after : (a b c : Work) (u w v : UnitScope) (s : ScopedState) (result : Result (Unit {0}) ExpandFault) (f : Going Identifier FramedIdent ScopedState → Pass Identifier FramedIdent × ScopedState) → Stays a b region u w ls s →
+  pub goes_after : (a b c : Work) (u w v : UnitScope) (s : Noting) (result : Result (Unit {0}) ExpandFault) (f : Going Identifier FramedIdent Noting → Pass Identifier FramedIdent × Noting) → Stays a b region u w ls s →
       w.form.budget.uses ≡ u.form.budget.uses → w.form.budget.locals ≡ u.form.budget.locals → GoesOn b c region w v ls spot fs before given todo asked result f → GoesOn a c region u v ls spot fs before given todo asked result f
   goes_after a b c u w v s (Ok done) f m uses locals h =
       let r = h.2 in (
@@ -120,18 +123,18 @@ module _ (region : Region) (ls : List Frames) (spot : Spot) (fs : Frames) (befor
   goes_after a b c u w v s (Err fault.Memory) f m uses locals h = leaves_on a b c region u w ls s (moves_here a b region u w ls s m) h
 
   -- a fault that is handed on
-  pub goes_err : (old new : Work) (u v : UnitScope) (result : Result (Unit {0}) ExpandFault) (e : ExpandFault) (f : Going Identifier FramedIdent ScopedState → Pass Identifier FramedIdent × ScopedState) → IsErrAnd result (λ x. x ≡ e) →
+  pub goes_err : (old new : Work) (u v : UnitScope) (result : Result (Unit {0}) ExpandFault) (e : ExpandFault) (f : Going Identifier FramedIdent Noting → Pass Identifier FramedIdent × Noting) → IsErrAnd result (λ x. x ≡ e) →
       GoesOn old new region u v ls spot fs before given todo asked (Err e) f → GoesOn old new region u v ls spot fs before given todo asked result f
   goes_err old new u v (Ok done) e f is h = absurd is
   goes_err old new u v (Err x) e f is h = subst (λ (y : ExpandFault). GoesOn old new region u v ls spot fs before given todo asked (Err y) f) (sym is) h
 
   -- a shape that was misread
-  abbrev broken_pass : List (Note FramedIdent) → Here → ScopedState → Fault Identifier → Pass Identifier FramedIdent × ScopedState
+  abbrev broken_pass : List (Note FramedIdent) → Here → Noting → Fault Identifier → Pass Identifier FramedIdent × Noting
   broken_pass ns at t x = (record { notes = ns; left = Err (record { fault = x; here = at }) }, t)
 
-  pub goes_misread : {B : Type 0} (known : Known) (work : Work) (u : UnitScope) (s : ScopedState) (here : Here) (e : ExpandFault) (r : Result B (Fault Identifier)) (p : Pending Identifier FramedIdent)
-      (next : Going Identifier FramedIdent ScopedState → B → ScopedState → Pass Identifier FramedIdent × ScopedState) → u.form.budget.nodes ≤ 200000 → Stands work u ls s → SpotFor work u ls s spot fs → NotesFor work ls asked p.notes →
-      Tells work.symbols here e r → GoesOn work work region u u ls spot fs before given todo asked (Err e) (λ go. read_then (searched known) here p r (next go) s)
+  pub goes_misread : {B : Type 0} (known : Known) (work : Work) (u : UnitScope) (s : Noting) (here : Here) (e : ExpandFault) (r : Result B (Fault Identifier)) (p : Pending Identifier FramedIdent)
+      (next : Going Identifier FramedIdent Noting → B → Noting → Pass Identifier FramedIdent × Noting) → u.form.budget.nodes ≤ 200000 → Stands work u ls s → SpotFor work u ls s spot fs → NotesFor work ls asked p.notes →
+      Tells work.symbols here e r → GoesOn work work region u u ls spot fs before given todo asked (Err e) (λ go. read_then (noting known) here p r (next go) s)
   goes_misread {B} known work u s here (fault.At e) r p next few stands placed notes h =
       let b : Broken = record { fault = h.0; here = here } in (
         p.notes,
@@ -139,7 +142,7 @@ module _ (region : Region) (ls : List Frames) (spot : Spot) (fs : Frames) (befor
         s,
         record { stays = stays_itself work region u ls s stands; placed = placed; notes = notes },
         h.2,
-        λ go. ap (λ (x : Result B (Fault Identifier)). read_then (searched known) here p x (next go) s) h.1 ∙ ap (broken_pass p.notes here s) (fault_same h.0),
+        λ go. ap (λ (x : Result B (Fault Identifier)). read_then (noting known) here p x (next go) s) h.1 ∙ ap (broken_pass p.notes here s) (fault_same h.0),
       )
   goes_misread known work u s here fault.Full r p next few stands placed notes h = absurd h
   goes_misread known work u s here fault.Memory r p next few stands placed notes h = record { work = (stays_itself work region u ls s stands).work; few = omega (arith, few) }
@@ -172,12 +175,12 @@ less_spliced a b c k given is less = omega (arith, is, less)
 locals_spliced : (l a b c k given : ℕ) → a ≡ b + c → b < given → l + (a + k) ≤ l + (c + k) + given
 locals_spliced l a b c k given is less = omega (arith, is, less)
 
-module _ (known : Known) (work : Work) (region : Region) (u v : UnitScope) (ls : List Frames) (s : ScopedState) (spot : Spot) (fs : Frames) (asked : Asked) (here : Here) (ns : List number.Tree) (ts : Trees Identifier) (p : Pending Identifier FramedIdent) (given : ℕ) (old new : code_pending.Pending)
+module _ (known : Known) (work : Work) (region : Region) (u v : UnitScope) (ls : List Frames) (s : Noting) (spot : Spot) (fs : Frames) (asked : Asked) (here : Here) (ns : List number.Tree) (ts : Trees Identifier) (p : Pending Identifier FramedIdent) (given : ℕ) (old new : code_pending.Pending)
     (e : Stands work u ls s) (placed : SpotFor work u ls s spot fs) (notes : NotesFor work ls asked p.notes) where
   pub splice_goes : PartsStand work ns ts → AllNamed work region ns → PendingFor work region u.unit u.form.number old p → trees_size ts < given → Counts u v here 1 (Ok tt) → new.todo.items ≡ old.todo.items ++ map (form_at here) (reverse ns) →
-      (new.aside.items ≡ old.aside.items) × (new.uses.items ≡ old.uses.items) → GoesOn work work region u v ls spot fs p.todo given new asked (Ok tt) (λ go. splice (searched known) go here p ts s)
+      (new.aside.items ≡ old.aside.items) × (new.uses.items ≡ old.uses.items) → GoesOn work work region u v ls spot fs p.todo given new asked (Ok tt) (λ go. splice (noting known) go here p ts s)
   splice_goes stand named pending less counts todo aside =
-      subst (λ (w : UnitScope). GoesOn work work region u w ls spot fs p.todo given new asked (Ok tt) (λ go. splice (searched known) go here p ts s)) (sym counts.1)
+      subst (λ (w : UnitScope). GoesOn work work region u w ls spot fs p.todo given new asked (Ok tt) (λ go. splice (noting known) go here p ts s)) (sym counts.1)
       (let w = with_nodes u 1 in
       let q = first (forms_at here ts) p in
       let t = spent 1 s in
@@ -196,21 +199,21 @@ module _ (known : Known) (work : Work) (region : Region) (u v : UnitScope) (ls :
           less = less_spliced (forms_size (forms_at here ts ++ p.todo)) (trees_size ts) (forms_size p.todo) (4194305 * (10000 - u.form.budget.uses)) given size less;
           locals = locals_spliced u.form.budget.locals (forms_size (forms_at here ts ++ p.todo)) (trees_size ts) (forms_size p.todo) (4194305 * (10000 - u.form.budget.uses)) given size less;
         },
-        λ go. ap (λ (x : Result (Unit {0}) Broken × ScopedState). caught p.notes x (λ done. go q)) (counting_goes known work region u ls s here 1 e counts.0),
+        λ go. ap (λ (x : Result (Unit {0}) Broken × Noting). caught p.notes x (λ done. go q)) (counting_goes known work region u ls s here 1 e counts.0),
       ))
 
-  pub splice_fails : (x : ExpandFault) → Counts u v here 1 (Err x) → GoesOn work work region u v ls spot fs p.todo given new asked (Err x) (λ go. splice (searched known) go here p ts s)
+  pub splice_fails : (x : ExpandFault) → Counts u v here 1 (Err x) → GoesOn work work region u v ls spot fs p.todo given new asked (Err x) (λ go. splice (noting known) go here p ts s)
   splice_fails x counts =
       let q = first (forms_at here ts) p in
       let b : Broken = record { fault = NodeBudget; here = here } in
-      subst (λ (w : UnitScope). GoesOn work work region u w ls spot fs p.todo given new asked (Err x) (λ go. splice (searched known) go here p ts s)) (sym counts.1)
-      (subst (λ (y : ExpandFault). GoesOn work work region u u ls spot fs p.todo given new asked (Err y) (λ go. splice (searched known) go here p ts s)) (sym counts.2) (
+      subst (λ (w : UnitScope). GoesOn work work region u w ls spot fs p.todo given new asked (Err x) (λ go. splice (noting known) go here p ts s)) (sym counts.1)
+      (subst (λ (y : ExpandFault). GoesOn work work region u u ls spot fs p.todo given new asked (Err y) (λ go. splice (noting known) go here p ts s)) (sym counts.2) (
         p.notes,
         b,
         s,
         record { stays = stays_itself work region u ls s e; placed = placed; notes = notes },
         plain_is work.symbols here NodeBudget refl refl,
-        λ go. ap (λ (x : Result (Unit {0}) Broken × ScopedState). caught p.notes x (λ done. go q)) (counting_fails known work region u ls s here 1 e counts.0),
+        λ go. ap (λ (x : Result (Unit {0}) Broken × Noting). caught p.notes x (λ done. go q)) (counting_fails known work region u ls s here 1 e counts.0),
       ))
 
 -- ---- comparisons that are noted

@@ -6,15 +6,13 @@ use Rattle.scheme_model.specs.Measures.{tree_size}
 use Rattle.scheme_model.specs.Ident.{Ident as Identifier}
 use Rattle.scheme_model.specs.Requirements.{Known}
 use Rattle.scheme_model.specs.Order.{Form, Left, Pending, Pass, Going, here_at, run, run_next, run_form}
-use Rattle.scheme_model.specs.ScopedExpansion.{Frames, FramedIdent, ScopedState}
+use Rattle.scheme_model.specs.ScopedExpansion.{Frames, FramedIdent}
 use Rattle.syntax_tree.specs.declared.trees.Work.{Work}
 use Rattle.syntax_tree.specs.declared.trees.table.Region.{Region}
 use Rattle.core_tree.specs.Names.{AllMatch}
-use Rattle.unit_scopes.specs.State.{Stands, most_locals}
-use Rattle.unit_scopes.specs.Kept.{FormFor, KeptFor, WaitsFor, PendingFor, NotesFor, SpotFor, forms_size, left_with}
-use Rattle.unit_scopes.specs.Outcomes.{Stays}
+use Rattle.unit_scopes.specs.State.{most_locals}
+use Rattle.unit_scopes.specs.Kept.{FormFor, KeptFor, WaitsFor, PendingFor, NotesFor, forms_size, left_with}
 use Rattle.expander.specs.Passed.{CanPass, GoesOn, Passes}
-use Rattle.unit_scopes.specs.Searched.{searched}
 use Rattle.unit_scopes.specs.declared.asked.Asked.{Asked}
 use Rattle.feature_requirements.specs.declared.fault.ExpandFault.{ExpandFault}
 use Rattle.feature_requirements.specs.declared.fault.ExpandFault.TheVariants as fault
@@ -25,7 +23,11 @@ use Rattle.form_parts.specs.declared.items.Spot.{Spot}
 use Rattle.form_parts.specs.declared.items.WaitingUse as code_waiting
 use Rattle.unit_scopes.specs.declared.scope.UnitScope.{UnitScope}
 use Rattle.expander.proofs.FitLaws.{some_node}
-use Rattle.unit_scopes.proofs.OutcomeLaws.{stays_itself, stays_on, moves_here, leaves_on, fills_on}
+use Rattle.noted_steps.specs.Noting.{Noting, noting}
+use Rattle.noted_steps.specs.Standing.{Stands}
+use Rattle.noted_steps.specs.Outcomes.{Stays}
+use Rattle.noted_steps.proofs.OutcomeLaws.{stays_itself, stays_on, moves_here, leaves_on, fills_on}
+use Rattle.noted_steps.specs.Kept.{SpotFor}
 
 -- ---- what is left falls
 
@@ -90,13 +92,13 @@ pending_behind work region unit form old new p f next aside h = record {
 
 -- ---- so far
 
-module _ (known : Known) (old : Work) (region : Region) (u : UnitScope) (ls : List Frames) (spot : Spot) (fs : Frames) (s : ScopedState) (p : Pending Identifier FramedIdent) (turns : ℕ) where
-  abbrev whole : Pass Identifier FramedIdent × ScopedState
-  whole = run (searched known) turns fs p s
+module _ (known : Known) (old : Work) (region : Region) (u : UnitScope) (ls : List Frames) (spot : Spot) (fs : Frames) (s : Noting) (p : Pending Identifier FramedIdent) (turns : ℕ) where
+  abbrev whole : Pass Identifier FramedIdent × Noting
+  whole = run (noting known) turns fs p s
 
   pub record PassedSoFar (new : Work) (v : UnitScope) (todo : code_pending.Pending) (asked : Asked) (turn : ℕ) : Type 0 where
     pub left : Pending Identifier FramedIdent
-    pub state : ScopedState
+    pub state : Noting
     pub stays : Stays old new region u v ls state
     pub placed : SpotFor new v ls state spot fs
     pub pending : PendingFor new region v.unit v.form.number todo left
@@ -105,14 +107,14 @@ module _ (known : Known) (old : Work) (region : Region) (u : UnitScope) (ls : Li
     pub locals : v.form.budget.locals + left_with left.todo v.form.budget.uses ≤ u.form.budget.locals + left_with p.todo u.form.budget.uses
     pub more : ℕ
     pub enough : left_with left.todo v.form.budget.uses ≤ more
-    pub same : run (searched known) turns fs p s ≡ run (searched known) (suc more) fs left state
+    pub same : run (noting known) turns fs p s ≡ run (noting known) (suc more) fs left state
 
   module _ (new : Work) (v : UnitScope) (todo rest : code_pending.Pending) (asked : Asked) (turn : ℕ) (h : PassedSoFar new v todo asked turn) (f : code_form.Form) (next : Split (FormFor new region) f (reverse rest.todo.items) h.left.todo) where
     abbrev behind : Pending Identifier FramedIdent
     behind = behind_it h.left next.rest
 
-    abbrev step : Going Identifier FramedIdent ScopedState → Pass Identifier FramedIdent × ScopedState
-    step go = run_form (searched known) go fs (here_at (λ i. i) next.head.tree next.head.here) next.head next.head.tree behind h.state
+    abbrev step : Going Identifier FramedIdent Noting → Pass Identifier FramedIdent × Noting
+    step go = run_form (noting known) go fs (here_at (λ i. i) next.head.tree next.head.here) next.head next.head.tree behind h.state
 
     taken : left_with next.rest v.form.budget.uses + tree_size next.head.tree ≡ left_with h.left.todo v.form.budget.uses
     taken = turned (tree_size next.head.tree) (forms_size next.rest) (4194305 * (10000 - v.form.budget.uses)) ∙ sym (ap (λ (l : List (Form Identifier)). left_with l v.form.budget.uses) next.is)
@@ -121,11 +123,11 @@ module _ (known : Known) (old : Work) (region : Region) (u : UnitScope) (ls : Li
     some_more zero is = none_turn (left_with next.rest v.form.budget.uses) (tree_size next.head.tree) (left_with h.left.todo v.form.budget.uses) h.more taken (some_node next.head.tree) h.enough is
     some_more (suc k) is = (k, is)
 
-    goes_to : (k : ℕ) → h.more ≡ suc k → whole ≡ step (run (searched known) (suc k) fs)
+    goes_to : (k : ℕ) → h.more ≡ suc k → whole ≡ step (run (noting known) (suc k) fs)
     goes_to k is =
         h.same
-        ∙ (ap (λ (n : ℕ). run (searched known) (suc n) fs h.left h.state) is
-        ∙ ap (λ (l : List (Form Identifier)). run_next (searched known) (run (searched known) (suc k) fs) fs l h.left h.state) next.is)
+        ∙ (ap (λ (n : ℕ). run (noting known) (suc n) fs h.left h.state) is
+        ∙ ap (λ (l : List (Form Identifier)). run_next (noting known) (run (noting known) (suc k) fs) fs l h.left h.state) next.is)
 
     pub one_more_passed : (after : Work) (w : UnitScope) (todo2 : code_pending.Pending) (asked2 : Asked) →
         GoesOn new after region v w ls spot fs next.rest (tree_size next.head.tree) todo2 asked2 (Ok tt) step → PassedSoFar after w todo2 asked2 (turn + 1)
@@ -148,15 +150,15 @@ module _ (known : Known) (old : Work) (region : Region) (u : UnitScope) (ls : Li
           locals = takes w.form.budget.locals a v.form.budget.locals b c d u.form.budget.locals all taken r.locals h.locals;
           more = m.0;
           enough = enough_behind a b c d h.more m.0 taken r.less h.enough m.1;
-          same = goes_to m.0 m.1 ∙ g.3 (run (searched known) (suc m.0) fs);
+          same = goes_to m.0 m.1 ∙ g.3 (run (noting known) (suc m.0) fs);
         }
 
     pub next_fails : (after : Work) (w : UnitScope) (todo2 : code_pending.Pending) (asked2 : Asked) (most : ℕ) (last : code_pending.Pending) (e : ExpandFault) →
         GoesOn new after region v w ls spot fs next.rest (tree_size next.head.tree) todo2 asked2 (Err e) step → Passes old after region u w ls spot fs most last asked2 (Err e) whole
     next_fails after w todo2 asked2 most last (fault.At e) g =
         let m = some_more h.more refl in
-        let end = goes_to m.0 m.1 ∙ g.5 (run (searched known) (suc m.0) fs) in
-        subst (λ (x : Pass Identifier FramedIdent × ScopedState). Passes old after region u w ls spot fs most last asked2 (Err (fault.At e)) x) (sym end)
+        let end = goes_to m.0 m.1 ∙ g.5 (run (noting known) (suc m.0) fs) in
+        subst (λ (x : Pass Identifier FramedIdent × Noting). Passes old after region u w ls spot fs most last asked2 (Err (fault.At e)) x) (sym end)
         (g.1, refl, record { stays = stays_on old new after region u v w ls h.state g.2 h.stays g.3.stays; placed = g.3.placed; notes = g.3.notes }, g.4)
     next_fails after w todo2 asked2 most last fault.Full g =
         let m = moves_here old new region u v ls h.state h.stays in
@@ -184,8 +186,8 @@ module _ (known : Known) (old : Work) (region : Region) (u : UnitScope) (ls : Li
   passing_ends new v todo asked turn last h none is =
       let nothing = none_left (FormFor new region) h.left.todo (subst (λ (l : List code_form.Form). AllMatch (FormFor new region) (reverse l) h.left.todo) none h.pending.todo) in
       let l : Left Identifier = record { uses = h.left.uses; items = h.left.aside } in
-      let end : whole ≡ (record { notes = h.left.notes; left = Ok l }, h.state) = h.same ∙ ap (λ (l : List (Form Identifier)). run_next (searched known) (run (searched known) h.more fs) fs l h.left h.state) nothing in
-      subst (λ (x : Pass Identifier FramedIdent × ScopedState). Passes old new region u v ls spot fs (left_with p.todo u.form.budget.uses) last asked (Ok tt) x) (sym end) (
+      let end : whole ≡ (record { notes = h.left.notes; left = Ok l }, h.state) = h.same ∙ ap (λ (l : List (Form Identifier)). run_next (noting known) (run (noting known) h.more fs) fs l h.left h.state) nothing in
+      subst (λ (x : Pass Identifier FramedIdent × Noting). Passes old new region u v ls spot fs (left_with p.todo u.form.budget.uses) last asked (Ok tt) x) (sym end) (
         l,
         refl,
         record { stays = h.stays; placed = h.placed; notes = h.notes },
@@ -201,7 +203,7 @@ module _ (known : Known) (old : Work) (region : Region) (u : UnitScope) (ls : Li
   passing_err new v asked most last (Ok done) e is h = absurd is
   passing_err new v asked most last (Err x) e is h = subst (λ (y : ExpandFault). Passes old new region u v ls spot fs most last asked (Err y) whole) (sym is) h
 
-pub passing_begins : (known : Known) (work : Work) (region : Region) (u : UnitScope) (ls : List Frames) (spot : Spot) (fs : Frames) (s : ScopedState) (p : Pending Identifier FramedIdent) (turns : ℕ) (todo : code_pending.Pending) (asked : Asked) →
+pub passing_begins : (known : Known) (work : Work) (region : Region) (u : UnitScope) (ls : List Frames) (spot : Spot) (fs : Frames) (s : Noting) (p : Pending Identifier FramedIdent) (turns : ℕ) (todo : code_pending.Pending) (asked : Asked) →
     Stands work u ls s → SpotFor work u ls s spot fs → PendingFor work region u.unit u.form.number todo p → NotesFor work ls asked p.notes → left_with p.todo u.form.budget.uses < turns → PassedSoFar known work region u ls spot fs s p turns work u todo asked 0
 passing_begins known work region u ls spot fs s p zero todo asked e placed pending notes less = absurd (omega (arith, less))
 passing_begins known work region u ls spot fs s p (suc more) todo asked e placed pending notes less = record {

@@ -10,16 +10,17 @@ use Rattle.scheme_model.specs.Requirements.{Known}
 use Rattle.scheme_model.specs.Ident.{Ident as Identifier, same_ident}
 use Rattle.scheme_model.specs.Cores.{Target}
 use Rattle.scheme_model.specs.Order.{Here, Form, Expression, Pending, Pass, Going, or_none, put, read_then, splice, run_core, run_form}
-use Rattle.scheme_model.specs.ScopedExpansion.{Frames, FramedIdent, ScopedState}
+use Rattle.scheme_model.specs.ScopedExpansion.{Frames, FramedIdent}
 use Rattle.core_forms.specs.Forms.{Shape, Sequence, Definition, Several, RecordType, Syntax, Choices, choices_in, shape_of}
 use Rattle.syntax_tree.specs.declared.trees.Work.{Work}
 use Rattle.core_forms.specs.Parts.{IsNameIfAny}
 use Rattle.feature_requirements.specs.Judged.{chosen_among}
 use Rattle.expander.specs.Passed.{pass_step}
-use Rattle.unit_scopes.specs.Searched.{searched}
 use Rattle.form_parts.specs.FormsSeen.{takes_effect, head_name_of}
-use Rattle.unit_scopes.specs.Stepped.{met}
 use Rattle.feature_requirements.proofs.ChoiceLaws.{chosen_is}
+use Rattle.noted_steps.specs.Asked.{form_asked}
+use Rattle.noted_steps.specs.Noting.{Noting, noting}
+use Rattle.noted_steps.specs.Stepped.{met}
 
 -- ---- faults of identifiers as they came about
 
@@ -48,28 +49,28 @@ fault_same OutOfTurns = refl
 
 -- ---- core forms
 
-module _ (known : Known) (go : Going Identifier FramedIdent ScopedState) (here : Here) (fs : Frames) (form : Form Identifier) (p : Pending Identifier FramedIdent) where
-  abbrev step : Shape → ScopedState → Pass Identifier FramedIdent × ScopedState
-  step m s = pass_step (searched known) go here fs form p m s
+module _ (known : Known) (go : Going Identifier FramedIdent Noting) (here : Here) (fs : Frames) (form : Form Identifier) (p : Pending Identifier FramedIdent) where
+  abbrev step : Shape → Noting → Pass Identifier FramedIdent × Noting
+  step m s = pass_step (noting known) go here fs form p m s
 
   -- what is read of a kind of shape goes on as that kind does
-  read_as : {B : Type 0} (r : Result B (Fault Identifier)) (make : B → Shape) (s : ScopedState) →
-      read_then (searched known) here p r (λ b. step (make b)) s ≡ read_then (searched known) here p (r >> λ b. Ok (make b)) step s
+  read_as : {B : Type 0} (r : Result B (Fault Identifier)) (make : B → Shape) (s : Noting) →
+      read_then (noting known) here p r (λ b. step (make b)) s ≡ read_then (noting known) here p (r >> λ b. Ok (make b)) step s
   read_as (Ok b) make s = refl
   read_as (Err e) make s = refl
 
   -- two readings, one after another
-  read_twice : {B C : Type 0} (r : Result B (Fault Identifier)) (f : B → Result C (Fault Identifier)) (next : C → ScopedState → Pass Identifier FramedIdent × ScopedState) (s : ScopedState) →
-      read_then (searched known) here p (r >> f) next s ≡ read_then (searched known) here p r (λ b. read_then (searched known) here p (f b) next) s
+  read_twice : {B C : Type 0} (r : Result B (Fault Identifier)) (f : B → Result C (Fault Identifier)) (next : C → Noting → Pass Identifier FramedIdent × Noting) (s : Noting) →
+      read_then (noting known) here p (r >> f) next s ≡ read_then (noting known) here p r (λ b. read_then (noting known) here p (f b) next) s
   read_twice (Ok b) f next s = refl
   read_twice (Err e) f next s = refl
 
-  abbrev chosen : ScopedState → Result (Option (Trees Identifier)) (Fault Identifier) → Pass Identifier FramedIdent × ScopedState
-  chosen s r = read_then (searched known) here p r (λ c. splice (searched known) go here p (or_none c)) s
+  abbrev chosen : Noting → Result (Option (Trees Identifier)) (Fault Identifier) → Pass Identifier FramedIdent × Noting
+  chosen s r = read_then (noting known) here p r (λ c. splice (noting known) go here p (or_none c)) s
 
   -- one that takes effect at once
-  pub core_is : (c : CoreKeyword) (k : Target) (ts : Trees Identifier) (tail : Tail Identifier) (mark : Identifier → Option Mark) (s : ScopedState) → takes_effect c ≡ true →
-      run_core (searched known) go here fs c k form ts tail p s ≡ read_then (searched known) here p (shape_of c false mark ts tail) (λ m. pass_step (searched known) go here fs form p m) (met k s)
+  pub core_is : (c : CoreKeyword) (k : Target) (ts : Trees Identifier) (tail : Tail Identifier) (mark : Identifier → Option Mark) (s : Noting) → takes_effect c ≡ true →
+      run_core (noting known) go here fs c k form ts tail p s ≡ read_then (noting known) here p (shape_of c false mark ts tail) (λ m. pass_step (noting known) go here fs form p m) (form_asked known fs c ts tail (met k s))
   core_is IsQuote k ts tail mark s h = absurd cc
   core_is IsQuasiquote k ts tail mark s h = absurd cc
   core_is IsLambda k ts tail mark s h = absurd cc
@@ -84,14 +85,15 @@ module _ (known : Known) (go : Going Identifier FramedIdent ScopedState) (here :
   core_is IsLetSyntax k ts tail mark s h = absurd cc
   core_is IsLetrecSyntax k ts tail mark s h = absurd cc
   core_is IsCondExpand k ts tail mark s h =
-      ap (chosen (met k s)) (chosen_is known ts tail)
-      ∙ (read_twice (some_of ts tail >> choices_in) (chosen_among known) (λ c. splice (searched known) go here p (or_none c)) (met k s)
-      ∙ read_as (some_of ts tail >> choices_in) Choices (met k s))
+      let t = form_asked known fs IsCondExpand ts tail (met k s) in
+      ap (chosen t) (chosen_is known ts tail)
+      ∙ (read_twice (some_of ts tail >> choices_in) (chosen_among known) (λ c. splice (noting known) go here p (or_none c)) t
+      ∙ read_as (some_of ts tail >> choices_in) Choices t)
   core_is IsSyntaxError k ts tail mark s h = absurd cc
   core_is IsInclude k ts tail mark s h = absurd cc
 
   -- one that is an expression
-  pub set_aside : (c : CoreKeyword) (k : Target) (ts : Trees Identifier) (tail : Tail Identifier) (s : ScopedState) → takes_effect c ≡ false → run_core (searched known) go here fs c k form ts tail p s ≡ go (put (Expression form) p) s
+  pub set_aside : (c : CoreKeyword) (k : Target) (ts : Trees Identifier) (tail : Tail Identifier) (s : Noting) → takes_effect c ≡ false → run_core (noting known) go here fs c k form ts tail p s ≡ go (put (Expression form) p) s
   set_aside IsQuote k ts tail s h = refl
   set_aside IsQuasiquote k ts tail s h = refl
   set_aside IsLambda k ts tail s h = refl
@@ -112,7 +114,7 @@ module _ (known : Known) (go : Going Identifier FramedIdent ScopedState) (here :
   -- ---- forms by their heads
 
   -- a form without a name at its head
-  pub no_head : (work : Work) (t : Tree Identifier) (s : ScopedState) → IsNameIfAny work None (head_name_of t) → run_form (searched known) go fs here form t p s ≡ go (put (Expression form) p) s
+  pub no_head : (work : Work) (t : Tree Identifier) (s : Noting) → IsNameIfAny work None (head_name_of t) → run_form (noting known) go fs here form t p s ≡ go (put (Expression form) p) s
   no_head work (name i o) s h = refl
   no_head work (atom a o) s h = refl
   no_head work (vector ts o) s h = refl

@@ -1,18 +1,20 @@
 -- How an expression is read: heads, keywords, identifiers as values, and what was read.
-use Rattle.std.proofs.Common.{◌≡◌, ℕ, List, Bool, true, false, Option, Some, None, Result, Ok, Err, IsErrAnd, refl, sym, subst}
+use Rattle.std.proofs.Common.{◌≡◌, ℕ, ◌<◌, List, [], ◌∷◌, length, Bool, true, false, Option, Some, None, Result, Err, refl, sym, ap, subst}
+use Rattle.std.proofs.lemmas.Option.{slice_get_within}
 use Rattle.scheme_model.specs.declared.Occ.{Occ}
 use Rattle.scheme_model.specs.Trees.{Tree, name, atom, list, vector, Trees, no_trees, tree, Tail}
 use Rattle.scheme_model.specs.Ident.{Ident as Identifier}
-use Rattle.scheme_model.specs.ExpansionFaults.{Named, named, KeywordAsValue}
+use Rattle.scheme_model.specs.ExpansionFaults.{Named, KeywordAsValue}
 use Rattle.scheme_model.specs.Keywords.{core_named, CoreKeyword, auxiliary_named, Auxiliary}
 use Rattle.scheme_model.specs.Meaning.{Meaning, Local, Global, Standard, Free, Head, IsCore, IsAuxiliary, IsMacro, IsNone, is_keyword, macro_or_none, other_standard, standard_head, head_as}
 use Rattle.scheme_model.specs.Requirements.{Known}
 use Rattle.scheme_model.specs.Cores.{Target}
 use Rattle.scheme_model.specs.Steps.{Broken, Step, fails}
-use Rattle.scheme_model.specs.Order.{Here, Transformer, is_some, head_of}
+use Rattle.scheme_model.specs.Order.{Here, Transformer, Headed, is_some, head_of}
 use Rattle.scheme_model.specs.Expression.{unless_keyword}
-use Rattle.scheme_model.specs.ScopedExpansion.{Frames, ScopedState, macro_at}
 use Rattle.scheme_model.specs.CountedExpansion.{means_here}
+use Rattle.scheme_model.specs.ScopedExpansion.{Frames, ScopedState, macro_at}
+use Rattle.unit_scopes.specs.Searched.{searched}
 use Rattle.syntax_tree.specs.Names.{Names}
 use Rattle.syntax_tree.specs.declared.trees.Work.{Work}
 use Rattle.core_forms.specs.Parts.{IsName, IsNameIfAny}
@@ -23,16 +25,19 @@ use Rattle.core_tree.specs.declared.cores.Target as code_target
 use Rattle.form_parts.specs.Heads.{IsHead}
 use Rattle.form_parts.specs.declared.heads.Head as code_head
 use Rattle.form_parts.specs.declared.heads.Head.TheVariants as heads
-use Rattle.expander.specs.Ready.{not_macro, IsSettled, TestsVariable}
-use Rattle.unit_scopes.specs.Outcomes.{EndsHere}
+use Rattle.unit_scopes.specs.Used.{target_at as used_at}
+use Rattle.expander.specs.Ready.{not_macro, IsSettled, IsHeadTarget, head_asked, TestsVariable}
 use Rattle.feature_requirements.specs.declared.fault.ExpandFault.{ExpandFault}
 use Rattle.feature_requirements.specs.declared.fault.ExpandFault.TheVariants as fault
 use Rattle.syntax_tree.specs.declared.trees.table.Region.{Region}
-use Rattle.unit_scopes.proofs.OutcomeLaws.{stays_itself}
-use Rattle.unit_scopes.specs.Searched.{searched}
 use Rattle.form_parts.specs.FormsSeen.{name_in, head_name_of}
-use Rattle.unit_scopes.specs.State.{Stands}
 use Rattle.unit_scopes.specs.declared.scope.UnitScope.{UnitScope}
+use Rattle.noted_steps.specs.Noting.{Noting, state_of, noting}
+use Rattle.noted_steps.specs.Outcomes.{EndsHere}
+use Rattle.noted_steps.proofs.OutcomeLaws.{stays_itself}
+use Rattle.noted_steps.specs.Standing.{Stands, TargetFor, with_notes}
+use Rattle.noted_steps.proofs.NoteLaws.{plainly}
+use Rattle.unit_scopes.specs.State.{Stands as StandsPlainly}
 
 -- ---- keywords that stand for values
 
@@ -40,32 +45,27 @@ pub keyword_fault : (work : Work) (here : Option Occ) (x : NamePart) (n : Named 
     IsFault work.symbols (record { code = 43; name = Some x.ident; occ = x.occ; here = here; text = None }) (record { fault = KeywordAsValue n; here = here })
 keyword_fault work here x n h = record { code = refl; name = h.0; place = h.1; here = refl; text = refl }
 
-module _ (known : Known) {B : Type 0} (here : Here) (n : Named Identifier) (go : Step ScopedState B) (s : ScopedState) where
-  pub unless_goes : (h : Head) → is_keyword h ≡ false → unless_keyword (searched known) here h n go s ≡ go s
+module _ (known : Known) {B : Type 0} (here : Here) (n : Named Identifier) (go : Step Noting B) (s : Noting) where
+  pub unless_goes : (h : Head) → is_keyword h ≡ false → unless_keyword (noting known) here h n go s ≡ go s
   unless_goes (IsCore k) is = absurd cc
   unless_goes (IsAuxiliary a) is = absurd cc
   unless_goes (IsMacro m) is = absurd cc
   unless_goes IsNone is = refl
 
-  pub unless_fails : (h : Head) → is_keyword h ≡ true → unless_keyword (searched known) here h n go s ≡ fails here (KeywordAsValue n) s
+  pub unless_fails : (h : Head) → is_keyword h ≡ true → unless_keyword (noting known) here h n go s ≡ fails here (KeywordAsValue n) s
   unless_fails (IsCore k) is = refl
   unless_fails (IsAuxiliary a) is = refl
   unless_fails (IsMacro m) is = refl
   unless_fails IsNone is = absurd cc
 
 -- the test failed, and so does what was to follow
-pub tested_fails : {B X : Type 0} (known : Known) (work : Work) (region : Region) (u : UnitScope) (ls : List Frames) (s : ScopedState) (here : Here) (n : Named Identifier) (go : Step ScopedState B) (h : Head) (P : X → B → Type 0) (e : ExpandFault) → Stands work u ls s →
-    TestsVariable work s here n h (Err e) → EndsHere P work work region u u ls (Err e) (unless_keyword (searched known) here h n go s)
+pub tested_fails : {B X : Type 0} (known : Known) (work : Work) (region : Region) (u : UnitScope) (ls : List Frames) (s : Noting) (here : Here) (n : Named Identifier) (go : Step Noting B) (h : Head) (P : X → B → Type 0) (e : ExpandFault) → Stands work u ls s →
+    TestsVariable work s here n h (Err e) → EndsHere P work work region u u ls (Err e) (unless_keyword (noting known) here h n go s)
 tested_fails {B} known work region u ls s here n go h P (fault.At e) stands tests =
-    subst (λ (p : Result B Broken × ScopedState). EndsHere P work work region u u ls (Err (fault.At e)) p) (sym (unless_fails known here n go s h tests.0))
+    subst (λ (p : Result B Broken × Noting). EndsHere P work work region u u ls (Err (fault.At e)) p) (sym (unless_fails known here n go s h tests.0))
     (stays_itself work region u ls s stands, (record { fault = KeywordAsValue n; here = here }, refl, tests.1))
 tested_fails known work region u ls s here n go h P fault.Full stands tests = absurd tests
 tested_fails known work region u ls s here n go h P fault.Memory stands tests = absurd tests
-
--- a fault that is handed on
-pub tests_handed : (work : Work) (s : ScopedState) (here : Here) (n : Named Identifier) (h : Head) (r : Result (Unit {0}) ExpandFault) (e : ExpandFault) → IsErrAnd r (λ f. f ≡ e) → TestsVariable work s here n h (Err e) → TestsVariable work s here n h r
-tests_handed work s here n h (Ok u) e err tests = absurd err
-tests_handed work s here n h (Err f) e err tests = subst (λ (g : ExpandFault). TestsVariable work s here n h (Err g)) (sym err) tests
 
 -- a target in a form of a unit, however these are told
 pub target_at : (names : Names) (unit form n m : ℕ) (x : code_target.Target) (t : Target) → unit ≡ n → form ≡ m → IsTarget names n m x t → IsTarget names unit form x t
@@ -159,6 +159,41 @@ head_named work (list (tree (vector us p) ts) tail o) x h = absurd h
 -- its head is no macro's
 pub named_settled : (known : Known) (work : Work) (s : ScopedState) (fs : Frames) (t : Tree Identifier) (x : NamePart) (h : HeadNamed work t x) → not_macro (head_of (searched known) fs s h.ident) → IsSettled known s fs t
 named_settled known work s fs t x h plain = subst (λ (u : Tree Identifier). IsSettled known s fs u) (sym h.is) plain
+
+-- ---- the name at the head, as it is asked
+
+pub named_target : (work : Work) (s : ScopedState) (fs : Frames) (t : Tree Identifier) (x : NamePart) (h : HeadNamed work t x) (k : code_target.Target) → IsTarget work.symbols s.unit s.form k (used_at s fs (record { name = h.ident; occ = h.place })) →
+    IsHeadTarget work s fs (head_name_of t) (Some k)
+named_target work s fs t x h k is = subst (λ (u : Tree Identifier). IsHeadTarget work s fs (head_name_of u) (Some k)) (sym h.is) is
+
+pub nameless_target : (work : Work) (s : ScopedState) (fs : Frames) (o : Option (Named Identifier)) → IsNameIfAny work None o → IsHeadTarget work s fs o None
+nameless_target work s fs None h = tt
+nameless_target work s fs (Some n) h = h
+
+-- where a use of it was noted, it is asked
+pub head_noted : (known : Known) (work : Work) (v : UnitScope) (ls : List Frames) (s : Noting) (fs : Frames) (o : Option (Named Identifier)) (k : code_target.Target) → IsHeadTarget work (state_of s) fs o (Some k) →
+    ((n : Named Identifier) → TargetFor work s fs k n → Stands work v ls ((noting known).ask (Headed fs n.name ∷ []) s)) → Stands work v ls (head_asked known fs o s)
+head_noted known work v ls s fs None k h noted = absurd h
+head_noted known work v ls s fs (Some n) k h noted = noted n h
+
+-- it has a number
+pub head_within : (work : Work) (s : ScopedState) (fs : Frames) (o : Option (Named Identifier)) (k : code_target.Target) → IsHeadTarget work s fs o (Some k) → k.ident < length work.symbols.idents
+head_within work s fs None k h = absurd h
+head_within work s fs (Some n) k h = slice_get_within work.symbols.idents k.ident n.name h.ident
+
+-- nothing is asked where there is none
+pub nameless_asked : (known : Known) (work : Work) (u : UnitScope) (ls : List Frames) (s : Noting) (fs : Frames) (o : Option (Named Identifier)) → IsHeadTarget work (state_of s) fs o None → Stands work u ls s → Stands work u ls (head_asked known fs o s)
+nameless_asked known work u ls s fs None h e = e
+nameless_asked known work u ls s fs (Some n) h e = absurd h
+
+-- and stands plainly as it did
+pub head_plainly : (known : Known) (work : Work) (u : UnitScope) (ls : List Frames) (s : Noting) (fs : Frames) (o : Option (Named Identifier)) → Stands work u ls (head_asked known fs o s) → StandsPlainly work u ls (state_of s)
+head_plainly known work u ls s fs None e = plainly work u ls s e
+head_plainly known work u ls s fs (Some n) e = plainly work u ls ((noting known).ask (Headed fs n.name ∷ []) s) e
+
+-- where notes alone were changed, they are changed back
+pub notes_back : (u v : UnitScope) → v ≡ with_notes u v.form.trace.notes → u ≡ with_notes v u.form.trace.notes
+notes_back u v same = sym (ap (λ (x : UnitScope). with_notes x u.form.trace.notes) same)
 
 -- ---- whole trees
 

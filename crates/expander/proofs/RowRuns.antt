@@ -5,7 +5,7 @@ use Rattle.scheme_model.specs.Ident.{Ident as Identifier}
 use Rattle.scheme_model.specs.Requirements.{Known}
 use Rattle.scheme_model.specs.Steps.{Step}
 use Rattle.scheme_model.specs.Order.{Item}
-use Rattle.scheme_model.specs.ScopedExpansion.{Frames, ScopedState}
+use Rattle.scheme_model.specs.ScopedExpansion.{Frames}
 use Rattle.syntax_tree.specs.Looks.{PartsStand, AllNamed}
 use Rattle.syntax_tree.specs.Works.{KeepsTrees}
 use Rattle.syntax_tree.specs.declared.trees.Work.{Work}
@@ -20,7 +20,7 @@ use Rattle.core_tree.specs.declared.cores.CorePart as code_part
 use Rattle.scheme_model.specs.Cores.{Core, Part, Binders}
 use Rattle.expander.specs.Expanded.{AreAtWork, ClauseStands, ClausesAtWork, ClauseAtWork, AreKeptAtWork, KeptAtWork}
 use Rattle.unit_scopes.specs.Kept.{ClauseFor, KeptFor}
-use Rattle.unit_scopes.specs.Outcomes.{Grows, SameForm, Runs, IsAtWork}
+use Rattle.unit_scopes.specs.Outcomes.{Grows, SameForm, IsAtWork}
 use Rattle.feature_requirements.specs.declared.fault.ExpandFault.{ExpandFault}
 use Rattle.feature_requirements.specs.declared.fault.ExpandFault.TheVariants as fault
 use Rattle.form_parts.specs.declared.items.Kept as code_kept
@@ -30,10 +30,12 @@ use Rattle.unit_scopes.proofs.CoreStandLaws.{core_on, part_on, binders_on, claus
 use Rattle.expander.proofs.LoopLaws.{runs_more, runs_stop, memory_behind}
 use Rattle.unit_scopes.proofs.OutcomeLaws.{named_on}
 use Rattle.expander.proofs.RowLaws.{row, match_at}
+use Rattle.noted_steps.specs.Noting.{Noting}
+use Rattle.noted_steps.specs.Outcomes.{Runs}
 
 -- ---- one call more
 
-module _ {A X Y E : Type 0} (f : Known → Frames → A → Step ScopedState Y) (R : E → A → Type 0) (P Q : X → Y → Type 0) (on : (x : X) (y : Y) → P x y → Q x y) (a b c : Work) (region : Region) (u w v : UnitScope) (scope : ℕ)
+module _ {A X Y E : Type 0} (f : Known → Frames → A → Step Noting Y) (R : E → A → Type 0) (P Q : X → Y → Type 0) (on : (x : X) (y : Y) → P x y → Q x y) (a b c : Work) (region : Region) (u w v : UnitScope) (scope : ℕ)
     (xs : List X) (k : ℕ) (ns : List E) (es : List A) (d : E) (match : AllMatch R ns es) (within : k < length ns)
     (before : Runs (λ (layout : List Frames). AllMatch P) a b region u w scope (Ok xs) (λ known fs. row (f known fs) (take k es))) where
   abbrev Now : Result X ExpandFault → Type 0
@@ -49,16 +51,16 @@ module _ {A X Y E : Type 0} (f : Known → Frames → A → Step ScopedState Y) 
 
 -- ---- faults, which say nothing of values
 
-pub runs_fault : {X Y V : Type 0} (P : List Frames → X → Y → Type 0) (Q : List Frames → V → Y → Type 0) (a c : Work) (region : Region) (u v : UnitScope) (scope : ℕ) (e : ExpandFault) (f : Known → Frames → Step ScopedState Y) → Runs P a c region u v scope (Err e) f → Runs Q a c region u v scope (Err e) f
+pub runs_fault : {X Y V : Type 0} (P : List Frames → X → Y → Type 0) (Q : List Frames → V → Y → Type 0) (a c : Work) (region : Region) (u v : UnitScope) (scope : ℕ) (e : ExpandFault) (f : Known → Frames → Step Noting Y) → Runs P a c region u v scope (Err e) f → Runs Q a c region u v scope (Err e) f
 runs_fault P Q a c region u v scope e f runs = λ known ls s fs knows stands at. same_fault P Q a c region u v ls e (f known fs s) (runs known ls s fs knows stands at)
 
 -- ---- want of memory behind a call that went on
 
-pub runs_memory : {X Y V Z : Type 0} (P : List Frames → X → Y → Type 0) (Q : List Frames → V → Z → Type 0) (a c : Work) (region : Region) (u v : UnitScope) (scope : ℕ) (x : X) (f : Known → Frames → Step ScopedState Y) (g : Known → Frames → Step ScopedState Z) →
+pub runs_memory : {X Y V Z : Type 0} (P : List Frames → X → Y → Type 0) (Q : List Frames → V → Z → Type 0) (a c : Work) (region : Region) (u v : UnitScope) (scope : ℕ) (x : X) (f : Known → Frames → Step Noting Y) (g : Known → Frames → Step Noting Z) →
     Runs P a c region u v scope (Ok x) f → Runs Q a c region u v scope (Err fault.Memory) g
 runs_memory P Q a c region u v scope x f g runs = λ known ls s fs knows e at. memory_behind P Q a c region u v ls x (f known fs s) (g known fs s) (runs known ls s fs knows e at)
 
-module _ {A X Y E : Type 0} (f : Known → Frames → A → Step ScopedState Y) (R : E → A → Type 0) (P : X → Y → Type 0) (a b c : Work) (region : Region) (u w v : UnitScope) (scope : ℕ)
+module _ {A X Y E : Type 0} (f : Known → Frames → A → Step Noting Y) (R : E → A → Type 0) (P : X → Y → Type 0) (a b c : Work) (region : Region) (u w v : UnitScope) (scope : ℕ)
     (xs : List X) (k : ℕ) (ns : List E) (es : List A) (d : E) (match : AllMatch R ns es) (within : k < length ns)
     (before : Runs (λ (layout : List Frames). AllMatch P) a b region u w scope (Ok xs) (λ known fs. row (f known fs) (take k es))) where
   pub row_stops : {V Z : Type 0} (Q : List Frames → V → Y → Type 0) (S : List Frames → Z → List Y → Type 0) (x : ExpandFault) → ((e : A) → R (get_or ns k d) e → Runs Q b c region w v scope (Err x) (λ known fs. f known fs e)) →

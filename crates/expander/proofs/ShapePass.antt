@@ -11,7 +11,7 @@ use Rattle.scheme_model.specs.Ident.{Ident as Identifier}
 use Rattle.scheme_model.specs.Requirements.{Known}
 use Rattle.scheme_model.specs.Shapes.{Formals, Clause, RecordShape, Variable, Procedure as define_procedure}
 use Rattle.scheme_model.specs.Order.{Here, Form, Pending, Pass, Going, or_none, read_then, splice, record_names, run_define, run_values, run_record, run_syntax}
-use Rattle.scheme_model.specs.ScopedExpansion.{Frames, FramedIdent, ScopedState}
+use Rattle.scheme_model.specs.ScopedExpansion.{Frames, FramedIdent}
 use Rattle.syntax_tree.specs.Looks.{PartsStand, AllNamed}
 use Rattle.syntax_tree.specs.Works.{StandsFor, IsStanding}
 use Rattle.syntax_tree.specs.declared.trees.Work.{Work}
@@ -33,16 +33,16 @@ use Rattle.unit_scopes.specs.Defining.{HasNumber}
 use Rattle.unit_scopes.specs.Kept.{ClauseFor}
 use Rattle.unit_scopes.specs.Outcomes.{WorksOn}
 use Rattle.expander.specs.Passed.{ShapeFits, choices_size, pass_step, shape_weight}
-use Rattle.unit_scopes.specs.Searched.{searched}
 use Rattle.feature_requirements.specs.declared.fault.ExpandFault.{ExpandFault}
 use Rattle.expander.proofs.DefinitionSteps.{matched_length}
 use Rattle.expander.proofs.ShapeKinds.{as_sequence, as_choices, as_variable, as_procedure, as_values, as_syntax, as_record, records_alike}
+use Rattle.noted_steps.specs.Noting.{Noting, noting}
 
 -- G says how the code's step ends; what is to be shown is said of the definition's step by the shape
-module _ (known : Known) (work : Work) (region : Region) (s : ScopedState) (fs : Frames) (here : Here) (form : Form Identifier) (p : Pending Identifier FramedIdent) (given : ℕ) (G : (Going Identifier FramedIdent ScopedState → Pass Identifier FramedIdent × ScopedState) → Type 0)
+module _ (known : Known) (work : Work) (region : Region) (s : Noting) (fs : Frames) (here : Here) (form : Form Identifier) (p : Pending Identifier FramedIdent) (given : ℕ) (G : (Going Identifier FramedIdent Noting → Pass Identifier FramedIdent × Noting) → Type 0)
     (x : code.CoreShape) (m : Shape) (stands : ShapeFor work x m) (named : ShapeNamed work region x) (fits : ShapeFits m) (less : shape_weight m < given) where
   abbrev Goal : Shape → Type 0
-  Goal q = ShapeFits q → shape_weight q < given → G (λ go. pass_step (searched known) go here fs form p q s)
+  Goal q = ShapeFits q → shape_weight q < given → G (λ go. pass_step (noting known) go here fs form p q s)
 
   at_shape : (y : code.CoreShape) → x ≡ y → ShapeFor work y m
   at_shape y is = subst (λ (z : code.CoreShape). ShapeFor work z m) is stands
@@ -51,36 +51,36 @@ module _ (known : Known) (work : Work) (region : Region) (s : ScopedState) (fs :
   named_at y is = subst (λ (z : code.CoreShape). ShapeNamed work region z) is named
 
   pub begin_goes : (ns : Vec number.Tree Global) (xs : List number.Tree) → x ≡ shapes.Begin ns → xs ≡ ns.items →
-      ((ts : Trees Identifier) → PartsStand work xs ts → AllNamed work region xs → trees_size ts < given → G (λ go. splice (searched known) go here p ts s)) → G (λ go. pass_step (searched known) go here fs form p m s)
+      ((ts : Trees Identifier) → PartsStand work xs ts → AllNamed work region xs → trees_size ts < given → G (λ go. splice (noting known) go here p ts s)) → G (λ go. pass_step (noting known) go here fs form p m s)
   begin_goes ns xs is items next =
       as_sequence work Goal ns m (at_shape (shapes.Begin ns) is)
       (λ ts are fit few. next ts (subst (λ (l : List number.Tree). PartsStand work l ts) (sym items) are) (subst (λ (l : List number.Tree). AllNamed work region l) (sym items) (named_at (shapes.Begin ns) is)) few) fits less
 
   pub choices_goes : (cs : Vec Choice Global) (ys : List Choice) → x ≡ shapes.CondExpand cs → ys ≡ cs.items →
-      ((ps : List (Tree Identifier × Trees Identifier)) → AllMatch (IsChoice work) ys ps → AllByRecursion (ChoiceNamed work region) ys → choices_size ps < given → G (λ go. read_then (searched known) here p (chosen_among known ps) (λ c. splice (searched known) go here p (or_none c)) s)) →
-      G (λ go. pass_step (searched known) go here fs form p m s)
+      ((ps : List (Tree Identifier × Trees Identifier)) → AllMatch (IsChoice work) ys ps → AllByRecursion (ChoiceNamed work region) ys → choices_size ps < given → G (λ go. read_then (noting known) here p (chosen_among known ps) (λ c. splice (noting known) go here p (or_none c)) s)) →
+      G (λ go. pass_step (noting known) go here fs form p m s)
   choices_goes cs ys is items next =
       as_choices work Goal cs m (at_shape (shapes.CondExpand cs) is)
       (λ ps are fit few. next ps (subst (λ (l : List Choice). AllMatch (IsChoice work) l ps) (sym items) are) (subst (λ (l : List Choice). AllByRecursion (ChoiceNamed work region) l) (sym items) (named_at (shapes.CondExpand cs) is)) few) fits less
 
-  pub variable_goes : (n : NamePart) (v : number.Tree) → x ≡ shapes.Define n v → ((i : Named Identifier) (t : Tree Identifier) → IsName work n i → WorksOn work region v t → 1 < given → G (λ go. run_define (searched known) go here fs p (Variable i t) s)) →
-      G (λ go. pass_step (searched known) go here fs form p m s)
+  pub variable_goes : (n : NamePart) (v : number.Tree) → x ≡ shapes.Define n v → ((i : Named Identifier) (t : Tree Identifier) → IsName work n i → WorksOn work region v t → 1 < given → G (λ go. run_define (noting known) go here fs p (Variable i t) s)) →
+      G (λ go. pass_step (noting known) go here fs form p m s)
   variable_goes n v is next = as_variable work Goal n v m (at_shape (shapes.Define n v) is) (λ i t name value fit few. next i t name (value, named_at (shapes.Define n v) is) few) fits less
 
-  pub procedure_goes : (n : NamePart) (c : ClauseShape) → x ≡ shapes.Procedure n c → ((i : Named Identifier) (d : Clause Identifier) → IsName work n i → ClauseFor work region c d → 1 < given → G (λ go. run_define (searched known) go here fs p (define_procedure i d) s)) →
-      G (λ go. pass_step (searched known) go here fs form p m s)
+  pub procedure_goes : (n : NamePart) (c : ClauseShape) → x ≡ shapes.Procedure n c → ((i : Named Identifier) (d : Clause Identifier) → IsName work n i → ClauseFor work region c d → 1 < given → G (λ go. run_define (noting known) go here fs p (define_procedure i d) s)) →
+      G (λ go. pass_step (noting known) go here fs form p m s)
   procedure_goes n c is next = as_procedure work Goal n c m (at_shape (shapes.Procedure n c) is) (λ i d name clause fit few. next i d name (clause, named_at (shapes.Procedure n c) is, fit) few) fits less
 
-  pub values_goes : (a : code_formals.Formals) (v : number.Tree) → x ≡ shapes.Values a v → ((d : Formals Identifier) (t : Tree Identifier) → IsFormals work a d → WorksOn work region v t → length d.names < given → G (λ go. run_values (searched known) go here fs p (d, t) s)) →
-      G (λ go. pass_step (searched known) go here fs form p m s)
+  pub values_goes : (a : code_formals.Formals) (v : number.Tree) → x ≡ shapes.Values a v → ((d : Formals Identifier) (t : Tree Identifier) → IsFormals work a d → WorksOn work region v t → length d.names < given → G (λ go. run_values (noting known) go here fs p (d, t) s)) →
+      G (λ go. pass_step (noting known) go here fs form p m s)
   values_goes a v is next = as_values work Goal a v m (at_shape (shapes.Values a v) is) (λ d t formals value fit few. next d t formals (value, named_at (shapes.Values a v) is) few) fits less
 
-  pub syntax_goes : (n : NamePart) (v : number.Tree) → x ≡ shapes.DefineSyntax n v → ((i : Named Identifier) (t : Tree Identifier) → IsName work n i → StandsFor work v t → 1 < given → G (λ go. run_syntax (searched known) go here fs p (i, t) s)) →
-      G (λ go. pass_step (searched known) go here fs form p m s)
+  pub syntax_goes : (n : NamePart) (v : number.Tree) → x ≡ shapes.DefineSyntax n v → ((i : Named Identifier) (t : Tree Identifier) → IsName work n i → StandsFor work v t → 1 < given → G (λ go. run_syntax (noting known) go here fs p (i, t) s)) →
+      G (λ go. pass_step (noting known) go here fs form p m s)
   syntax_goes n v is next = as_syntax work Goal n v m (at_shape (shapes.DefineSyntax n v) is) (λ i t name value fit few. next i t name value few) fits less
 
   pub record_goes : (n c : NamePart) (us : Vec NamePart Global) (q : NamePart) (ys : Vec FieldShape Global) → x ≡ shapes.RecordType n c us q ys →
-      ((r : RecordShape Identifier) → IsRecord work n c us q ys r → length r.fields + length (record_names r) < given → G (λ go. run_record (searched known) go here fs p r s)) → G (λ go. pass_step (searched known) go here fs form p m s)
+      ((r : RecordShape Identifier) → IsRecord work n c us q ys r → length r.fields + length (record_names r) < given → G (λ go. run_record (noting known) go here fs p r s)) → G (λ go. pass_step (noting known) go here fs form p m s)
   record_goes n c us q ys is next = as_record work Goal n c us q ys m (at_shape (shapes.RecordType n c us q ys) is) (λ r stand fit few. next r stand few) fits less
 
 -- ---- what definitions demand, by the shape

@@ -1,25 +1,22 @@
 -- A macro use that is gone through: its comparisons are noted, and the tree that it gives comes next.
 use Rattle.std.proofs.Common.{◌≡◌, ℕ, ◌+◌, ◌*◌, ◌-◌, ◌<◌, ◌≤◌, List, [], ◌∷◌, ◌++◌, reverse, Some, Result, Ok, Err, refl, sym, ap, ◌∙◌, subst, arith}
 use Rattle.std.proofs.lemmas.List.{reverse-append}
-use Rattle.scheme_model.specs.Trees.{Tree, Trees, Tail}
+use Rattle.scheme_model.specs.Trees.{Trees, Tail}
 use Rattle.scheme_model.specs.Measures.{tree_size}
 use Rattle.scheme_model.specs.Ident.{Ident as Identifier}
 use Rattle.scheme_model.specs.Requirements.{Known}
 use Rattle.scheme_model.specs.Cores.{Target}
 use Rattle.scheme_model.specs.Steps.{Broken}
 use Rattle.scheme_model.specs.Order.{Here, Form, Note, LookedUp, Compared, Instance, Pending, Pass, Going, Transformer, first, waiting, noted, comparisons, use_of, run_use}
-use Rattle.scheme_model.specs.ScopedExpansion.{Frames, FramedIdent, ScopedState}
+use Rattle.scheme_model.specs.ScopedExpansion.{Frames, FramedIdent}
 use Rattle.syntax_tree.specs.Names.{KeepsNames, AreToldApart}
 use Rattle.syntax_tree.specs.declared.trees.Work.{Work}
-use Rattle.syntax_tree.specs.declared.trees.nodes.Tree as number
 use Rattle.syntax_tree.specs.declared.trees.table.Region.{Region}
 use Rattle.core_tree.specs.Names.{AllMatch}
-use Rattle.unit_scopes.specs.State.{Stands}
-use Rattle.unit_scopes.specs.Kept.{FormFor, KeptFor, WaitsFor, PendingFor, PlaceFor, NoteFor, NotesFor, SpotFor, forms_size}
-use Rattle.unit_scopes.specs.Outcomes.{Grows, Stays, EndsHere}
+use Rattle.unit_scopes.specs.Kept.{FormFor, KeptFor, WaitsFor, PendingFor, PlaceFor, NoteFor, NotesFor, forms_size}
+use Rattle.unit_scopes.specs.Outcomes.{Grows}
 use Rattle.unit_scopes.specs.Used.{InstanceFor}
 use Rattle.expander.specs.Passed.{GoesOn}
-use Rattle.unit_scopes.specs.Searched.{searched}
 use Rattle.unit_scopes.specs.declared.asked.Asked.{Asked}
 use Rattle.unit_scopes.specs.declared.asked.Asking.{Asking}
 use Rattle.unit_scopes.specs.declared.asked.Note as code_note
@@ -39,6 +36,11 @@ use Rattle.unit_scopes.proofs.CountingStands.{all_last}
 use Rattle.expander.proofs.DefinitionSteps.{caught_fails, caught_goes}
 use Rattle.expander.proofs.PassLaws.{spot_on}
 use Rattle.expander.proofs.UseSteps.{use_leaves}
+use Rattle.noted_steps.specs.Noting.{Noting, noting}
+use Rattle.noted_steps.specs.Standing.{Stands}
+use Rattle.noted_steps.specs.Outcomes.{Stays, EndsHere}
+use Rattle.noted_steps.specs.Kept.{SpotFor}
+use Rattle.noted_steps.specs.Used.{compared_first}
 
 -- ---- over a work that has grown
 
@@ -77,27 +79,27 @@ use_locals locals after size rest used later given same small is most = let less
 
 -- ---- the use
 
-module _ (known : Known) (old new : Work) (region : Region) (u v : UnitScope) (ls : List Frames) (s : ScopedState) (spot : Spot) (fs : Frames) (here : Here) (keyword : Target) (m : Transformer Frames Identifier) (form : Form Identifier) (ts : Trees Identifier) (tail : Tail Identifier)
-    (p : Pending Identifier FramedIdent) (given : ℕ) (before after : code_pending.Pending) (asked : Asked) (stands : Stands old u ls s) (placed : SpotFor old u ls s spot fs) (pending : PendingFor old region u.unit u.form.number before p)
-    (found : NotesFor old ls asked (comparisons (searched known) fs m ts tail s ++ p.notes)) (apart : AreToldApart new.symbols.idents) (scopes : v.env.scopes ≡ u.env.scopes) where
+module _ (known : Known) (old new : Work) (region : Region) (u v : UnitScope) (ls : List Frames) (s : Noting) (spot : Spot) (fs : Frames) (here : Here) (keyword : Target) (m : Transformer Frames Identifier) (form : Form Identifier) (ts : Trees Identifier) (tail : Tail Identifier)
+    (p : Pending Identifier FramedIdent) (given : ℕ) (before after : code_pending.Pending) (asked : Asked) (stands : Stands old u ls (compared_first (noting known) fs m ts tail s)) (placed : SpotFor old u ls s spot fs) (pending : PendingFor old region u.unit u.form.number before p)
+    (found : NotesFor old ls asked (comparisons (noting known) fs m ts tail s ++ p.notes)) (apart : AreToldApart new.symbols.idents) (scopes : v.env.scopes ≡ u.env.scopes) where
   abbrev noted_all : Pending Identifier FramedIdent
-  noted_all = noted (comparisons (searched known) fs m ts tail s) p
+  noted_all = noted (comparisons (noting known) fs m ts tail s) p
 
-  abbrev used : Result (Instance Identifier) Broken × ScopedState
-  used = use_of (searched known) here fs keyword m ts tail s
+  abbrev used : Result (Instance Identifier) Broken × Noting
+  used = use_of (noting known) here fs keyword m ts tail s
 
-  abbrev next : Going Identifier FramedIdent ScopedState → Instance Identifier → ScopedState → Pass Identifier FramedIdent × ScopedState
+  abbrev next : Going Identifier FramedIdent Noting → Instance Identifier → Noting → Pass Identifier FramedIdent × Noting
   next go i = go (first (record { here = here; tree = i.tree } ∷ []) (waiting i.met noted_all))
 
   abbrev Gives : code_instance.Instance → Instance Identifier → Type 0
   Gives = InstanceFor new region v.unit v.form.number
 
   spot_after : Stays old new region u v ls used.1 → SpotFor new v ls used.1 spot fs
-  spot_after h = spot_on old new u v ls s used.1 spot fs h.work.names apart stands scopes h.same.root (use_leaves known here fs keyword m ts tail s).definitions placed
+  spot_after h = spot_on old new u v ls (compared_first (noting known) fs m ts tail s) used.1 spot fs h.work.names apart stands scopes h.same.root (use_leaves known here fs keyword m ts tail s).definitions placed
 
   pub use_goes : (x : code_instance.Instance) → EndsHere Gives old new region u v ls (Ok x) used → v.form.budget.uses ≡ u.form.budget.uses + 1 → v.form.budget.locals ≡ u.form.budget.locals →
       after.todo.items ≡ before.todo.items ++ record { here = here; tree = x.tree } ∷ [] → after.aside.items ≡ before.aside.items → after.uses.items ≡ before.uses.items ++ x.met ∷ [] →
-      GoesOn old new region u v ls spot fs p.todo given after asked (Ok tt) (λ go. run_use (searched known) go here fs keyword (Some m) form ts tail p s)
+      GoesOn old new region u v ls spot fs p.todo given after asked (Ok tt) (λ go. run_use (noting known) go here fs keyword (Some m) form ts tail p s)
   use_goes x ends counted locals todo aside uses =
       let i = ends.0 in
       let stays = ends.1 in
@@ -115,14 +117,14 @@ module _ (known : Known) (old new : Work) (region : Region) (u v : UnitScope) (l
             aside = subst (λ (xs : List code_kept.Kept). AllMatch (KeptFor new region v.unit v.form.number) xs p.aside) (sym aside) grown.aside;
             uses = subst (λ (xs : List code_waiting.WaitingUse). AllMatch (WaitsFor new v.unit v.form.number) xs (p.uses ++ i.met ∷ [])) (sym uses) (all_last (WaitsFor new v.unit v.form.number) before.uses.items p.uses x.met i.met grown.uses ends.3.1);
           };
-          notes = notes_on old new ls stays.work.names apart asked (comparisons (searched known) fs m ts tail s ++ p.notes) found;
+          notes = notes_on old new ls stays.work.names apart asked (comparisons (noting known) fs m ts tail s ++ p.notes) found;
           less = use_less (tree_size i.tree) (forms_size p.todo) u.form.budget.uses v.form.budget.uses given small counted few;
           locals = use_locals u.form.budget.locals v.form.budget.locals (tree_size i.tree) (forms_size p.todo) u.form.budget.uses v.form.budget.uses given locals small counted few;
         },
         λ go. caught_goes noted_all.notes used i ends.2 (next go),
       )
 
-  pub use_fails : (e : ExpandFault) → EndsHere Gives old new region u v ls (Err e) used → GoesOn old new region u v ls spot fs p.todo given after asked (Err e) (λ go. run_use (searched known) go here fs keyword (Some m) form ts tail p s)
+  pub use_fails : (e : ExpandFault) → EndsHere Gives old new region u v ls (Err e) used → GoesOn old new region u v ls spot fs p.todo given after asked (Err e) (λ go. run_use (noting known) go here fs keyword (Some m) form ts tail p s)
   use_fails (fault.At e) ends = (
     noted_all.notes,
     ends.1.0,
@@ -130,7 +132,7 @@ module _ (known : Known) (old new : Work) (region : Region) (u v : UnitScope) (l
     record {
       stays = ends.0;
       placed = spot_after ends.0;
-      notes = notes_on old new ls ends.0.work.names apart asked (comparisons (searched known) fs m ts tail s ++ p.notes) found;
+      notes = notes_on old new ls ends.0.work.names apart asked (comparisons (noting known) fs m ts tail s ++ p.notes) found;
     },
     ends.1.2,
     λ go. caught_fails noted_all.notes used ends.1.0 ends.1.1 (next go),

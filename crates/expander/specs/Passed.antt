@@ -8,22 +8,26 @@ use Rattle.scheme_model.specs.Trees.{Tree, Trees}
 use Rattle.scheme_model.specs.Quasiquote.{Mark, quasi_of}
 use Rattle.scheme_model.specs.Shapes.{Clause, Variable as define_variable, Procedure as define_procedure}
 use Rattle.scheme_model.specs.Order.{Here, Left, Note, Pending, Pass, Going, Ops, or_none, read_then, splice, record_names, run_define, run_values, run_record, run_syntax, put, Expression, Form}
-use Rattle.scheme_model.specs.ScopedExpansion.{Frames, FramedIdent, ScopedState}
+use Rattle.scheme_model.specs.ScopedExpansion.{Frames, FramedIdent}
 use Rattle.syntax_tree.specs.declared.trees.Work.{Work}
 use Rattle.syntax_tree.specs.declared.trees.table.Region.{Region}
 use Rattle.core_forms.specs.Forms.{Shape, Quoted, Quasi, Procedure, Procedures, Conditional, Assignment, Sequence, Definition, Several, RecordType, Syntax, Local, Choices, ErrorText, Inclusion}
 use Rattle.core_tree.specs.Names.{AllMatch}
 use Rattle.core_tree.specs.Traces.{IsFault}
 use Rattle.feature_requirements.specs.Judged.{chosen_among}
-use Rattle.unit_scopes.specs.Kept.{ClauseFits, KeptFor, WaitsFor, PendingFor, NotesFor, SpotFor, left_with}
-use Rattle.unit_scopes.specs.Outcomes.{Stays, Leaves, MayFill}
-use Rattle.unit_scopes.specs.State.{Stands, most_locals}
+use Rattle.unit_scopes.specs.Kept.{ClauseFits, KeptFor, WaitsFor, PendingFor, NotesFor, left_with}
+use Rattle.unit_scopes.specs.Outcomes.{Leaves, MayFill}
+use Rattle.unit_scopes.specs.State.{most_locals}
 use Rattle.unit_scopes.specs.declared.asked.Asked.{Asked}
 use Rattle.feature_requirements.specs.declared.fault.ExpandFault.{ExpandFault}
 use Rattle.feature_requirements.specs.declared.fault.ExpandFault.TheVariants as fault
 use Rattle.form_parts.specs.declared.items.Pending as code_pending
 use Rattle.form_parts.specs.declared.items.Spot as code_spot
 use Rattle.unit_scopes.specs.declared.scope.UnitScope.{UnitScope}
+use Rattle.noted_steps.specs.Noting.{Noting}
+use Rattle.noted_steps.specs.Outcomes.{Stays}
+use Rattle.noted_steps.specs.Standing.{Stands}
+use Rattle.noted_steps.specs.Kept.{SpotFor}
 
 -- ---- what calls demand
 
@@ -31,7 +35,7 @@ use Rattle.unit_scopes.specs.declared.scope.UnitScope.{UnitScope}
 -- take are few
 pub record CanPass (work : Work) (region : Region) (u : UnitScope) (spot : code_spot.Spot) (given : ℕ) (todo : code_pending.Pending) (asked : Asked) : Type 0 where
   pub layout : List Frames
-  pub state : ScopedState
+  pub state : Noting
   pub frames : Frames
   pub left : Pending Identifier FramedIdent
   pub stands : Stands work u layout state
@@ -44,7 +48,7 @@ pub record CanPass (work : Work) (region : Region) (u : UnitScope) (spot : code_
 
 -- what a step leaves, where `before` was left with as many uses as the form had begun, and the step was given so much beside it:
 -- less is left, and locals were taken for what went
-pub record Reaches (old new : Work) (region : Region) (u v : UnitScope) (ls : List Frames) (spot : code_spot.Spot) (fs : Frames) (before : List (Form Identifier)) (given : ℕ) (todo : code_pending.Pending) (asked : Asked) (q : Pending Identifier FramedIdent) (t : ScopedState) : Type 0 where
+pub record Reaches (old new : Work) (region : Region) (u v : UnitScope) (ls : List Frames) (spot : code_spot.Spot) (fs : Frames) (before : List (Form Identifier)) (given : ℕ) (todo : code_pending.Pending) (asked : Asked) (q : Pending Identifier FramedIdent) (t : Noting) : Type 0 where
   pub stays : Stays old new region u v ls t
   pub placed : SpotFor new v ls t spot fs
   pub pending : PendingFor new region v.unit v.form.number todo q
@@ -53,18 +57,18 @@ pub record Reaches (old new : Work) (region : Region) (u v : UnitScope) (ls : Li
   pub locals : v.form.budget.locals + left_with q.todo v.form.budget.uses ≤ u.form.budget.locals + left_with before u.form.budget.uses + given
 
 -- a fault ends the pass; the notes stay
-pub record Stops (old new : Work) (region : Region) (u v : UnitScope) (ls : List Frames) (spot : code_spot.Spot) (fs : Frames) (asked : Asked) (ns : List (Note FramedIdent)) (t : ScopedState) : Type 0 where
+pub record Stops (old new : Work) (region : Region) (u v : UnitScope) (ls : List Frames) (spot : code_spot.Spot) (fs : Frames) (asked : Asked) (ns : List (Note FramedIdent)) (t : Noting) : Type 0 where
   pub stays : Stays old new region u v ls t
   pub placed : SpotFor new v ls t spot fs
   pub notes : NotesFor new ls asked ns
 
 -- the code's step is the definition's, whatever goes on behind it
-abbrev pub GoesOn : Work → Work → Region → UnitScope → UnitScope → List Frames → code_spot.Spot → Frames → List (Form Identifier) → (given : ℕ) → code_pending.Pending → Asked → Result (Unit {0}) ExpandFault → (Going Identifier FramedIdent ScopedState → Pass Identifier FramedIdent × ScopedState) → Type 0
+abbrev pub GoesOn : Work → Work → Region → UnitScope → UnitScope → List Frames → code_spot.Spot → Frames → List (Form Identifier) → (given : ℕ) → code_pending.Pending → Asked → Result (Unit {0}) ExpandFault → (Going Identifier FramedIdent Noting → Pass Identifier FramedIdent × Noting) → Type 0
 GoesOn old new region u v ls spot fs before given todo asked (Ok done) step =
-    (q : Pending Identifier FramedIdent) × (t : ScopedState) × Reaches old new region u v ls spot fs before given todo asked q t × ((go : Going Identifier FramedIdent ScopedState) → step go ≡ go q t)
+    (q : Pending Identifier FramedIdent) × (t : Noting) × Reaches old new region u v ls spot fs before given todo asked q t × ((go : Going Identifier FramedIdent Noting) → step go ≡ go q t)
 GoesOn old new region u v ls spot fs before given todo asked (Err (fault.At e)) step =
-    (ns : List (Note FramedIdent)) × (b : Broken) × (t : ScopedState) × Stops old new region u v ls spot fs asked ns t × IsFault new.symbols e b
-    × ((go : Going Identifier FramedIdent ScopedState) → step go ≡ (record { notes = ns; left = Err b }, t))
+    (ns : List (Note FramedIdent)) × (b : Broken) × (t : Noting) × Stops old new region u v ls spot fs asked ns t × IsFault new.symbols e b
+    × ((go : Going Identifier FramedIdent Noting) → step go ≡ (record { notes = ns; left = Err b }, t))
 GoesOn old new region u v ls spot fs before given todo asked (Err fault.Full) step = Leaves old new region u × MayFill old u
 GoesOn old new region u v ls spot fs before given todo asked (Err fault.Memory) step = Leaves old new region u
 
@@ -76,7 +80,7 @@ pub record IsLeftOf (work : Work) (region : Region) (unit form : ℕ) (q : code_
   pub uses : AllMatch (WaitsFor work unit form) q.uses.items l.uses
 
 -- what is left, or the fault; the notes beside it
-abbrev pub Passes : Work → Work → Region → UnitScope → UnitScope → List Frames → code_spot.Spot → Frames → (most : ℕ) → code_pending.Pending → Asked → Result (Unit {0}) ExpandFault → Pass Identifier FramedIdent × ScopedState → Type 0
+abbrev pub Passes : Work → Work → Region → UnitScope → UnitScope → List Frames → code_spot.Spot → Frames → (most : ℕ) → code_pending.Pending → Asked → Result (Unit {0}) ExpandFault → Pass Identifier FramedIdent × Noting → Type 0
 Passes old new region u v ls spot fs most todo asked (Ok done) p =
     (l : Left Identifier) × (p.0.left ≡ Ok l) × Stops old new region u v ls spot fs asked p.0.notes p.1 × IsLeftOf new region v.unit v.form.number todo l
     × (v.form.budget.locals ≤ u.form.budget.locals + most)

@@ -1,5 +1,5 @@
 -- How an expression is read in the code, up to its parts that are to be expanded (R7RS 4.1, 4.2).
-use Rattle.std.specs.Prelude.{◌≡◌, ◌⊎◌, ℕ, suc, List, [], Vec, true, false, Option, Some, None, Result, Ok, Err}
+use Rattle.std.specs.Prelude.{◌≡◌, ◌⊎◌, ℕ, suc, List, [], ◌∷◌, Vec, true, false, Option, Some, None, Result, Ok, Err}
 use Rattle.scheme_model.specs.declared.Occ.{Occ}
 use Rattle.scheme_model.specs.Ident.{Ident as Identifier}
 use Rattle.scheme_model.specs.Keywords.{CoreKeyword}
@@ -9,10 +9,14 @@ use Rattle.scheme_model.specs.ExpansionFaults.{Named, KeywordAsValue}
 use Rattle.scheme_model.specs.Cores.{Target, Core, Call}
 use Rattle.scheme_model.specs.Steps.{Broken, Step, ◌>>=◌, done}
 use Rattle.scheme_model.specs.Requirements.{Known}
-use Rattle.scheme_model.specs.Order.{Transformer, head_of, target_of, use_of, meet_waiting}
+use Rattle.scheme_model.specs.Order.{Transformer, Headed, RulesOf, head_of, target_of, use_of, meet_waiting}
 use Rattle.scheme_model.specs.Expression.{Expander, whole, node, each, expression, expand}
-use Rattle.scheme_model.specs.ScopedExpansion.{Frames, ScopedState, macro_at}
 use Rattle.scheme_model.specs.CountedExpansion.{means_here}
+use Rattle.scheme_model.specs.ScopedExpansion.{Frames, ScopedState, macro_at}
+use Rattle.form_parts.specs.FormsSeen.{head_name_of}
+use Rattle.unit_scopes.specs.Searched.{searched}
+use Rattle.unit_scopes.specs.State.{Stands}
+use Rattle.unit_scopes.specs.Used.{target_at}
 use Rattle.core_tree.specs.Names.{IsTarget}
 use Rattle.core_tree.specs.declared.cores.Target as code_target
 use Rattle.syntax_tree.specs.Looks.{PartsStand, AllNamed}
@@ -30,10 +34,8 @@ use Rattle.std.specs.declared.alloc.Global.{Global}
 use Rattle.feature_requirements.specs.Faults.{plain_fault}
 use Rattle.unit_scopes.specs.Counts.{Begins}
 use Rattle.expander.specs.CoreSteps.{core_step, IsLeft}
-use Rattle.unit_scopes.specs.State.{Stands}
-use Rattle.unit_scopes.specs.Outcomes.{At, Stays, Leaves, MayFill, Breaks, WorksOn, IsEnough, IsEnoughBelow}
+use Rattle.unit_scopes.specs.Outcomes.{At, Leaves, MayFill, WorksOn, IsEnough, IsEnoughBelow}
 use Rattle.expander.specs.Passed.{ShapeFits}
-use Rattle.unit_scopes.specs.Searched.{searched}
 use Rattle.expander.specs.declared.expressions.At as code_at
 use Rattle.expander.specs.declared.expressions.Headed as code_headed
 use Rattle.expander.specs.declared.expressions.Headed.TheVariants as headed
@@ -42,9 +44,11 @@ use Rattle.expander.specs.declared.expressions.Ready.TheVariants as ready
 use Rattle.feature_requirements.specs.declared.fault.ExpandFault.{ExpandFault}
 use Rattle.feature_requirements.specs.declared.fault.ExpandFault.TheVariants as fault
 use Rattle.unit_scopes.specs.declared.scope.UnitScope.{UnitScope}
+use Rattle.noted_steps.specs.Noting.{Noting, state_of, noting}
+use Rattle.noted_steps.specs.Outcomes.{Stays, Breaks}
 
 abbrev pub Expanding : Type 0
-Expanding = Expander Frames Identifier ScopedState
+Expanding = Expander Frames Identifier Noting
 
 -- ---- macro uses at the head
 
@@ -73,9 +77,13 @@ IsMacroKeyword work known s fs t (Some keyword) =
     × (t ≡ list (tree (name i p) ts) tail o) × IsTarget work.symbols s.unit s.form keyword (target_of (searched known) fs s i p)
     × (head_of (searched known) fs s i ≡ IsMacro (means_here s fs i)) × (macro_at s.macros (means_here s fs i) ≡ Some m)
 
--- one use of a macro, which is met at once: the tree that it gives
-abbrev pub use_met : Known → Option Occ → Frames → Target → Transformer Frames Identifier → Trees Identifier → Tail Identifier → Step ScopedState (Tree Identifier)
-use_met known here fs keyword m ts tail s = use_of (searched known) here fs keyword m ts tail s >>= λ i t. done i.tree (meet_waiting (searched known) fs i.met t)
+-- the rules of a macro are asked
+abbrev pub rules_asked : Known → Target → Noting → Noting
+rules_asked known keyword s = (noting known).ask (RulesOf keyword.meaning ∷ []) s
+
+-- one use of a macro, whose rules are asked, and which is met at once: the tree that it gives
+abbrev pub use_met : Known → Option Occ → Frames → Target → Transformer Frames Identifier → Trees Identifier → Tail Identifier → Step Noting (Tree Identifier)
+use_met known here fs keyword m ts tail s = use_of (noting known) here fs keyword m ts tail (rules_asked known keyword s) >>= λ i t. done i.tree (meet_waiting (noting known) fs i.met t)
 
 -- ---- lists
 
@@ -103,11 +111,19 @@ IsCoreKeyword work known s fs t (Some k) =
     (i : Identifier) × (p : Option Occ) × (ts : Trees Identifier) × (tail : Tail Identifier) × (o : Option Occ) × (c : CoreKeyword)
     × (t ≡ list (tree (name i p) ts) tail o) × (keyword_as k.0 ≡ Some c) × (head_of (searched known) fs s i ≡ IsCore c) × IsTarget work.symbols s.unit s.form k.1 (target_of (searched known) fs s i p)
 
--- what stands at the head: the keyword of a macro, that of a core form, or neither
+-- a use of the name at the head, where one is there
+abbrev pub IsHeadTarget : Work → ScopedState → Frames → Option (Named Identifier) → Option code_target.Target → Type 0
+IsHeadTarget work s fs None None = Unit {0}
+IsHeadTarget work s fs None (Some x) = ⊥
+IsHeadTarget work s fs (Some n) None = ⊥
+IsHeadTarget work s fs (Some n) (Some x) = IsTarget work.symbols s.unit s.form x (target_at s fs n)
+
+-- what stands at the head: the keyword of a macro, that of a core form, another name, or no name
 abbrev pub IsHeaded : Work → Known → ScopedState → Frames → Tree Identifier → code_headed.Headed → Type 0
 IsHeaded work known s fs t (headed.Macro keyword) = IsMacroKeyword work known s fs t (Some keyword)
 IsHeaded work known s fs t (headed.Core core keyword) = IsSettled known s fs t × IsCoreKeyword work known s fs t (Some (core, keyword))
-IsHeaded work known s fs t headed.Plain = IsSettled known s fs t × IsPlain known s fs t
+IsHeaded work known s fs t (headed.Plain keyword) = IsSettled known s fs t × IsPlain known s fs t × IsHeadTarget work s fs (head_name_of t) (Some keyword)
+IsHeaded work known s fs t headed.Nameless = IsSettled known s fs t × IsPlain known s fs t × IsHeadTarget work s fs (head_name_of t) None
 
 -- the keyword of a core form at the head of a form of the code, or that there is none
 abbrev pub HasCore : Work → UnitScope → (scope : ℕ) → number.Tree → Option (code_keyword.CoreKeyword × code_target.Target) → Type 0
@@ -121,16 +137,21 @@ IsCall ns tail here (Err (fault.At e)) = (fault.At e ≡ plain_fault here 31) ×
 IsCall ns tail here (Err fault.Full) = ⊥
 IsCall ns tail here (Err fault.Memory) = Unit {0}
 
+-- the name at the head of a list is asked
+abbrev pub head_asked : Known → Frames → Option (Named Identifier) → Noting → Noting
+head_asked known fs None s = s
+head_asked known fs (Some n) s = (noting known).ask (Headed fs n.name ∷ []) s
+
 -- what is come to when all macros at the head are used: the same core in fewer turns, which are still enough
-pub record Settled (known : Known) (depth turns : ℕ) (fs : Frames) (u v : UnitScope) (p : Result Core Broken × ScopedState) (here : Option Occ) (t : Tree Identifier) (s : ScopedState) : Type 0 where
+pub record Settled (known : Known) (depth turns : ℕ) (fs : Frames) (u v : UnitScope) (p : Result Core Broken × Noting) (here : Option Occ) (t : Tree Identifier) (s : Noting) : Type 0 where
   pub turns_left : ℕ
   pub enough : IsEnough depth v.form.budget.uses (suc turns_left)
-  pub settled : IsSettled known s fs t
-  pub same : p ≡ expression (expand (searched known) turns_left) (searched known) depth here fs t s
+  pub settled : IsSettled known (state_of s) fs t
+  pub same : p ≡ expression (expand (noting known) turns_left) (noting known) depth here fs t s
 
-abbrev pub Settles : Known → (depth turns : ℕ) → Work → Work → Region → UnitScope → UnitScope → List Frames → Frames → Result (number.Tree × Option Occ) ExpandFault → Result Core Broken × ScopedState → Type 0
+abbrev pub Settles : Known → (depth turns : ℕ) → Work → Work → Region → UnitScope → UnitScope → List Frames → Frames → Result (number.Tree × Option Occ) ExpandFault → Result Core Broken × Noting → Type 0
 Settles known depth turns old new region u v ls fs (Ok x) p =
-    (t : Tree Identifier) × (s : ScopedState) × Stays old new region u v ls s × WorksOn new region x.0 t × Settled known depth turns fs u v p x.1 t s
+    (t : Tree Identifier) × (s : Noting) × Stays old new region u v ls (head_asked known fs (head_name_of t) s) × WorksOn new region x.0 t × Settled known depth turns fs u v p x.1 t s
 Settles known depth turns old new region u v ls fs (Err (fault.At e)) p = Stays old new region u v ls p.1 × ((b : Broken) × (p.0 ≡ Err b) × IsFault new.symbols e b)
 Settles known depth turns old new region u v ls fs (Err fault.Full) p = Leaves old new region u × MayFill old u
 Settles known depth turns old new region u v ls fs (Err fault.Memory) p = Leaves old new region u
@@ -143,29 +164,29 @@ come_to (Err e) = Err e
 -- ---- an expression that was read
 
 -- it has its core; or it is a call of these parts; or a core form of this shape
-abbrev pub ReadyFor : Known → (depth : ℕ) → Option Occ → Work → Region → (unit form : ℕ) → Frames → code_ready.Ready → (Expanding → Result Core Broken × ScopedState) → ScopedState → Type 0
+abbrev pub ReadyFor : Known → (depth : ℕ) → Option Occ → Work → Region → (unit form : ℕ) → Frames → code_ready.Ready → (Expanding → Result Core Broken × Noting) → Noting → Type 0
 ReadyFor known depth here work region unit form fs (ready.Core c) step t = (m : Core) × CoreStands work unit form c m × ((f : Expanding) → step f ≡ done m t)
 ReadyFor known depth here work region unit form fs (ready.Call parts) step t =
     (ts : Trees Identifier) × PartsStand work parts.items ts × AllNamed work region parts.items
-    × ((f : Expanding) → step f ≡ node (searched known) here 1 depth (λ below t1. each (λ u. f below here fs (whole u)) ts t1 >>= λ cs. done (Call cs)) t)
+    × ((f : Expanding) → step f ≡ node (noting known) here 1 depth (λ below t1. each (λ u. f below here fs (whole u)) ts t1 >>= λ cs. done (Call cs)) t)
 ReadyFor known depth here work region unit form fs (ready.Shape k shape) step t =
     (c : CoreKeyword) × (m : Shape) × (keyword_as k ≡ Some c) × ShapeFor work shape m × ShapeNamed work region shape × (ShapeFits m × IsLeft m)
-    × ((f : Expanding) → step f ≡ core_step f (searched known) depth here fs c m t)
+    × ((f : Expanding) → step f ≡ core_step f (noting known) depth here fs c m t)
 
-abbrev pub Reads : Known → (depth : ℕ) → Option Occ → Work → Region → UnitScope → UnitScope → List Frames → Frames → Result code_ready.Ready ExpandFault → (Expanding → Result Core Broken × ScopedState) → Type 0
-Reads known depth here work region u v ls fs (Ok x) step = (t : ScopedState) × Stays work work region u v ls t × ReadyFor known depth here work region v.unit v.form.number fs x step t
+abbrev pub Reads : Known → (depth : ℕ) → Option Occ → Work → Region → UnitScope → UnitScope → List Frames → Frames → Result code_ready.Ready ExpandFault → (Expanding → Result Core Broken × Noting) → Type 0
+Reads known depth here work region u v ls fs (Ok x) step = (t : Noting) × Stays work work region u v ls t × ReadyFor known depth here work region v.unit v.form.number fs x step t
 Reads known depth here work region u v ls fs (Err (fault.At e)) step =
-    (b : Broken) × (t : ScopedState) × Stays work work region u v ls t × IsFault work.symbols e b × ((f : Expanding) → step f ≡ (Err b, t))
+    (b : Broken) × (t : Noting) × Stays work work region u v ls t × IsFault work.symbols e b × ((f : Expanding) → step f ≡ (Err b, t))
 Reads known depth here work region u v ls fs (Err fault.Full) step = Leaves work work region u × MayFill work u
 Reads known depth here work region u v ls fs (Err fault.Memory) step = Leaves work work region u
 
 -- ---- an expression that was settled and read
 
 -- what is left of it, in fewer turns that are still enough for what stands deeper
-abbrev pub Prepares : Known → (depth : ℕ) → Work → Work → Region → UnitScope → UnitScope → List Frames → Frames → Result (Option Occ × code_ready.Ready) ExpandFault → Result Core Broken × ScopedState → Type 0
+abbrev pub Prepares : Known → (depth : ℕ) → Work → Work → Region → UnitScope → UnitScope → List Frames → Frames → Result (Option Occ × code_ready.Ready) ExpandFault → Result Core Broken × Noting → Type 0
 Prepares known depth old new region u v ls fs (Ok x) p =
-    (left : ℕ) × (step : Expanding → Result Core Broken × ScopedState) × (t : ScopedState) × Stays old new region u v ls t × IsEnoughBelow depth v.form.budget.uses left
-    × (p ≡ step (expand (searched known) left)) × ReadyFor known depth x.0 new region v.unit v.form.number fs x.1 step t
+    (left : ℕ) × (step : Expanding → Result Core Broken × Noting) × (t : Noting) × Stays old new region u v ls t × IsEnoughBelow depth v.form.budget.uses left
+    × (p ≡ step (expand (noting known) left)) × ReadyFor known depth x.0 new region v.unit v.form.number fs x.1 step t
 Prepares known depth old new region u v ls fs (Err (fault.At e)) p = Stays old new region u v ls p.1 × Breaks new e p
 Prepares known depth old new region u v ls fs (Err fault.Full) p = Leaves old new region u × MayFill old u
 Prepares known depth old new region u v ls fs (Err fault.Memory) p = Leaves old new region u
@@ -173,7 +194,7 @@ Prepares known depth old new region u v ls fs (Err fault.Memory) p = Leaves old 
 -- ---- smaller steps
 
 -- a keyword is no variable
-abbrev pub TestsVariable : Work → ScopedState → Option Occ → Named Identifier → Head → Result (Unit {0}) ExpandFault → Type 0
+abbrev pub TestsVariable : Work → Noting → Option Occ → Named Identifier → Head → Result (Unit {0}) ExpandFault → Type 0
 TestsVariable work s here n h (Ok u) = is_keyword h ≡ false
 TestsVariable work s here n h (Err (fault.At e)) = (is_keyword h ≡ true) × IsFault work.symbols e (record { fault = KeywordAsValue n; here = here })
 TestsVariable work s here n h (Err fault.Full) = ⊥

@@ -6,20 +6,20 @@ ghost use Rattle.scheme_model.specs.Identifiers.{Number};
 ghost use Rattle.scheme_model.specs.Measures.{trees_size};
 ghost use Rattle.scheme_model.specs.Requirements.{Known};
 ghost use Rattle.scheme_model.specs.Trees.{Trees};
-ghost use Rattle.scheme_model.specs.Steps.{done};
 ghost use Rattle.scheme_model.specs.Order.{RulesParts};
-ghost use Rattle.scheme_model.specs.Expression.{heads, keep_all, local_defs};
-ghost use Rattle.scheme_model.specs.ScopedExpansion.{Frames, ScopedState};
+ghost use Rattle.scheme_model.specs.Expression.{heads, keep_all, local_defs, locals_asked};
+ghost use Rattle.scheme_model.specs.ScopedExpansion.{Frames};
 ghost use Rattle.syntax_tree.specs.Looks.{PartsStand};
 ghost use Rattle.syntax_tree.specs.Works.{IsOpened};
 ghost use Rattle.syntax_tree.specs.declared.trees.table.Region.{Region as AnyRegion};
 ghost use Rattle.core_forms.specs.Parts.{AreMacros};
 ghost use Rattle.core_tree.specs.Names.{AllMatch, IsMacro as IsMacroDef};
-ghost use Rattle.expander.specs.Bodies.{AreLocalMacros, BodyFor, CanEnter, CanKeep, HaveHeads, HaveNumbers, HaveRules, body_pass};
-ghost use Rattle.unit_scopes.specs.Searched.{searched};
-ghost use Rattle.unit_scopes.specs.State.{Stands};
-ghost use Rattle.unit_scopes.specs.Outcomes.{At as Stand, CanLook, EndsHere, Runs};
-ghost use Rattle.unit_scopes.specs.RulesTold.{Tests};
+ghost use Rattle.expander.specs.Bodies.{AreLocalMacros, BodyFor, CanEnter, CanKeep, HaveHeads, HaveNumbers, HaveRules, RulesAre, body_pass};
+ghost use Rattle.unit_scopes.specs.Outcomes.{At as Stand};
+ghost use Rattle.noted_steps.specs.Noting.{Noting, noting};
+ghost use Rattle.noted_steps.specs.Standing.{Stands, with_notes};
+ghost use Rattle.noted_steps.specs.Outcomes.{EndsHere, Runs};
+ghost use Rattle.noted_steps.specs.Kept.{CanLook};
 
 use crate::expressions::At;
 use crate::passes::pass;
@@ -28,6 +28,8 @@ use core_tree::cores::{Binder, MacroDef};
 use feature_requirements::fault::ExpandFault;
 use form_parts::items::{Kept, Pending, Spot, forms_at};
 use ls_base::Mem;
+use noted_steps::rules::{note_locals, test_rules};
+use noted_steps::uses::meet_all;
 use scheme_model::Occ;
 use scope_env::ScopeNo;
 use std::alloc::Global;
@@ -80,25 +82,27 @@ pub(crate) fn pass_body(
         aside,
         uses,
     } = pending;
-    units.meet_all(alloc, work, scope, uses.as_slice())?;
+    meet_all(units, alloc, work, scope, uses.as_slice())?;
     Ok((scope, aside))
 }
 
-/// Tests the heads of the rules of local macros, in order.
+/// Tests the heads of the rules of local macros, in order. They are noted.
 pub(crate) fn test_all_rules(
-    units: &UnitScope,
+    units: &mut UnitScope,
     work: &Work,
     scope: ScopeNo,
     here: Option<Occ>,
     macros: &[LocalMacro],
 ) -> Result<(), ExpandFault>
-    requires look { CanLook work.now units.now scope }
+    requires look { CanLook work.now units.old scope }
     requires rules { HaveRules work.now macros.now }
-    ensures { (known : Known) (ls : List Frames) (s : ScopedState) (fs : Frames) (ns : List (Named Identifier)) (ts : Trees Identifier) → Stands work.now units.now ls s →
-        Stand ls scope fs → AreMacros work.now macros.now ns ts → Tests work.now s result (heads (searched known) here fs ts s) }
+    ensures tested { (known : Known) (region : AnyRegion) (ls : List Frames) (s : Noting) (fs : Frames) (ns : List (Named Identifier)) (ts : Trees Identifier) → Stands work.now units.old ls s →
+        Stand ls scope fs → AreMacros work.now macros.now ns ts →
+        EndsHere (λ (passed : Unit {0}) (parts : List (RulesParts Identifier)). Unit {0}) work.now work.now region units.old units.new ls result (heads (noting known) here fs ts s) }
+    ensures rest { units.new ≡ with_notes units.old units.new.form.trace.notes }
 {
     for local in macros {
-        units.test_rules(work, scope, here, local.rules)?;
+        test_rules(units, work, scope, here, local.rules)?;
     }
     Ok(())
 }
@@ -117,9 +121,9 @@ pub(crate) fn keep_all(
     requires opened { (region : AnyRegion) × IsOpened work.now region }
     requires rules { HaveHeads work.now macros.now }
     requires binders { length binders.now ≡ length macros.now }
-    ensures kept { (known : Known) (region : AnyRegion) (ls : List Frames) (s : ScopedState) (fs : Frames) (ns : List (Named Identifier)) (ts : Trees Identifier) (vs : List Number) (rs : List (RulesParts Identifier)) →
-        Stands work.now units.old ls s → Stand ls scope fs → AreMacros work.now macros.now ns ts → HaveNumbers s binders.now vs → heads (searched known) here fs ts s ≡ done rs s →
-        EndsHere (λ (kept : Unit {0}) (also : Unit {0}). Unit {0}) work.now work.now region units.old units.new ls result (keep_all (searched known) here fs vs ts rs s) }
+    ensures kept { (known : Known) (region : AnyRegion) (ls : List Frames) (s : Noting) (fs : Frames) (ns : List (Named Identifier)) (ts : Trees Identifier) (vs : List Number) (rs : List (RulesParts Identifier)) →
+        Stands work.now units.old ls s → Stand ls scope fs → AreMacros work.now macros.now ns ts → HaveNumbers s binders.now vs → RulesAre ts rs →
+        EndsHere (λ (kept : Unit {0}) (also : Unit {0}). Unit {0}) work.now work.now region units.old units.new ls result (keep_all (noting known) here fs vs ts rs s) }
     ensures counts { OnOk result ((units.new.form.budget.locals ≡ units.old.form.budget.locals) × (units.new.form.budget.uses ≡ units.old.form.budget.uses)) }
 {
     work.symbols.told_apart();
@@ -132,22 +136,26 @@ pub(crate) fn keep_all(
     Ok(())
 }
 
-/// Local macros with their leaves.
+/// Local macros with their leaves. What these ask is noted.
 pub(crate) fn local_defs(
-    units: &UnitScope,
+    units: &mut UnitScope,
     alloc: Global,
     work: &Work,
     binders: &[Binder],
 ) -> Mem<Vec<MacroDef>>
-    requires { CanKeep work.now units.now binders.now }
-    ensures { (known : Known) (ls : List Frames) (s : ScopedState) (vs : List Number) (ns : List (Named Identifier)) → Stands work.now units.now ls s →
+    requires { CanKeep work.now units.old binders.now }
+    ensures defs { (known : Known) (ls : List Frames) (s : Noting) (vs : List Number) (ns : List (Named Identifier)) → Stands work.now units.old ls s →
         AreLocalMacros work.now s binders.now vs ns →
-        IfOk result (λ defs. AllMatch (IsMacroDef work.now s.unit s.form) defs.items (local_defs (searched known) s vs ns)) }
+        IfOk result (λ defs. AllMatch (IsMacroDef work.now s.unit s.form) defs.items (local_defs (noting known) s vs ns)) }
+    ensures noted { (known : Known) (ls : List Frames) (s : Noting) (vs : List Number) (ns : List (Named Identifier)) → Stands work.now units.old ls s →
+        AreLocalMacros work.now s binders.now vs ns → OnOk result (Stands work.now units.new ls ((noting known).ask (locals_asked (noting known) s vs ns) s)) }
+    ensures rest { units.new ≡ with_notes units.old units.new.form.trace.notes }
 {
     let mut defs = Vec::new(alloc);
     for binder in binders {
         let def = units.macro_def(alloc, work, *binder, Meaning::Local(binder.number))?;
         defs.push(def)?;
     }
+    note_locals(units, work, &defs);
     Ok(defs)
 }

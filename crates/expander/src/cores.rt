@@ -6,7 +6,7 @@ ghost use Rattle.scheme_model.specs.Trees.{Tree as ModelTree, Trees};
 ghost use Rattle.scheme_model.specs.Shapes.{Clause as ModelClause, LocalMacros};
 ghost use Rattle.scheme_model.specs.ExpansionFaults.{Named};
 ghost use Rattle.scheme_model.specs.Order.{Item};
-ghost use Rattle.scheme_model.specs.Expression.{whole, body, expand, each_of, procedure, clauses, lambda, assignment, sequence, item_part, parts};
+ghost use Rattle.scheme_model.specs.Expression.{whole, body, expand, each_of, procedure, clauses, lambda, assignment, sequence, set, item_part, parts};
 ghost use Rattle.syntax_tree.specs.Works.{IsOpened, StandsFor};
 ghost use Rattle.syntax_tree.specs.Looks.{PartsStand};
 ghost use Rattle.core_forms.specs.Ends.{keyword_as, ShapeFor};
@@ -15,15 +15,17 @@ ghost use Rattle.core_forms.specs.Parts.{AreMacros, IsName};
 ghost use Rattle.core_tree.specs.Cores.{CoreStands, CoresStand, ClausesStand, PartStands, PartsStand as PartsOfCores};
 ghost use Rattle.core_tree.specs.Names.{AllMatch};
 ghost use Rattle.expander.specs.CoreSteps.{case_lambda, conditional, core_step, IsLeft};
-ghost use Rattle.unit_scopes.specs.Searched.{searched};
 ghost use Rattle.unit_scopes.specs.Defining.{HasNumber};
 ghost use Rattle.unit_scopes.specs.Kept.{ClauseFor, KeptFor};
 ghost use Rattle.expander.specs.Passed.{ShapeFits};
-ghost use Rattle.unit_scopes.specs.Outcomes.{CanLook, IsAtWork, IsEnough, IsEnoughBelow, HasRoom, Runs, Spends};
+ghost use Rattle.unit_scopes.specs.Outcomes.{IsAtWork, IsEnough, IsEnoughBelow, HasRoom, Spends};
 ghost use Rattle.expander.specs.Expanded.{AreAtWork, BodyAtWork, ClauseStands, macros_step, ShapeAtWork, ClauseAtWork, ClausesAtWork, KeptAtWork, AreKeptAtWork, MacrosAtWork};
+ghost use Rattle.noted_steps.specs.Noting.{noting};
+ghost use Rattle.noted_steps.specs.Outcomes.{Runs};
+ghost use Rattle.noted_steps.specs.Kept.{CanLook};
 
 use crate::bodies::{in_place, keep_all, local_defs, pass_body, test_all_rules};
-use crate::expressions::{At, Ready, below, prepare, test_variable};
+use crate::expressions::{At, Ready, below, prepare, variable};
 use crate::passes::judge;
 use core_forms::{ClauseShape, CoreKeyword, CoreShape, LocalMacro, NamePart};
 use core_tree::cores::{Clause, Core, CorePart};
@@ -31,6 +33,8 @@ use feature_requirements::fault::{ExpandFault, code, fails};
 use feature_requirements::requirements::chosen_forms;
 use form_parts::items::{Kept, names_of};
 use form_parts::quasi::outside;
+use noted_steps::noted::note;
+use noted_steps::rules::macro_def;
 use std::alloc::Global;
 use syntax_tree::trees::{Region, Tree, Work};
 use unit_scopes::scope::UnitScope;
@@ -50,7 +54,7 @@ fn expand(
     requires form { IsAtWork work.old region.now form }
     requires room { HasRoom (2 ^ 43) units.old }
     ensures runs { (t : ModelTree Identifier) (turns : ℕ) → StandsFor work.old form t → IsEnough at.depth units.old.form.budget.uses turns →
-        Runs (λ ls. CoreStands work.new units.new.unit units.new.form.number) work.old work.new region.now units.old units.new at.scope result (λ known fs. expand (searched known) turns at.depth at.here fs (whole t)) }
+        Runs (λ ls. CoreStands work.new units.new.unit units.new.form.number) work.old work.new region.now units.old units.new at.scope result (λ known fs. expand (noting known) turns at.depth at.here fs (whole t)) }
     ensures locals { OnOk result (Spends 0 units.old units.new) }
 {
     let (here, ready) = prepare(units, alloc, work, region, at, form)?;
@@ -80,7 +84,7 @@ fn expand_all(
     requires parts { AreAtWork work.old region.now parts.now }
     requires room { HasRoom (2 ^ 43) units.old }
     ensures runs { (ts : List (ModelTree Identifier)) (turns : ℕ) → AllMatch (StandsFor work.old) parts.now ts → IsEnough at.depth units.old.form.budget.uses turns →
-        Runs (λ ls cs ms. CoresStand work.new units.new.unit units.new.form.number cs.items ms) work.old work.new region.now units.old units.new at.scope result (λ known fs. each_of (λ t. expand (searched known) turns at.depth at.here fs (whole t)) ts) }
+        Runs (λ ls cs ms. CoresStand work.new units.new.unit units.new.form.number cs.items ms) work.old work.new region.now units.old units.new at.scope result (λ known fs. each_of (λ t. expand (noting known) turns at.depth at.here fs (whole t)) ts) }
     ensures locals { OnOk result (Spends 0 units.old units.new) }
 {
     let mut cores = Vec::with_capacity(alloc, parts.len())?;
@@ -108,7 +112,7 @@ fn expand_shape(
     requires shape { ShapeAtWork work.old region.now shape }
     requires room { HasRoom (2 ^ 43) units.old }
     ensures runs { (c : ModelKeyword) (m : Shape) (turns : ℕ) → keyword_as core ≡ Some c → ShapeFor work.old shape m → ShapeFits m → IsLeft m → IsEnoughBelow at.depth units.old.form.budget.uses turns →
-        Runs (λ ls. CoreStands work.new units.new.unit units.new.form.number) work.old work.new region.now units.old units.new at.scope result (λ known fs. core_step (expand (searched known) turns) (searched known) at.depth at.here fs c m) }
+        Runs (λ ls. CoreStands work.new units.new.unit units.new.form.number) work.old work.new region.now units.old units.new at.scope result (λ known fs. core_step (expand (noting known) turns) (noting known) at.depth at.here fs c m) }
     ensures locals { OnOk result (Spends 0 units.old units.new) }
 {
     match shape {
@@ -129,10 +133,7 @@ fn expand_shape(
         CoreShape::Lambda(clause) => lambda(units, alloc, work, region, at, &clause),
         CoreShape::CaseLambda(clauses) => { case_lambda(units, alloc, work, region, at, &clauses) }
         CoreShape::If(parts) => conditional(units, alloc, work, region, at, &parts),
-        CoreShape::Set { name, value } => {
-            test_variable(units, work, at, name)?;
-            assign(units, alloc, work, region, at, name, value)
-        }
+        CoreShape::Set { name, value } => { set(units, alloc, work, region, at, name, value) }
         CoreShape::Begin(forms) => sequence(units, alloc, work, region, at, &forms),
         CoreShape::CondExpand(choices) => {
             let forms = chosen_forms(judge(units, alloc, work), at.here, &choices)?;
@@ -161,7 +162,7 @@ fn procedure(
     requires clause { ClauseAtWork work.old region.now clause.now }
     requires room { HasRoom (2 ^ 43) units.old }
     ensures runs { (c : ModelClause Identifier) (turns : ℕ) → ClauseFor work.old region.now clause.now c → IsEnough at.depth units.old.form.budget.uses turns →
-        Runs (λ ls. ClauseStands work.new units.new.unit units.new.form.number) work.old work.new region.now units.old units.new at.scope result (λ known fs. procedure (expand (searched known) turns) (searched known) at.depth at.here fs c) }
+        Runs (λ ls. ClauseStands work.new units.new.unit units.new.form.number) work.old work.new region.now units.old units.new at.scope result (λ known fs. procedure (expand (noting known) turns) (noting known) at.depth at.here fs c) }
     ensures locals { OnOk result (Spends 0 units.old units.new) }
 {
     work.symbols.told_apart();
@@ -195,7 +196,7 @@ fn procedures(
     requires clauses { ClausesAtWork work.old region.now shapes.now }
     requires room { HasRoom (2 ^ 43) units.old }
     ensures runs { (cs : List (ModelClause Identifier)) (turns : ℕ) → AllMatch (ClauseFor work.old region.now) shapes.now cs → IsEnough at.depth units.old.form.budget.uses turns →
-        Runs (λ ls xs ms. ClausesStand work.new units.new.unit units.new.form.number xs.items ms) work.old work.new region.now units.old units.new at.scope result (λ known fs. clauses (expand (searched known) turns) (searched known) at.depth at.here fs cs) }
+        Runs (λ ls xs ms. ClausesStand work.new units.new.unit units.new.form.number xs.items ms) work.old work.new region.now units.old units.new at.scope result (λ known fs. clauses (expand (noting known) turns) (noting known) at.depth at.here fs cs) }
     ensures locals { OnOk result (Spends 0 units.old units.new) }
 {
     let mut all = Vec::with_capacity(alloc, shapes.len())?;
@@ -221,7 +222,7 @@ fn body(
     requires forms { BodyAtWork work.old region.now forms.now }
     requires room { HasRoom (2 ^ 42) units.old }
     ensures runs { (ts : Trees Identifier) (turns : ℕ) → PartsStand work.old forms.now ts → IsEnough at.depth units.old.form.budget.uses turns →
-        Runs (λ ls. CoreStands work.new units.new.unit units.new.form.number) work.old work.new region.now units.old units.new at.scope result (λ known fs. expand (searched known) turns at.depth at.here fs (body ts)) }
+        Runs (λ ls. CoreStands work.new units.new.unit units.new.form.number) work.old work.new region.now units.old units.new at.scope result (λ known fs. expand (noting known) turns at.depth at.here fs (body ts)) }
     ensures locals { OnOk result (Spends (2 ^ 43) units.old units.new) }
 {
     let below = below(units, at, 1)?;
@@ -249,7 +250,7 @@ fn expand_kept(
     requires aside { AreKeptAtWork work.old region.now units.old aside.now }
     requires room { HasRoom (2 ^ 43) units.old }
     ensures runs { (is : List (Item Identifier)) (turns : ℕ) → AllMatch (KeptFor work.old region.now units.old.unit units.old.form.number) aside.now is → IsEnough at.depth units.old.form.budget.uses turns →
-        Runs (λ ls ps ms. PartsOfCores work.new units.new.unit units.new.form.number ps.items ms) work.old work.new region.now units.old units.new at.scope result (λ known fs. parts (item_part (expand (searched known) turns) (searched known) at.depth fs) is) }
+        Runs (λ ls ps ms. PartsOfCores work.new units.new.unit units.new.form.number ps.items ms) work.old work.new region.now units.old units.new at.scope result (λ known fs. parts (item_part (expand (noting known) turns) (noting known) at.depth fs) is) }
     ensures locals { OnOk result (Spends 0 units.old units.new) }
 {
     let mut parts = Vec::with_capacity(alloc, aside.len())?;
@@ -275,7 +276,7 @@ pub(crate) fn expand_kept_item(
     requires kept { KeptAtWork work.old region.now units.old kept.now }
     requires room { HasRoom (2 ^ 43) units.old }
     ensures runs { (i : Item Identifier) (turns : ℕ) → KeptFor work.old region.now units.old.unit units.old.form.number kept.now i → IsEnough at.depth units.old.form.budget.uses turns →
-        Runs (λ ls. PartStands work.new units.new.unit units.new.form.number) work.old work.new region.now units.old units.new at.scope result (λ known fs. item_part (expand (searched known) turns) (searched known) at.depth fs i) }
+        Runs (λ ls. PartStands work.new units.new.unit units.new.form.number) work.old work.new region.now units.old units.new at.scope result (λ known fs. item_part (expand (noting known) turns) (noting known) at.depth fs i) }
     ensures locals { OnOk result (Spends 0 units.old units.new) }
 {
     match kept {
@@ -362,8 +363,8 @@ pub(crate) fn expand_kept_item(
             modified: Vec::from_slice(alloc, modified)?,
             used: Vec::from_slice(alloc, used)?,
         }),
-        Kept::Macro(binder, meaning) => Ok(CorePart::Syntax(units.macro_def(
-            alloc, work, *binder, *meaning,
+        Kept::Macro(binder, meaning) => Ok(CorePart::Syntax(macro_def(
+            units, alloc, work, *binder, *meaning,
         )?)),
     }
 }
@@ -383,7 +384,7 @@ fn lambda(
     requires clause { ClauseAtWork work.old region.now clause.now }
     requires room { HasRoom (2 ^ 43) units.old }
     ensures runs { (c : ModelClause Identifier) (turns : ℕ) → ClauseFor work.old region.now clause.now c → IsEnoughBelow at.depth units.old.form.budget.uses turns →
-        Runs (λ ls. CoreStands work.new units.new.unit units.new.form.number) work.old work.new region.now units.old units.new at.scope result (λ known fs. lambda (expand (searched known) turns) (searched known) at.depth at.here fs c) }
+        Runs (λ ls. CoreStands work.new units.new.unit units.new.form.number) work.old work.new region.now units.old units.new at.scope result (λ known fs. lambda (expand (noting known) turns) (noting known) at.depth at.here fs c) }
     ensures locals { OnOk result (Spends 0 units.old units.new) }
 {
     let below = below(units, at, 1)?;
@@ -405,7 +406,7 @@ fn case_lambda(
     requires clauses { ClausesAtWork work.old region.now shapes.now }
     requires room { HasRoom (2 ^ 43) units.old }
     ensures runs { (cs : List (ModelClause Identifier)) (turns : ℕ) → AllMatch (ClauseFor work.old region.now) shapes.now cs → IsEnoughBelow at.depth units.old.form.budget.uses turns →
-        Runs (λ ls. CoreStands work.new units.new.unit units.new.form.number) work.old work.new region.now units.old units.new at.scope result (λ known fs. case_lambda (expand (searched known) turns) (searched known) at.depth at.here fs cs) }
+        Runs (λ ls. CoreStands work.new units.new.unit units.new.form.number) work.old work.new region.now units.old units.new at.scope result (λ known fs. case_lambda (expand (noting known) turns) (noting known) at.depth at.here fs cs) }
     ensures locals { OnOk result (Spends 0 units.old units.new) }
 {
     let below = below(units, at, 1)?;
@@ -427,14 +428,43 @@ fn conditional(
     requires parts { AreAtWork work.old region.now parts.now }
     requires room { HasRoom (2 ^ 43) units.old }
     ensures runs { (ts : Trees Identifier) (turns : ℕ) → PartsStand work.old parts.now ts → IsEnoughBelow at.depth units.old.form.budget.uses turns →
-        Runs (λ ls. CoreStands work.new units.new.unit units.new.form.number) work.old work.new region.now units.old units.new at.scope result (λ known fs. conditional (expand (searched known) turns) (searched known) at.depth at.here fs ts) }
+        Runs (λ ls. CoreStands work.new units.new.unit units.new.form.number) work.old work.new region.now units.old units.new at.scope result (λ known fs. conditional (expand (noting known) turns) (noting known) at.depth at.here fs ts) }
     ensures locals { OnOk result (Spends 0 units.old units.new) }
 {
     let below = below(units, at, 1)?;
     Ok(Core::If(expand_all(units, alloc, work, region, below, parts)?))
 }
 
-/// The core of an assignment of what an expression gives.
+/// The core of an assignment. A keyword is no variable.
+#[cycle(core)]
+fn set(
+    units: &mut UnitScope,
+    alloc: Global,
+    work: &mut Work,
+    region: &Region,
+    at: At,
+    name: NamePart,
+    value: Tree,
+) -> Result<Core, ExpandFault>
+    requires opened { IsOpened work.old region.now }
+    requires look { CanLook work.old units.old at.scope }
+    requires name { HasNumber work.old name }
+    requires value { IsAtWork work.old region.now value }
+    requires room { HasRoom (2 ^ 43) units.old }
+    ensures runs { (n : Named Identifier) (t : ModelTree Identifier) (turns : ℕ) → IsName work.old name n → StandsFor work.old value t → IsEnoughBelow at.depth units.old.form.budget.uses turns →
+        Runs (λ ls. CoreStands work.new units.new.unit units.new.form.number) work.old work.new region.now units.old units.new at.scope result (λ known fs. set (expand (noting known) turns) (noting known) at.depth at.here fs (n, t)) }
+    ensures locals { OnOk result (Spends 0 units.old units.new) }
+{
+    let target = variable(units, work, at, name)?;
+    let below = below(units, at, 1)?;
+    let value = expand(units, alloc, work, region, below, value)?;
+    Ok(Core::Set {
+        target,
+        value: Box::new(alloc, value)?,
+    })
+}
+
+/// The core of a later definition of a variable, read as an assignment of what an expression gives.
 #[cycle(core)]
 fn assign(
     units: &mut UnitScope,
@@ -451,11 +481,12 @@ fn assign(
     requires value { IsAtWork work.old region.now value }
     requires room { HasRoom (2 ^ 43) units.old }
     ensures runs { (n : Named Identifier) (t : ModelTree Identifier) (turns : ℕ) → IsName work.old name n → StandsFor work.old value t → IsEnoughBelow at.depth units.old.form.budget.uses turns →
-        Runs (λ ls. CoreStands work.new units.new.unit units.new.form.number) work.old work.new region.now units.old units.new at.scope result (λ known fs. assignment (searched known) at.depth at.here fs n (λ below. expand (searched known) turns below at.here fs (whole t))) }
+        Runs (λ ls. CoreStands work.new units.new.unit units.new.form.number) work.old work.new region.now units.old units.new at.scope result (λ known fs. assignment (noting known) at.depth at.here fs n (λ below. expand (noting known) turns below at.here fs (whole t))) }
     ensures locals { OnOk result (Spends 0 units.old units.new) }
 {
     let below = below(units, at, 1)?;
     let target = units.target(work, at.scope, name);
+    note(units, work, target);
     let value = expand(units, alloc, work, region, below, value)?;
     Ok(Core::Set {
         target,
@@ -463,7 +494,7 @@ fn assign(
     })
 }
 
-/// The core of an assignment of a procedure.
+/// The core of a later definition of a variable as a procedure, read as an assignment.
 #[cycle(core)]
 fn assign_procedure(
     units: &mut UnitScope,
@@ -480,11 +511,12 @@ fn assign_procedure(
     requires clause { ClauseAtWork work.old region.now clause.now }
     requires room { HasRoom (2 ^ 43) units.old }
     ensures runs { (n : Named Identifier) (c : ModelClause Identifier) (turns : ℕ) → IsName work.old name n → ClauseFor work.old region.now clause.now c → IsEnoughBelow at.depth units.old.form.budget.uses turns →
-        Runs (λ ls. CoreStands work.new units.new.unit units.new.form.number) work.old work.new region.now units.old units.new at.scope result (λ known fs. assignment (searched known) at.depth at.here fs n (λ below. lambda (expand (searched known) turns) (searched known) below at.here fs c)) }
+        Runs (λ ls. CoreStands work.new units.new.unit units.new.form.number) work.old work.new region.now units.old units.new at.scope result (λ known fs. assignment (noting known) at.depth at.here fs n (λ below. lambda (expand (noting known) turns) (noting known) below at.here fs c)) }
     ensures locals { OnOk result (Spends 0 units.old units.new) }
 {
     let below = below(units, at, 1)?;
     let target = units.target(work, at.scope, name);
+    note(units, work, target);
     let value = lambda(units, alloc, work, region, below, clause)?;
     Ok(Core::Set {
         target,
@@ -507,7 +539,7 @@ fn sequence(
     requires forms { AreAtWork work.old region.now forms.now }
     requires room { HasRoom (2 ^ 43) units.old }
     ensures runs { (ts : Trees Identifier) (turns : ℕ) → PartsStand work.old forms.now ts → IsEnoughBelow at.depth units.old.form.budget.uses turns →
-        Runs (λ ls. CoreStands work.new units.new.unit units.new.form.number) work.old work.new region.now units.old units.new at.scope result (λ known fs. sequence (expand (searched known) turns) (searched known) at.depth at.here fs ts) }
+        Runs (λ ls. CoreStands work.new units.new.unit units.new.form.number) work.old work.new region.now units.old units.new at.scope result (λ known fs. sequence (expand (noting known) turns) (noting known) at.depth at.here fs ts) }
     ensures locals { OnOk result (Spends 0 units.old units.new) }
 {
     let below = below(units, at, 1)?;
@@ -537,7 +569,7 @@ fn local_macros(
     requires forms { BodyAtWork work.old region.now forms.now }
     requires room { HasRoom (2 ^ 43) units.old }
     ensures runs { (m : LocalMacros Identifier) (turns : ℕ) → AreMacros work.old macros.now m.names m.rules → PartsStand work.old forms.now m.body → IsEnoughBelow at.depth units.old.form.budget.uses turns →
-        Runs (λ ls. CoreStands work.new units.new.unit units.new.form.number) work.old work.new region.now units.old units.new at.scope result (λ known fs. macros_step recursive (expand (searched known) turns) (searched known) at.depth at.here fs m) }
+        Runs (λ ls. CoreStands work.new units.new.unit units.new.form.number) work.old work.new region.now units.old units.new at.scope result (λ known fs. macros_step recursive (expand (noting known) turns) (noting known) at.depth at.here fs m) }
     ensures locals { OnOk result (Spends 0 units.old units.new) }
 {
     work.symbols.told_apart();

@@ -8,23 +8,28 @@ ghost use Rattle.core_forms.specs.Parts.{IsName, AllMatch as Match, IsFormals};
 ghost use Rattle.core_tree.specs.Names.{AllMatch, IsBinder};
 ghost use Rattle.scheme_model.specs.Requirements.{Known};
 ghost use Rattle.scheme_model.specs.Trees.{Tree as ModelTree};
-ghost use Rattle.scheme_model.specs.ScopedExpansion.{Frames, FramedIdent, ScopedState};
+ghost use Rattle.scheme_model.specs.ScopedExpansion.{Frames, FramedIdent};
 ghost use Rattle.syntax_tree.specs.declared.trees.table.Region.{Region as AnyRegion};
 ghost use Rattle.feature_requirements.specs.Judged.{Knows};
-ghost use Rattle.unit_scopes.specs.Searched.{searched};
-ghost use Rattle.unit_scopes.specs.State.{Stands, most_locals};
-ghost use Rattle.unit_scopes.specs.Kept.{NotesFor, SpotFor, PendingFor, ClauseFor};
+ghost use Rattle.unit_scopes.specs.State.{most_locals};
+ghost use Rattle.unit_scopes.specs.Kept.{NotesFor, PendingFor, ClauseFor};
 ghost use Rattle.syntax_tree.specs.Works.{IsStanding, StandsFor};
 ghost use Rattle.unit_scopes.specs.Outcomes.{WorksOn};
-ghost use Rattle.unit_scopes.specs.Defining.{CanGo, HasNumber, Takes, EndsIn, define_each};
+ghost use Rattle.unit_scopes.specs.Defining.{HasNumber, Takes, define_each};
 ghost use Rattle.expander.specs.Passed.{GoesOn};
 ghost use Rattle.form_parts.specs.Records.{IsRecordFor};
+ghost use Rattle.noted_steps.specs.Noting.{Noting, noting};
+ghost use Rattle.noted_steps.specs.Standing.{Stands};
+ghost use Rattle.noted_steps.specs.Kept.{SpotFor, EndsIn};
+ghost use Rattle.noted_steps.specs.Kept.{CanGo};
 
 use core_forms::{ClauseShape, Formals, NamePart};
 use core_tree::cores::Binder;
 use feature_requirements::fault::ExpandFault;
 use form_parts::items::{Form, Kept, Pending, Spot};
 use form_parts::records::{Record, modified, used};
+use noted_steps::defining::{define, is_assigned};
+use noted_steps::rules::test_rules;
 use scheme_model::Occ;
 use std::alloc::Global;
 use syntax_tree::trees::{Tree, Work};
@@ -44,17 +49,17 @@ pub(crate) fn define_variable(
     requires can { CanGo work.now units.old spot asked.now }
     requires name { HasNumber work.now name }
     requires room { units.old.form.budget.locals + 1 ≤ most_locals units.old.form.budget.nodes }
-    ensures { (known : Known) (region : AnyRegion) (ls : List Frames) (s : ScopedState) (fs : Frames) (n : Named Identifier) (t : ModelTree Identifier) (p : ModelPending Identifier FramedIdent) (given : ℕ) →
+    ensures { (known : Known) (region : AnyRegion) (ls : List Frames) (s : Noting) (fs : Frames) (n : Named Identifier) (t : ModelTree Identifier) (p : ModelPending Identifier FramedIdent) (given : ℕ) →
         Knows units.old.libraries known → Stands work.now units.old ls s → SpotFor work.now units.old ls s spot fs → IsName work.now name n → WorksOn work.now region form.tree t →
         PendingFor work.now region units.old.unit units.old.form.number pending.old p → NotesFor work.now ls asked.now p.notes → 1 ≤ given →
-        GoesOn work.now work.now region units.old units.new ls spot fs p.todo given pending.new asked.now result (λ go. run_define (searched known) go form.here fs p (Variable n t) s) }
+        GoesOn work.now work.now region units.old units.new ls spot fs p.todo given pending.new asked.now result (λ go. run_define (noting known) go form.here fs p (Variable n t) s) }
 {
-    if units.is_assigned(spot, name.ident) {
+    if is_assigned(units, spot, name.ident) {
         pending.aside.push(Kept::Assigned(name, form))?;
         return Ok(());
     }
     let binder = units.next_binder(spot, name);
-    units.define(work, spot, form.here, name, None, asked)?;
+    define(units, work, spot, form.here, name, None, asked)?;
     pending.aside.push(Kept::Value(binder, form))?;
     Ok(())
 }
@@ -73,19 +78,19 @@ pub(crate) fn define_function(
     requires can { CanGo work.now units.old spot asked.now }
     requires name { HasNumber work.now name }
     requires room { units.old.form.budget.locals + 1 ≤ most_locals units.old.form.budget.nodes }
-    ensures { (known : Known) (region : AnyRegion) (ls : List Frames) (s : ScopedState) (fs : Frames) (n : Named Identifier) (c : ModelClause Identifier) (p : ModelPending Identifier FramedIdent) (given : ℕ) →
+    ensures { (known : Known) (region : AnyRegion) (ls : List Frames) (s : Noting) (fs : Frames) (n : Named Identifier) (c : ModelClause Identifier) (p : ModelPending Identifier FramedIdent) (given : ℕ) →
         Knows units.old.libraries known → Stands work.now units.old ls s → SpotFor work.now units.old ls s spot fs → IsName work.now name n → ClauseFor work.now region clause c →
         PendingFor work.now region units.old.unit units.old.form.number pending.old p → NotesFor work.now ls asked.now p.notes → 1 ≤ given →
-        GoesOn work.now work.now region units.old units.new ls spot fs p.todo given pending.new asked.now result (λ go. run_define (searched known) go here fs p (Procedure n c) s) }
+        GoesOn work.now work.now region units.old units.new ls spot fs p.todo given pending.new asked.now result (λ go. run_define (noting known) go here fs p (Procedure n c) s) }
 {
-    if units.is_assigned(spot, name.ident) {
+    if is_assigned(units, spot, name.ident) {
         pending
             .aside
             .push(Kept::AssignedFunction(name, here, clause))?;
         return Ok(());
     }
     let binder = units.next_binder(spot, name);
-    units.define(work, spot, here, name, None, asked)?;
+    define(units, work, spot, here, name, None, asked)?;
     pending.aside.push(Kept::Function(binder, here, clause))?;
     Ok(())
 }
@@ -103,15 +108,15 @@ fn define_all(
     requires can { CanGo work.now units.old spot asked.now }
     requires names { (ns : List (Named Identifier)) × Match (IsName work.now) names.now ns }
     requires room { units.old.form.budget.locals + length names.now ≤ most_locals units.old.form.budget.nodes }
-    ensures defined { (known : Known) (ls : List Frames) (s : ScopedState) (fs : Frames) (ns : List (Named Identifier)) (p : ModelPending Identifier FramedIdent) →
+    ensures defined { (known : Known) (ls : List Frames) (s : Noting) (fs : Frames) (ns : List (Named Identifier)) (p : ModelPending Identifier FramedIdent) →
         Stands work.now units.old ls s → SpotFor work.now units.old ls s spot fs → Match (IsName work.now) names.now ns → NotesFor work.now ls asked.now p.notes →
-        EndsIn (λ bs ms. AllMatch (IsBinder work.now.symbols units.old.unit units.old.form.number) bs.items ms) work.now units.old units.new ls spot fs result (define_each (searched known) here fs ns p s) }
+        EndsIn (λ bs ms. AllMatch (IsBinder work.now.symbols units.old.unit units.old.form.number) bs.items ms) work.now units.old units.new ls spot fs result (define_each (noting known) here fs ns p s) }
     ensures counts { OnOk result (Takes (length names.now) units.old units.new) }
 {
     let mut binders = Vec::new(alloc);
     for name in names {
         let binder = units.next_binder(spot, *name);
-        units.define(work, spot, here, *name, None, asked)?;
+        define(units, work, spot, here, *name, None, asked)?;
         binders.push(binder)?;
     }
     Ok(binders)
@@ -131,10 +136,10 @@ pub(crate) fn define_values(
     requires can { CanGo work.now units.old spot asked.now }
     requires names { (m : ModelFormals Identifier) × IsFormals work.now formals m }
     requires room { units.old.form.budget.locals + length formals.names.items ≤ most_locals units.old.form.budget.nodes }
-    ensures { (known : Known) (region : AnyRegion) (ls : List Frames) (s : ScopedState) (fs : Frames) (m : ModelFormals Identifier) (t : ModelTree Identifier) (p : ModelPending Identifier FramedIdent) (given : ℕ) →
+    ensures { (known : Known) (region : AnyRegion) (ls : List Frames) (s : Noting) (fs : Frames) (m : ModelFormals Identifier) (t : ModelTree Identifier) (p : ModelPending Identifier FramedIdent) (given : ℕ) →
         Knows units.old.libraries known → Stands work.now units.old ls s → SpotFor work.now units.old ls s spot fs → IsFormals work.now formals m → WorksOn work.now region form.tree t →
         PendingFor work.now region units.old.unit units.old.form.number pending.old p → NotesFor work.now ls asked.now p.notes → length m.names < given →
-        GoesOn work.now work.now region units.old units.new ls spot fs p.todo given pending.new asked.now result (λ go. run_values (searched known) go form.here fs p (m, t) s) }
+        GoesOn work.now work.now region units.old units.new ls spot fs p.todo given pending.new asked.now result (λ go. run_values (noting known) go form.here fs p (m, t) s) }
 {
     let Formals { names, dotted } = formals;
     let binders = define_all(units, alloc, work, spot, form.here, &names, asked)?;
@@ -161,10 +166,10 @@ pub(crate) fn define_record(
     requires standing { (m : RecordShape Identifier) × IsRecordFor work.now shape.now m }
     requires small { length shape.now.fields.items < 2 ^ 32 }
     requires room { (m : RecordShape Identifier) → IsRecordFor work.now shape.now m → units.old.form.budget.locals + length m.fields + length (record_names m) ≤ most_locals units.old.form.budget.nodes }
-    ensures { (known : Known) (region : AnyRegion) (ls : List Frames) (s : ScopedState) (fs : Frames) (m : RecordShape Identifier) (p : ModelPending Identifier FramedIdent) (given : ℕ) →
+    ensures { (known : Known) (region : AnyRegion) (ls : List Frames) (s : Noting) (fs : Frames) (m : RecordShape Identifier) (p : ModelPending Identifier FramedIdent) (given : ℕ) →
         Knows units.old.libraries known → Stands work.now units.old ls s → SpotFor work.now units.old ls s spot fs → IsRecordFor work.now shape.now m →
         PendingFor work.now region units.old.unit units.old.form.number pending.old p → NotesFor work.now ls asked.now p.notes → length m.fields + length (record_names m) ≤ given →
-        GoesOn work.now work.now region units.old units.new ls spot fs p.todo given pending.new asked.now result (λ go. run_record (searched known) go here fs p m s) }
+        GoesOn work.now work.now region units.old units.new ls spot fs p.todo given pending.new asked.now result (λ go. run_record (noting known) go here fs p m s) }
 {
     work.symbols.told_apart();
     let field_names = shape.field_names(alloc)?;
@@ -198,17 +203,17 @@ pub(crate) fn define_syntax(
     requires name { HasNumber work.now name }
     requires rules { IsStanding work.now rules }
     requires room { units.old.form.budget.locals + 1 ≤ most_locals units.old.form.budget.nodes }
-    ensures { (known : Known) (region : AnyRegion) (ls : List Frames) (s : ScopedState) (fs : Frames) (n : Named Identifier) (t : ModelTree Identifier) (p : ModelPending Identifier FramedIdent) (given : ℕ) →
+    ensures { (known : Known) (region : AnyRegion) (ls : List Frames) (s : Noting) (fs : Frames) (n : Named Identifier) (t : ModelTree Identifier) (p : ModelPending Identifier FramedIdent) (given : ℕ) →
         Knows units.old.libraries known → Stands work.now units.old ls s → SpotFor work.now units.old ls s spot fs → IsName work.now name n → StandsFor work.now rules t →
         PendingFor work.now region units.old.unit units.old.form.number pending.old p → NotesFor work.now ls asked.old p.notes → 1 ≤ given →
-        GoesOn work.now work.now region units.old units.new ls spot fs p.todo given pending.new asked.new result (λ go. run_syntax (searched known) go here fs p (n, t) s) }
+        GoesOn work.now work.now region units.old units.new ls spot fs p.todo given pending.new asked.new result (λ go. run_syntax (noting known) go here fs p (n, t) s) }
 {
     units.note_rules(work, spot.scope, rules, asked)?;
-    units.test_rules(work, spot.scope, here, rules)?;
+    test_rules(units, work, spot.scope, here, rules)?;
     let defined = units.read_macro(alloc, work, spot.scope, here, rules)?;
     let binder = units.next_binder(spot, name);
     let meaning = units.next_meaning(spot, name.ident);
-    units.define(work, spot, here, name, Some(defined), asked)?;
+    define(units, work, spot, here, name, Some(defined), asked)?;
     pending.aside.push(Kept::Macro(binder, meaning))?;
     Ok(())
 }

@@ -8,6 +8,7 @@ mod defining;
 mod expressions;
 mod passes;
 mod unit;
+mod uses;
 
 pub use feature_requirements::{ExpandFault, Libraries};
 pub use form_parts::{Item, Left, WaitingUse};

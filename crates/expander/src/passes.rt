@@ -21,20 +21,25 @@ ghost use Rattle.core_forms.specs.Named.{ShapeNamed};
 ghost use Rattle.core_tree.specs.Names.{AllMatch, IsTarget};
 ghost use Rattle.form_parts.specs.Heads.{IsHead};
 ghost use Rattle.feature_requirements.specs.Judged.{Knows};
-ghost use Rattle.unit_scopes.specs.Searched.{searched};
-ghost use Rattle.unit_scopes.specs.State.{Stands};
-ghost use Rattle.unit_scopes.specs.Kept.{FormFor, NotesFor, SpotFor, PendingFor, left_with};
+ghost use Rattle.unit_scopes.specs.Kept.{FormFor, NotesFor, PendingFor, SpotFor as SpotForPlainly, left_with};
+ghost use Rattle.unit_scopes.specs.State.{Stands as StandsPlainly};
+ghost use Rattle.expander.specs.Ready.{rules_asked};
 ghost use Rattle.unit_scopes.specs.Outcomes.{At, IsAtWork};
 ghost use Rattle.unit_scopes.specs.Defining.{HasNumber};
 ghost use Rattle.expander.specs.Passed.{GoesOn, Passes, CanPass, IsPassed, pass_step, shape_weight, ShapeFits};
-ghost use Rattle.unit_scopes.specs.Used.{CanUse, ComparisonFor, UseFor};
+ghost use Rattle.unit_scopes.specs.Used.{ComparisonFor};
 ghost use Rattle.syntax_tree.specs.declared.trees.Work.{Work as AnyWork};
 ghost use Rattle.unit_scopes.specs.declared.asked.Asked.{Asked as AnyAsked};
 ghost use Rattle.form_parts.specs.declared.items.Spot.{Spot as AnySpot};
+ghost use Rattle.noted_steps.specs.Noting.{Noting, noting};
+ghost use Rattle.noted_steps.specs.Standing.{Stands};
+ghost use Rattle.noted_steps.specs.Kept.{SpotFor, UseFor};
+ghost use Rattle.noted_steps.specs.Kept.{CanUse};
 
 use crate::defining::{
     define_function, define_record, define_syntax, define_values, define_variable,
 };
+use crate::uses::{apply_use, compare_use};
 use core_forms::{CoreKeyword, CoreShape, NamePart, parse_core};
 use core_tree::cores::Target;
 use feature_requirements::fault::ExpandFault;
@@ -44,6 +49,8 @@ use form_parts::items::{Form, Kept, Pending, Spot, forms_at};
 use form_parts::places::here_at;
 use form_parts::records::Record;
 use ls_base::{Items, Mem};
+use noted_steps::forms::note_form;
+use noted_steps::noted::note;
 use scheme_model::Occ;
 use scope_env::ScopeNo;
 use std::alloc::Global;
@@ -51,7 +58,7 @@ use syntax_tree::trees::{Region, Tree, Work};
 use unit_scopes::asked::{Asked, Asking, Note};
 use unit_scopes::counting::misread;
 use unit_scopes::scope::UnitScope;
-use unit_scopes::uses::{Comparison, Instance, Use, held};
+use unit_scopes::uses::{Comparison, Instance, Use};
 
 /// Goes through the forms that are left, in order: what was set aside, and the macro uses that wait.
 pub(crate) fn pass(
@@ -65,11 +72,11 @@ pub(crate) fn pass(
 ) -> Result<(), ExpandFault>
     requires opened { IsOpened work.old region.now }
     requires can { CanPass work.old region.now units.old spot 0 pending.old asked.old }
-    ensures { (known : Known) (ls : List Frames) (s : ScopedState) (fs : Frames) (p : ModelPending Identifier FramedIdent) (turns : ℕ) →
+    ensures { (known : Known) (ls : List Frames) (s : Noting) (fs : Frames) (p : ModelPending Identifier FramedIdent) (turns : ℕ) →
         Knows units.old.libraries known → Stands work.old units.old ls s → SpotFor work.old units.old ls s spot fs →
         PendingFor work.old region.now units.old.unit units.old.form.number pending.old p → NotesFor work.old ls asked.old p.notes →
         left_with p.todo units.old.form.budget.uses < turns →
-        Passes work.old work.new region.now units.old units.new ls spot fs (left_with p.todo units.old.form.budget.uses) pending.new asked.new result (run (searched known) turns fs p s) }
+        Passes work.old work.new region.now units.old units.new ls spot fs (left_with p.todo units.old.form.budget.uses) pending.new asked.new result (run (noting known) turns fs p s) }
 {
     'forms: for _turn in 0..u64::MAX {
         let Some(form) = pending.todo.pop() else {
@@ -94,11 +101,11 @@ fn pass_form(
     requires opened { IsOpened work.old region.now }
     requires form { IsAtWork work.old region.now form.tree }
     requires can { (m : ModelTree Identifier) → StandsFor work.old form.tree m → CanPass work.old region.now units.old spot (tree_size m) pending.old asked.old }
-    ensures { (known : Known) (ls : List Frames) (s : ScopedState) (fs : Frames) (m : ModelForm Identifier) (p : ModelPending Identifier FramedIdent) →
+    ensures { (known : Known) (ls : List Frames) (s : Noting) (fs : Frames) (m : ModelForm Identifier) (p : ModelPending Identifier FramedIdent) →
         Knows units.old.libraries known → Stands work.old units.old ls s → SpotFor work.old units.old ls s spot fs → FormFor work.old region.now form m →
         PendingFor work.old region.now units.old.unit units.old.form.number pending.old p → NotesFor work.old ls asked.old p.notes →
         GoesOn work.old work.new region.now units.old units.new ls spot fs p.todo (tree_size m.tree) pending.new asked.new result
-        (λ go. run_form (searched known) go fs (here_at (λ i. i) m.tree m.here) m m.tree p s) }
+        (λ go. run_form (noting known) go fs (here_at (λ i. i) m.tree m.here) m m.tree p s) }
 {
     let here = here_at(work, form.tree, form.here);
     let Some(name) = head_name(work, form.tree) else {
@@ -107,6 +114,7 @@ fn pass_form(
     };
     let keyword = units.target(work, spot.scope, name);
     let head = units.head_by(work, keyword.meaning);
+    note(units, work, keyword);
     note_head(units, work, spot, name, head, asked)?;
     match head {
         Head::Core(core) => pass_core(
@@ -142,8 +150,8 @@ fn note_head(
     asked: &mut Asked,
 ) -> Mem<()>
     requires { HasNumber work.now name }
-    ensures { (ls : List Frames) (s : ScopedState) (fs : Frames) (n : Named Identifier) (h : ModelHead) (ns : List (ModelNote FramedIdent)) → Stands work.now units.now ls s →
-        SpotFor work.now units.now ls s spot fs → IsName work.now name n → IsHead head h → NotesFor work.now ls asked.old ns →
+    ensures { (ls : List Frames) (s : ScopedState) (fs : Frames) (n : Named Identifier) (h : ModelHead) (ns : List (ModelNote FramedIdent)) → StandsPlainly work.now units.now ls s →
+        SpotForPlainly work.now units.now ls s spot fs → IsName work.now name n → IsHead head h → NotesFor work.now ls asked.old ns →
         OnOk result (NotesFor work.now ls asked.new (LookedUp (record { frames = fs; ident = n.name }) true (is_keyword h) ∷ ns)) }
 {
     asked.push(
@@ -173,17 +181,16 @@ fn pass_use(
     requires opened { IsOpened work.old region.now }
     requires usable { CanUse work.old units.old at }
     requires named { CanName work.old region.now at.form }
-    ensures { (known : Known) (ls : List Frames) (s : ScopedState) (spot : AnySpot) (fs : Frames) (keyword : ModelTarget) (m : Transformer Frames Identifier) (form : ModelForm Identifier)
+    ensures { (known : Known) (ls : List Frames) (s : Noting) (spot : AnySpot) (fs : Frames) (keyword : ModelTarget) (m : Transformer Frames Identifier) (form : ModelForm Identifier)
         (ts : Trees Identifier) (tail : Tail Identifier) (p : ModelPending Identifier FramedIdent) (given : ℕ) →
         Knows units.old.libraries known → Stands work.old units.old ls s → SpotFor work.old units.old ls s spot fs → At ls at.scope fs → UseFor work.old s at keyword m ts tail →
         PendingFor work.old region.now units.old.unit units.old.form.number pending.old p → NotesFor work.old ls asked.old p.notes → 1 ≤ given →
         GoesOn work.old work.new region.now units.old units.new ls spot fs p.todo given pending.new asked.new result
-        (λ go. run_use (searched known) go at.here fs keyword (Some m) form ts tail p s) }
+        (λ go. run_use (noting known) go at.here fs keyword (Some m) form ts tail p (rules_asked known keyword s)) }
 {
-    let (scope, comparisons) = units.compare(alloc, work, at)?;
+    let (scope, comparisons) = compare_use(units, alloc, work, at)?;
     note_comparisons(work, scope, at.scope, &comparisons, asked)?;
-    let same = held(alloc, &comparisons)?;
-    let applied = units.apply(alloc, work, region, at, &same);
+    let applied = apply_use(units, alloc, work, region, at, &comparisons);
     work.symbols.told_apart();
     let given = applied?;
     let Instance { tree, met } = given;
@@ -212,18 +219,19 @@ fn pass_core(
     requires keyword { (k : ModelTarget) × IsTarget work.now.symbols units.old.unit units.old.form.number keyword k }
     requires form { IsStanding work.now form.tree }
     requires can { (region : AnyRegion) × ((m : ModelTree Identifier) → StandsFor work.now form.tree m → CanPass work.now region units.old spot (tree_size m) pending.old asked.old) }
-    ensures { (known : Known) (region : AnyRegion) (ls : List Frames) (s : ScopedState) (fs : Frames) (c : ModelKeyword) (k : ModelTarget) (m : ModelForm Identifier) (head : ModelTree Identifier)
+    ensures { (known : Known) (region : AnyRegion) (ls : List Frames) (s : Noting) (fs : Frames) (c : ModelKeyword) (k : ModelTarget) (m : ModelForm Identifier) (head : ModelTree Identifier)
         (ts : Trees Identifier) (tail : Tail Identifier) (o : Option Occ) (p : ModelPending Identifier FramedIdent) →
         Knows units.old.libraries known → Stands work.now units.old ls s → SpotFor work.now units.old ls s spot fs → keyword_as core ≡ Some c → IsTarget work.now.symbols s.unit s.form keyword k →
         FormFor work.now region form m → m.tree ≡ list (tree head ts) tail o →
         PendingFor work.now region units.old.unit units.old.form.number pending.old p → NotesFor work.now ls asked.old p.notes →
-        GoesOn work.now work.now region units.old units.new ls spot fs p.todo (tree_size m.tree) pending.new asked.new result (λ go. run_core (searched known) go here fs c k m ts tail p s) }
+        GoesOn work.now work.now region units.old units.new ls spot fs p.todo (tree_size m.tree) pending.new asked.new result (λ go. run_core (noting known) go here fs c k m ts tail p s) }
 {
     if !is_passed(core) {
         pending.aside.push(Kept::Expression(form))?;
         return Ok(());
     }
     units.form.trace.keywords.push(keyword)?;
+    note_form(units, alloc, work, spot.scope, core, form.tree);
     work.trees_fit();
     let shape = match parse_core(alloc, work, core, form.tree, false, &Items::new(alloc)) {
         Ok(shape) => shape,
@@ -244,10 +252,10 @@ fn pass_shape(
     asked: &mut Asked,
 ) -> Result<(), ExpandFault>
     requires shape { (m : Shape) × ShapeFor work.now shape m × (shape_weight m ≤ 4194304) × ((region : AnyRegion) × CanPass work.now region units.old spot (shape_weight m) pending.old asked.old) }
-    ensures { (known : Known) (region : AnyRegion) (ls : List Frames) (s : ScopedState) (fs : Frames) (form : ModelForm Identifier) (m : Shape) (p : ModelPending Identifier FramedIdent) (given : ℕ) →
+    ensures { (known : Known) (region : AnyRegion) (ls : List Frames) (s : Noting) (fs : Frames) (form : ModelForm Identifier) (m : Shape) (p : ModelPending Identifier FramedIdent) (given : ℕ) →
         Knows units.old.libraries known → Stands work.now units.old ls s → SpotFor work.now units.old ls s spot fs → ShapeFor work.now shape m → ShapeNamed work.now region shape → IsPassed m → ShapeFits m →
         PendingFor work.now region units.old.unit units.old.form.number pending.old p → NotesFor work.now ls asked.old p.notes → shape_weight m < given →
-        GoesOn work.now work.now region units.old units.new ls spot fs p.todo given pending.new asked.new result (λ go. pass_step (searched known) go here fs form p m s) }
+        GoesOn work.now work.now region units.old units.new ls spot fs p.todo given pending.new asked.new result (λ go. pass_step (noting known) go here fs form p m s) }
 {
     match shape {
         CoreShape::Begin(forms) => splice(units, alloc, here, &forms, pending),
@@ -301,10 +309,10 @@ fn splice(
     pending: &mut Pending,
 ) -> Result<(), ExpandFault>
     requires { units.old.form.budget.nodes ≤ 200000 }
-    ensures { (known : Known) (work : AnyWork) (region : AnyRegion) (ls : List Frames) (s : ScopedState) (spot : AnySpot) (fs : Frames) (asked : AnyAsked) (ts : Trees Identifier) (p : ModelPending Identifier FramedIdent) (given : ℕ) →
+    ensures { (known : Known) (work : AnyWork) (region : AnyRegion) (ls : List Frames) (s : Noting) (spot : AnySpot) (fs : Frames) (asked : AnyAsked) (ts : Trees Identifier) (p : ModelPending Identifier FramedIdent) (given : ℕ) →
         Stands work units.old ls s → SpotFor work units.old ls s spot fs → PartsStand work forms.now ts → AllNamed work region forms.now →
         PendingFor work region units.old.unit units.old.form.number pending.old p → NotesFor work ls asked p.notes → trees_size ts < given →
-        GoesOn work work region units.old units.new ls spot fs p.todo given pending.new asked result (λ go. splice (searched known) go here p ts s) }
+        GoesOn work work region units.old units.new ls spot fs p.todo given pending.new asked result (λ go. splice (noting known) go here p ts s) }
 {
     units.count(here, 1)?;
     let mut todo = forms_at(alloc, here, forms)?;

@@ -9,6 +9,13 @@ ghost use Rattle.core_tree.specs.Cores.{PartStands};
 ghost use Rattle.scheme_model.specs.Requirements.{Known};
 ghost use Rattle.scheme_model.specs.Trees.{Tree as ModelTree};
 ghost use Rattle.scheme_model.specs.Order.{Note, Item as ModelItem, WaitingUse as ModelWaiting};
+ghost use Rattle.form_notes.specs.Noted.{Noted};
+ghost use Rattle.noted_steps.specs.Kept.{CanSet as CanSetNoting};
+ghost use Rattle.noted_steps.specs.Noting.{Noting};
+ghost use Rattle.noted_steps.specs.Outcomes.{Ends as EndsNoting};
+ghost use Rattle.noted_steps.specs.Standing.{Stands as StandsNoting};
+ghost use Rattle.unit_scopes.specs.Stepped.{turned};
+ghost use Rattle.expander.specs.UnitNotes.{CanNote, Editions, HasNoted, OnEnded, SetsNoting, expand_noting, met_noting, part_begun, set_noting};
 ghost use Rattle.scheme_model.specs.ScopedExpansion.{Frames, FramedIdent, ScopedState};
 ghost use Rattle.syntax_tree.specs.Names.{KeepsNames};
 ghost use Rattle.syntax_tree.specs.Works.{IsOpened, StandsFor, KeepsTrees, SameRegions, AddsIn, live_count};
@@ -29,6 +36,8 @@ use core_tree::units::ExpandedItem;
 use feature_requirements::fault::ExpandFault;
 use form_parts::items::{Item, Kept, Left, Pending, Spot, WaitingUse, forms_at};
 use ls_base::{Items, Mem, Steps};
+use noted_steps::parts::{begin_notes, end_notes, resume_notes};
+use noted_steps::uses::meet_all;
 use std::alloc::Global;
 use std::mem;
 use std::sync::ledger::Ledger;
@@ -57,6 +66,9 @@ pub fn declare_form<L: Ledger>(
     ensures declared { (known : Known) (ls : List Frames) (s : ScopedState) (notes : List (Note FramedIdent)) (t : ModelTree Identifier) → Knows units.old.libraries known →
         UnitStands work.old units.old ls s notes → CountsFor work.old s number budget.old trace.old → StandsFor work.old form t →
         Declares work.old work.new region.now units.old units.new budget.old budget.new ls number trace.new result (declared known number t notes s) }
+    ensures noted { (known : Known) (ls : List Frames) (s : ScopedState) (notes : List (Note FramedIdent)) (t : ModelTree Identifier) (editions : Editions) (ms : List Noted) → Knows units.old.libraries known →
+        UnitStands work.old units.old ls s notes → CountsFor work.old s number budget.old trace.old → StandsFor work.old form t → CanNote work.old units.old trace.old (s.uses number) editions ms (turned number s) →
+        OnEnded result (HasNoted work.new trace.new (set_noting known t notes (part_begun (s.uses number) notes editions ms (turned number s))).1) }
     ensures space { OnOk result (HasSpace (2 ^ 43) budget.new) }
     ensures ticks { steps.new + budget.old.uses ≡ steps.old + budget.new.uses }
     ensures keeps { KeepsTrees work.old work.new }
@@ -95,12 +107,17 @@ pub fn meet_uses(
     ensures met { (known : Known) (ls : List Frames) (s : ScopedState) (notes : List (Note FramedIdent)) (us : List (ModelWaiting Identifier)) → UnitStands work.now units.old ls s notes →
         CountsFor work.now s number budget trace.old → AllMatch (WaitsFor work.now units.old.unit number) uses.now us →
         OnOk result (UnitStands work.now units.new ls (uses_met known number us s) notes × CountsFor work.now (uses_met known number us s) number budget trace.new) }
+    ensures noted { (known : Known) (ls : List Frames) (s : ScopedState) (notes : List (Note FramedIdent)) (us : List (ModelWaiting Identifier)) (editions : Editions) (ms : List Noted) → UnitStands work.now units.old ls s notes →
+        CountsFor work.now s number budget trace.old → AllMatch (WaitsFor work.now units.old.unit number) uses.now us → CanNote work.now units.old trace.old (s.uses number) editions ms (turned number s) →
+        OnOk result (HasNoted work.now trace.new (met_noting known us (part_begun (s.uses number) notes editions ms (turned number s)))) }
     ensures scope { OnOk result (units.new ≡ record units.old { form = units.new.form }) }
 {
     turn(units, number, budget, trace);
     let alloc = units.alloc;
     let root = units.root;
-    units.meet_all(alloc, work, root, uses)?;
+    begin_notes(units);
+    meet_all(units, alloc, work, root, uses)?;
+    end_notes(units)?;
     mem::swap(&mut units.form.trace, trace);
     Ok(())
 }
@@ -123,6 +140,9 @@ pub fn expand_item<L: Ledger>(
     ensures expanded { (known : Known) (ls : List Frames) (s : ScopedState) (notes : List (Note FramedIdent)) (i : ModelItem Identifier) → Knows units.old.libraries known →
         UnitStands work.old units.old ls s notes → CountsFor work.old s number budget.old trace.old → ItemFor work.old region.now units.old.unit number item.now i →
         Expands work.old work.new region.now units.old units.new budget.old budget.new ls number trace.new notes result (expanded known number i s) }
+    ensures noted { (known : Known) (ls : List Frames) (s : ScopedState) (notes : List (Note FramedIdent)) (i : ModelItem Identifier) (editions : Editions) (ms : List Noted) → Knows units.old.libraries known →
+        UnitStands work.old units.old ls s notes → CountsFor work.old s number budget.old trace.old → ItemFor work.old region.now units.old.unit number item.now i → CanNote work.old units.old trace.old trace.old.notes.begun editions ms (turned number s) →
+        OnEnded result (HasNoted work.new trace.new (expand_noting known i (part_begun trace.old.notes.begun notes editions ms (turned number s))).1) }
     ensures space { OnOk result (HasSpace (2 ^ 43) budget.new) }
     ensures ticks { steps.new + budget.old.uses ≡ steps.old + budget.new.uses }
     ensures keeps { KeepsTrees work.old work.new }
@@ -180,7 +200,7 @@ fn rest<L: Ledger>(
     mem::swap(&mut units.form.trace, trace);
 }
 
-/// What is left of the form at work.
+/// What is left of the form at work. What it asks is noted.
 fn declare(
     units: &mut UnitScope,
     work: &mut Work,
@@ -194,9 +214,34 @@ fn declare(
     ensures sets { (known : Known) (ls : List Frames) (s : ScopedState) (notes : List (Note FramedIdent)) (t : ModelTree Identifier) → Knows units.old.libraries known →
         Stands work.old units.old ls s → NotesFor work.old ls units.old.asked notes → StandsFor work.old form t →
         Sets work.old work.new region.now units.old units.new ls result (set_aside known t notes s) }
+    ensures noted { (known : Known) (ls : List Frames) (s : ScopedState) (notes : List (Note FramedIdent)) (t : ModelTree Identifier) (editions : Editions) (ms : List Noted) → Knows units.old.libraries known → Stands work.old units.old ls s →
+        NotesFor work.old ls units.old.asked notes → StandsFor work.old form t → CanNote work.old units.old units.old.form.trace (s.uses s.form) editions ms s →
+        OnEnded result (HasNoted work.new units.new.form.trace (set_noting known t notes (part_begun (s.uses s.form) notes editions ms s)).1) }
     ensures work { Adds work.old work.new region.now units.old.form.budget }
     ensures counts { Counts units.old units.new result }
     ensures full { result ≡ Err ExpandFault.Full → MayFill work.old units.old }
+    ensures locals { OnOk result (units.new.form.budget.locals ≤ units.old.form.budget.locals + 2 ^ 40) }
+{
+    begin_notes(units);
+    let left = go_through(units, work, region, form);
+    end_notes(units)?;
+    left
+}
+
+/// Goes through the form at work.
+fn go_through(
+    units: &mut UnitScope,
+    work: &mut Work,
+    region: &Region,
+    form: Tree,
+) -> Result<Left, ExpandFault>
+    requires opened { IsOpened work.old region.now }
+    requires form { IsAtWork work.old region.now form }
+    requires can { CanSetNoting work.old units.old }
+    requires space { HasRoom (2 ^ 43 + 2 ^ 40) units.old }
+    ensures sets { (known : Known) (ls : List Frames) (s : Noting) (notes : List (Note FramedIdent)) (t : ModelTree Identifier) → Knows units.old.libraries known → StandsNoting work.old units.old ls s →
+        NotesFor work.old ls units.old.asked notes → StandsFor work.old form t →
+        SetsNoting work.old work.new region.now units.old units.new ls result (set_noting known t notes s) }
     ensures locals { OnOk result (units.new.form.budget.locals ≤ units.old.form.budget.locals + 2 ^ 40) }
 {
     let alloc = units.alloc;
@@ -223,7 +268,7 @@ fn declare(
     Ok(Left { uses, items })
 }
 
-/// What the form at work has set aside, expanded. What the unit was asked stays.
+/// What the form at work has set aside, expanded. What the unit was asked stays, and what the form asks is noted.
 fn expand_apart(
     units: &mut UnitScope,
     work: &mut Work,
@@ -238,10 +283,36 @@ fn expand_apart(
         ItemFor work.old region.now units.old.unit units.old.form.number item.now i →
         Ends (λ layout. PartStands work.new units.new.unit units.new.form.number) work.old work.new region.now units.old units.new ls result
         (item_part (expand (searched known) enough_turns) (searched known) max_depth [] i s) }
+    ensures noted { (known : Known) (ls : List Frames) (s : ScopedState) (notes : List (Note FramedIdent)) (i : ModelItem Identifier) (editions : Editions) (ms : List Noted) → Knows units.old.libraries known → Stands work.old units.old ls s →
+        ItemFor work.old region.now units.old.unit units.old.form.number item.now i → CanNote work.old units.old units.old.form.trace units.old.form.trace.notes.begun editions ms s →
+        OnEnded result (HasNoted work.new units.new.form.trace (expand_noting known i (part_begun units.old.form.trace.notes.begun notes editions ms s)).1) }
     ensures asked { units.new.asked ≡ units.old.asked }
     ensures work { Adds work.old work.new region.now units.old.form.budget }
     ensures counts { Counts units.old units.new result }
     ensures full { result ≡ Err ExpandFault.Full → MayFill work.old units.old }
+    ensures locals { OnOk result (Spends 0 units.old units.new) }
+{
+    resume_notes(units);
+    let part = expand_at_root(units, work, region, item);
+    end_notes(units)?;
+    part
+}
+
+/// Expands at the unit's root what the form at work has set aside.
+fn expand_at_root(
+    units: &mut UnitScope,
+    work: &mut Work,
+    region: &Region,
+    item: &Item,
+) -> Result<CorePart, ExpandFault>
+    requires opened { IsOpened work.old region.now }
+    requires item { (i : ModelItem Identifier) × ItemFor work.old region.now units.old.unit units.old.form.number item.now i }
+    requires can { CanSetNoting work.old units.old }
+    requires space { HasRoom (2 ^ 43) units.old }
+    ensures part { (known : Known) (ls : List Frames) (s : Noting) (i : ModelItem Identifier) → Knows units.old.libraries known → StandsNoting work.old units.old ls s →
+        ItemFor work.old region.now units.old.unit units.old.form.number item.now i →
+        EndsNoting (λ layout. PartStands work.new units.new.unit units.new.form.number) work.old work.new region.now units.old units.new ls result (expand_noting known i s) }
+    ensures asked { units.new.asked ≡ units.old.asked }
     ensures locals { OnOk result (Spends 0 units.old units.new) }
 {
     let alloc = units.alloc;

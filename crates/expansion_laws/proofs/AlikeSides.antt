@@ -101,6 +101,8 @@ module _ {E A L S : Type 0} (loud : Ops E A L S) (k : Likeness loud) where
     like = like;
     bounds = λ e. Equal;
     notes = notes;
+    ruled = λ s m. Unit {0};
+    ruled_there = λ s m a. tt;
     itself = λ s g. (g, k.itself s);
     then_ = λ s t u a b g. (let x = a g in let y = b x.0 in (y.0, k.then_ s t u x.1 y.1));
     fits_later = λ s t a e f h. (let x = a h.1.0 in (h.0, (x.0, k.fits_later s t x.1 e h.1.1)));
@@ -112,6 +114,7 @@ module _ {E A L S : Type 0} (loud : Ops E A L S) (k : Likeness loud) where
     ask_later = λ s qs g. (g, k.itself s);
     ask_near = λ s t n qs rs a. n;
     ask_means = λ s qs e i. refl;
+    ask_macro = λ s qs m. refl;
     ask_meant = λ t rs f i. refl;
     counts = λ s t n. ap loud.counted n.0;
     spend_back = λ s n a. tt;
@@ -189,7 +192,7 @@ module _ {E A L S : Type 0} (loud : Ops E A L S) (k : Likeness loud) where
 
   pub expand_alike : (turns depth : ℕ) (here : Here) (e : E) (t : Task A) (s : S) → On loud k e s → Alike loud k s (expand (ops loud k) turns depth here e t s) (expand (other loud k) turns depth here e t s)
   expand_alike turns depth here e t s h =
-      let law = expand_goes (ops loud k) (other loud k) fits sides turns depth here e e t s (refl, h) in
+      let law = expand_goes (ops loud k) (other loud k) fits sides (λ s m. tt) turns depth here e e t s (refl, h) in
       let x = law.same s (refl, h.0) tt in
       let a = value_same (λ v w. w ≡ v) (λ v w y. y) (expand (ops loud k) turns depth here e t s).0 (expand (other loud k) turns depth here e t s).0 x.0 in let b = x.1.0 in
       record { same = λ j. (a j, b j); after = law.after h.0 }
@@ -198,7 +201,7 @@ module _ {E A L S : Type 0} (loud : Ops E A L S) (k : Likeness loud) where
       → Alike loud k s (item_part (expand (ops loud k) turns) (ops loud k) depth e i s) (item_part (expand (other loud k) turns) (other loud k) depth e i s)
   item_alike turns depth e i s h =
       let F = expand (ops loud k) turns in let G = expand (other loud k) turns in
-      let law = item_goes (ops loud k) (other loud k) fits sides F G (expand_goes (ops loud k) (other loud k) fits sides turns) Equal (λ x y d i. ap (λ z. meaning_of z i) d) depth e e i i (item_itself Equal (λ x. refl) i) s (refl, h) in
+      let law = item_goes (ops loud k) (other loud k) fits sides (λ s m. tt) F G (expand_goes (ops loud k) (other loud k) fits sides (λ s m. tt) turns) Equal (λ x y d i. ap (λ z. meaning_of z i) d) depth e e i i (item_itself Equal (λ x. refl) i) s (refl, h) in
       let x = law.same s (refl, h.0) tt in
       let a = value_same (PartLike Equal) (part_equal Equal (λ x y d. d)) (item_part F (ops loud k) depth e i s).0 (item_part G (other loud k) depth e i s).0 x.0 in let b = x.1.0 in
       record { same = λ j. (a j, b j); after = law.after h.0 }

@@ -163,7 +163,7 @@ module _ (all : List Placed) (ps : List Prepared) (known : Known) (n : ℕ) (p :
     settled : Settled left
     settled = work_settled all ps known n scoped_before before_settled
 
-    bounded : Bounded w start
+    pub bounded : Bounded w start
     bounded = record {
       unit = refl;
       definitions = unit_state.fine.1.binders;

@@ -77,7 +77,8 @@ pub enum Connective {
     Unknown,
 }
 
-fn connective_in(word: &str) -> Connective
+/// What a word says as the first of a requirement that is a list.
+pub fn connective_in(word: &str) -> Connective
     ensures { result ≡ connective_named word.now }
 {
     if word == "and" {

@@ -82,7 +82,7 @@ outside_apart (Global u i) v e = refl
 outside_apart (Standard x) v e = refl
 outside_apart (Free x) v e = refl
 
-no_local_macro : (ks : List ScopedMacro) (v : Number) → macro_at (macros_outside ks) (Local v) ≡ None
+pub no_local_macro : (ks : List ScopedMacro) (v : Number) → macro_at (macros_outside ks) (Local v) ≡ None
 no_local_macro [] v = refl
 no_local_macro (k ∷ ks) v = go (is_outside k.meaning) refl (no_local_macro ks v)
   where

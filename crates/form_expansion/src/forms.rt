@@ -350,13 +350,18 @@ fn broken(alloc: Global, trace: Trace, fault: Option<FormFault>) -> UnitForm
     ensures uses { result.trace.uses ≡ [] }
     ensures fault { result.fault ≡ fault }
 {
-    let Trace { definitions, .. } = trace;
+    let Trace {
+        definitions,
+        notes,
+        ..
+    } = trace;
     UnitForm {
         items: Items::new(alloc),
         trace: Trace {
             definitions,
             keywords: Items::new(alloc),
             uses: Items::new(alloc),
+            notes,
         },
         fault,
     }

@@ -31,15 +31,15 @@ use Rattle.form_laws.proofs.FormLaws.{each_all, no_locals, Moved, items_moved, m
 abbrev Fits : Asking → Frames → Frames → Type 0
 Fits s e f = f ≡ e
 
-ask_same : (q r : Asked Frames Ident) → AskedLike (λ (e f : Frames). f ≡ e) q r → r ≡ q
+ask_same : (q r : Asked Frames Ident) → AskedLike (λ m. Unit {0}) (λ (e f : Frames). f ≡ e) q r → r ≡ q
 ask_same (Meant e i) r l = let d = l.1 in l.2 ∙ (λ j. Meant (d j) i)
 ask_same (Headed e i) r l = let d = l.1 in l.2 ∙ (λ j. Headed (d j) i)
-ask_same (RulesOf m) r l = l
+ask_same (RulesOf m) r l = l.1
 ask_same (Alike c i e k) r l = let a = l.2 in let b = l.3 in l.4 ∙ (λ j. Alike (a j) i (b j) k)
 ask_same (Assigns e i) r l = let d = l.1 in l.2 ∙ (λ j. Assigns (d j) i)
 ask_same (Library n) r l = l
 
-asks_same : (qs rs : List (Asked Frames Ident)) → Both (AskedLike (λ (e f : Frames). f ≡ e)) qs rs → rs ≡ qs
+asks_same : (qs rs : List (Asked Frames Ident)) → Both (AskedLike (λ m. Unit {0}) (λ (e f : Frames). f ≡ e)) qs rs → rs ≡ qs
 asks_same [] [] l = refl
 asks_same [] (r ∷ rs) l = absurd l
 asks_same (q ∷ qs) [] l = absurd l
@@ -205,6 +205,8 @@ module _ (w v : Around) (same : SameForm w v) (bw : Begins w.state) (bv : Begins
     like = λ s l k. k ≡ l;
     bounds = BindsHere;
     notes = λ s e. SameNotes;
+    ruled = λ s m. Unit {0};
+    ruled_there = λ s m a. tt;
     itself = λ s. tt;
     then_ = λ s t u a b. tt;
     fits_later = λ s t a e f d. d;
@@ -216,6 +218,7 @@ module _ (w v : Around) (same : SameForm w v) (bw : Begins w.state) (bv : Begins
     ask_later = λ s qs. tt;
     ask_near = λ s t h qs rs a. (let d = asks_same qs rs a in λ j. there.ask (d j) (h j));
     ask_means = λ s qs e i. refl;
+    ask_macro = λ s qs m. refl;
     ask_meant = λ t rs f i. refl;
     counts = λ s t h. ap there.counted h;
     spend_back = λ s n a. a;
@@ -277,5 +280,5 @@ module _ (w v : Around) (same : SameForm w v) (bw : Begins w.state) (bv : Begins
   pub left_alike : (turns from to : ℕ) (l : Left Ident) → Each (SameAnswer w v) (questions_of_left w turns (Ok l)) → (finish_asking v turns (Ok (left_with (bound_moved from to) l))).1 ≡ (finish_asking w turns (Ok l)).1
   left_alike turns from to l a =
       let f = bound_moved from to in
-      let law = left_parts here there Fits sides (expand here turns) (expand there turns) (expand_goes here there Fits sides turns) (Moved f) (λ x y d i. ap (λ z. meaning_of z i) d ∙ moved_meant from to x i) max_depth [] [] l (left_with f l) (refl, items_moved f l.items) (no_questions w) refl in
+      let law = left_parts here there Fits sides (λ s m. tt) (expand here turns) (expand there turns) (expand_goes here there Fits sides (λ s m. tt) turns) (Moved f) (λ x y d i. ap (λ z. meaning_of z i) d ∙ moved_meant from to x i) max_depth [] [] l (left_with f l) (refl, items_moved f l.items) (no_questions w) refl in
       (law.same (no_questions v) begun (each_all (SameAnswer w v) (questions_of_left w turns (Ok l)) a)).1

@@ -30,7 +30,7 @@ pub all_parted : {X : Type 0} (P : X → Type 0) (xs ys : List X) → AllOf P (x
 all_parted P [] ys h = (tt, h)
 all_parted P (x ∷ xs) ys h = let q = all_parted P xs ys h.1 in ((h.0, q.0), q.1)
 
-nothing_behind : {X : Type 0} (xs : List X) → xs ++ [] ≡ xs
+pub nothing_behind : {X : Type 0} (xs : List X) → xs ++ [] ≡ xs
 nothing_behind [] = refl
 nothing_behind (x ∷ xs) = ap (λ zs. x ∷ zs) (nothing_behind xs)
 
@@ -104,7 +104,7 @@ as_outcome b x r gs p t false true = refl
 as_outcome b x r gs p t false false = refl
 
 -- the notes that count in a unit are those of the forms before too
-abbrev earlier : Around → Option Number → List (Note FramedIdent)
+abbrev pub earlier : Around → Option Number → List (Note FramedIdent)
 earlier v None = v.notes
 earlier v (Some b) = []
 
@@ -301,6 +301,8 @@ module _ (w v : Around) (same_unit : v.state.unit ≡ w.state.unit) (same_form :
     like = λ s l k. bare_ident k ≡ bare_ident l;
     bounds = Binds;
     notes = λ s fs ns ms. NotesLike fs ns ms;
+    ruled = λ s m. Unit {0};
+    ruled_there = λ s m a. tt;
     itself = λ s. tt;
     then_ = λ s t u a b. tt;
     fits_later = λ s t a fs gs e. e;
@@ -312,6 +314,7 @@ module _ (w v : Around) (same_unit : v.state.unit ≡ w.state.unit) (same_form :
     ask_later = λ s qs. tt;
     ask_near = λ s t h qs rs a. h;
     ask_means = λ s qs fs i. refl;
+    ask_macro = λ s qs m. refl;
     ask_meant = λ t rs f i. refl;
     counts = λ s t h. counts_are v s.moment t h v.known;
     spend_back = λ s n a. a;

@@ -67,7 +67,7 @@ like_of (Some m) (Some m2) e = (m2.env, ap env_of e, λ j. Some (record { env = 
 
 -- ---- the form's own answers
 
-around_bare : (ps : List UsePlace) (k : Number) → around (map bare_place ps) k ≡ bare (around ps k)
+pub around_bare : (ps : List UsePlace) (k : Number) → around (map bare_place ps) k ≡ bare (around ps k)
 around_bare [] k = refl
 around_bare (p ∷ ps) k = go (same_number p.use_number k) (around_bare ps k)
   where

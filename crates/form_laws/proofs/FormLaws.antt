@@ -149,7 +149,7 @@ module _ (w v : Around) (same : SameForm w v) (en : NoLocals w) (em : NoLocals v
   finish_there f meant g told l m d k a =
       let answers = answering v.state v.known in
       let s = sides w v same.unit same.form en em in
-      let law = left_parts (asking w) answers fits s (expand (asking w) turns) (expand answers turns) (expand_goes (asking w) answers fits s turns) (Moved f) (λ x y d i. ap (λ z. meaning_of z i) d ∙ meant x i) max_depth [] [] l m d (no_questions w) refl in
+      let law = left_parts (asking w) answers fits s (λ s m. tt) (expand (asking w) turns) (expand answers turns) (expand_goes (asking w) answers fits s (λ s m. tt) turns) (Moved f) (λ x y d i. ap (λ z. meaning_of z i) d ∙ meant x i) max_depth [] [] l m d (no_questions w) refl in
       let x = law.same v.state (leaves_start v (start w.state) same.counts) a in
       let there : Result Parts Broken × ScopedState = finish_by answers turns [] (Ok m) v.state in
       let e : finish v turns (Ok m) ≡ there = finish_own v.known v.state k.state turns m k.uses k.items k.macros in

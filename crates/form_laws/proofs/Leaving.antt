@@ -164,7 +164,7 @@ module _ (v : Around) (n : Moment) (t : ScopedState) (h : Leaves v n t) where
   pub means_is : (fs gs : Frames) → SameFrames fs gs → (i : Ident) → own_means (own_since v.state t) t gs i ≡ own_means (own_at n) (at_moment v n) fs i
   means_is fs gs e i = let a = local_is fs gs e i in let b = ap (λ (s : ScopedState). root_means s i) h in λ j. local_or (a j) (b j)
 
-  outside_macro : (m : Meaning) → option_map bare_macro (macro_at t.macros m) ≡ option_map bare_macro (macro_at (n.macros ++ v.state.macros) m)
+  pub outside_macro : (m : Meaning) → option_map bare_macro (macro_at t.macros m) ≡ option_map bare_macro (macro_at (n.macros ++ v.state.macros) m)
   outside_macro m = sym (macro_bare t.macros m) ∙ ap (λ (s : ScopedState). macro_at s.macros m) h ∙ macro_bare (n.macros ++ v.state.macros) m
 
   pub macro_is : (m : Meaning) → option_map bare_macro (own_macro (own_since v.state t) t m) ≡ option_map bare_macro (own_macro (own_at n) (at_moment v n) m)

@@ -37,11 +37,11 @@ use Rattle.form_laws.proofs.OwnStates.{find_some, is_new, new_parts, Stand, root
 
 -- ---- what a body's definition asks is the form's own
 
-local_asked : (l : Option Number) (m : Meaning) → NoLocal m → (k : Number) → same_meaning (local_or l m) (Local k) ≡ same_meaning (local_or l (Free [])) (Local k)
+pub local_asked : (l : Option Number) (m : Meaning) → NoLocal m → (k : Number) → same_meaning (local_or l m) (Local k) ≡ same_meaning (local_or l (Free [])) (Local k)
 local_asked None m h k = apart_right k m h
 local_asked (Some v) m h k = refl
 
-both_asked : (l j : Option Number) (m n : Meaning) → NoLocal m → NoLocal n → (k : Number) (held : Bool)
+pub both_asked : (l j : Option Number) (m n : Meaning) → NoLocal m → NoLocal n → (k : Number) (held : Bool)
     → ((same_meaning (local_or l m) (Local k) || same_meaning (local_or j n) (Local k)) && differ held (same_meaning (local_or l m) (local_or j n)))
     ≡ ((same_meaning (local_or l (Free [])) (Local k) || same_meaning (local_or j (Free [])) (Local k)) && differ held (same_meaning (local_or l (Free [])) (local_or j (Free []))))
 both_asked None None m n a b k held = let p = apart_right k m a in let q = apart_right k n b in λ i. (p i || q i) && differ held (same_meaning m n)

@@ -68,7 +68,8 @@ module _ (R : Bound → Bound → Type 0) (equal : (x y : Bound) → R x y → y
   parts_equal no_parts qs h = h
   parts_equal (part p ps) qs h = h.4 ∙ (let a = part_equal p h.0 h.2 in let b = parts_equal ps h.1 h.3 in λ j. part (a j) (b j))
 
-module _ {E A L S T : Type 0} (ops : Ops E A L S) (others : Ops E A L T) (fits : S → E → E → Type 0) (k : Sides ops others fits) where
+-- of any macro the rules may be asked
+module _ {E A L S T : Type 0} (ops : Ops E A L S) (others : Ops E A L T) (fits : S → E → E → Type 0) (k : Sides ops others fits) (any_ruled : (s : S) (m : Meaning) → k.ruled s m) where
   abbrev there : Ops E A L T
   there = other ops others fits k
 
@@ -202,7 +203,7 @@ module _ {E A L S T : Type 0} (ops : Ops E A L S) (others : Ops E A L T) (fits :
   macro_alike R meant s t b c h a =
       let m : Meaning = meaning_of b.bound b.ident in
       let same : meaning_of c.bound c.ident ≡ m = ap (λ i. meaning_of c.bound i) h.1 ∙ meant b.bound c.bound h.0 b.ident in
-      subst (λ (n : Meaning). AskAlike ops others fits k s (macro_asked ops s b) (RulesOf n ∷ leaves_asked there (others.transformer t n))) (sym same) (refl, leaves_alike s (ops.transformer s m) (others.transformer t m) a.0)
+      subst (λ (n : Meaning). AskAlike ops others fits k s (macro_asked ops s b) (RulesOf n ∷ leaves_asked there (others.transformer t n))) (sym same) ((any_ruled s m, refl), leaves_alike s (ops.transformer s m) (others.transformer t m) a.0)
 
   -- the macro of another binder is told by the first's
   macro_some : (R : Bound → Bound → Type 0) (s : S) (b c : Binder) → BinderLike R b c → (n : MacroDef) × MacroLike R (macro_def ops s b) n
@@ -234,7 +235,7 @@ module _ {E A L S T : Type 0} (ops : Ops E A L S) (others : Ops E A L T) (fits :
   locals_alike s t (v ∷ vs) (n ∷ ns) a =
       let b : Binder = record { bound = LocalNumber v; ident = ops.plain n.name; occ = n.occ } in
       let q = parted (Answer ops others fits s t) (macro_asked ops s b) (locals_asked ops s vs ns) a in
-      both_append (AskedLike (fits s)) (macro_asked ops s b) (macro_asked there t b) (locals_asked ops s vs ns) (locals_asked there t vs ns)
+      both_append (AskedLike (k.ruled s) (fits s)) (macro_asked ops s b) (macro_asked there t b) (locals_asked ops s vs ns) (locals_asked there t vs ns)
       (macro_alike (λ (x y : Bound). y ≡ x) (λ x y d i. ap (λ z. meaning_of z i) d) s t b b (refl, refl, refl) q.0) (locals_alike s t vs ns q.1)
 
   heads_goes : (here : Here) (e f : E) (ts : Trees A) (s : S) → fits s e f → Gives {V = List (RulesParts A)} s (heads ops here e ts s) (heads there here f ts)
@@ -469,7 +470,7 @@ module _ {E A L S T : Type 0} (ops : Ops E A L S) (others : Ops E A L T) (fits :
         → Gives s (macro_use F ops depth here e x o ts tail (ops.ask (RulesOf m ∷ []) s)) (λ t. macro_use G there depth here f x (others.transformer t m) ts tail (others.ask (RulesOf m ∷ []) t))
     macro_goes depth here e f x ts tail s h m None d =
         let qs = RulesOf m ∷ [] in
-        comes_asked ops others fits k s qs qs (refl, tt) _ (fails here BadForm) (λ t n a. ap (λ z. macro_use G there depth here f x z ts tail (others.ask qs t)) (by a.0)) (goes_fails ops others fits k here BadForm (ops.ask (RulesOf m ∷ []) s))
+        comes_asked ops others fits k s qs qs ((any_ruled s m, refl), tt) _ (fails here BadForm) (λ t n a. ap (λ z. macro_use G there depth here f x z ts tail (others.ask qs t)) (by a.0)) (goes_fails ops others fits k here BadForm (ops.ask (RulesOf m ∷ []) s))
       where
         by : {z : Option (Transformer E A)} → TransformerLike (fits s) (ops.transformer s m) z → z ≡ None
         by {z} a = subst (λ (w : Option (Transformer E A)). TransformerLike (fits s) w z) (sym d) a
@@ -482,7 +483,7 @@ module _ {E A L S T : Type 0} (ops : Ops E A L S) (others : Ops E A L T) (fits :
         (λ g z. bind_same ops others fits k u _ _ (use_goes ops others fits k here e f x c.env g c.rules ts tail u hu z)
         (λ i v a. let hv = still u v a e f hu in let w = meet_waiting ops e i.met v in
         meet_goes ops others fits k e f i.met v (G depth here f (whole i.tree)) hv (law depth here e f (whole i.tree) w (still v w (meet_later ops others fits k e i.met v) e f hv))))
-        (λ t n a. let z = by (k.answered s t n qs a).0 in (z.0, asked_fits ops others fits k s qs c.env z.0 z.1, others.ask qs t, k.ask_near s t n qs qs (refl, tt), ap (λ w. macro_use G there depth here f x w ts tail (others.ask qs t)) z.2))
+        (λ t n a. let z = by (k.answered s t n qs a).0 in (z.0, asked_fits ops others fits k s qs c.env z.0 z.1, others.ask qs t, k.ask_near s t n qs qs ((any_ruled s m, refl), tt), ap (λ w. macro_use G there depth here f x w ts tail (others.ask qs t)) z.2))
       where
         by : {z : Option (Transformer E A)} → TransformerLike (fits s) (ops.transformer s m) z → TransformerLike (fits s) (Some c) z
         by {z} a = subst (λ (w : Option (Transformer E A)). TransformerLike (fits s) w z) (sym d) a

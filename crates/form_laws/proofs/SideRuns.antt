@@ -1,18 +1,18 @@
 -- The forms of a body or a unit, gone through on two sides: as long as what the first asks has the same answers on the second, both set
 -- the same aside, but for the numbers of definitions.
-use Rattle.std.proofs.Common.{◌≡◌, ℕ, zero, suc, List, [], ◌∷◌, ◌++◌, map, Bool, true, false, cond, Option, Some, None, Result, Ok, Err, refl, sym, ap, subst}
+use Rattle.std.proofs.Common.{◌≡◌, ℕ, zero, suc, List, [], ◌∷◌, ◌++◌, map, Bool, true, false, cond, Option, Some, None, Result, Ok, Err, refl, sym, ap, ◌∙◌, subst}
 use Rattle.scheme_model.specs.Ident.{Ident}
-use Rattle.scheme_model.specs.Keywords.{CoreKeyword, IsQuote, IsQuasiquote, IsLambda, IsCaseLambda, IsIf, IsSet, IsBegin, IsDefine, IsDefineValues, IsDefineRecordType, IsDefineSyntax, IsLetSyntax, IsLetrecSyntax, IsCondExpand, IsSyntaxError, IsInclude}
+use Rattle.scheme_model.specs.Keywords.{CoreKeyword, Auxiliary, core_named, auxiliary_named, IsQuote, IsQuasiquote, IsLambda, IsCaseLambda, IsIf, IsSet, IsBegin, IsDefine, IsDefineValues, IsDefineRecordType, IsDefineSyntax, IsLetSyntax, IsLetrecSyntax, IsCondExpand, IsSyntaxError, IsInclude}
 use Rattle.scheme_model.specs.Trees.{Tree, name, atom, list, vector, Trees, no_trees, tree, Tail, map_tree}
 use Rattle.scheme_model.specs.ExpansionFaults.{Named, named_map, Fault, UseBudget, OutOfTurns}
-use Rattle.scheme_model.specs.Meaning.{Meaning, Head, IsCore, IsAuxiliary, IsMacro, IsNone, is_keyword}
+use Rattle.scheme_model.specs.Meaning.{Meaning, Local, Global, Standard, Free, Head, IsCore, IsAuxiliary, IsMacro, IsNone, is_keyword, macro_or_none, other_standard, standard_head, head_as}
 use Rattle.scheme_model.specs.Shapes.{Formals, Clause, DefinitionShape, Variable, Procedure, RecordShape, proper_of, definition_of, values_of, record_of, syntax_of}
 use Rattle.scheme_model.specs.RulesShape.{Rules}
 use Rattle.scheme_model.specs.Matching.{matcher, first_match}
 use Rattle.scheme_model.specs.Requirements.{LibraryName, chosen_of, libraries_in}
 use Rattle.scheme_model.specs.Cores.{Target, Bound, Binder, Binders}
 use Rattle.scheme_model.specs.Steps.{Broken, Step, ◌>>=◌, done, fails}
-use Rattle.scheme_model.specs.Order.{Here, Form, Item, Expression, Value, Function, Assigned, AssignedFunction, ValuesOf, Record, Macro, Note, LookedUp, Compared, WaitingUse, Pending, Renamed, Pass, Going, Transformer, Instance, Asked, Headed, RulesOf, Assigns, Library, Counted, Ops, head_of, target_of, here_at, forms_at, told, has_use, used, binder_at, put, waiting, noted, first, define_all, define_names, record_names, record_part, caught, run_variable, run_function, run_define, run_values, run_record, RulesParts, rules_parts_of, rules_parts, rules_note, rules_at, run_syntax, splice, or_none, read_then, run_core, run_use, run_head, run_form, run_next, run}
+use Rattle.scheme_model.specs.Order.{Here, Form, Item, Expression, Value, Function, Assigned, AssignedFunction, ValuesOf, Record, Macro, Note, LookedUp, Compared, WaitingUse, Pending, Renamed, Pass, Going, Transformer, Instance, Asked, Headed, RulesOf, Assigns, Library, Counted, Ops, is_some, head_of, target_of, here_at, forms_at, told, has_use, used, binder_at, put, waiting, noted, first, define_all, define_names, record_names, record_part, caught, run_variable, run_function, run_define, run_values, run_record, RulesParts, rules_parts_of, rules_parts, rules_note, rules_at, run_syntax, splice, or_none, read_then, run_core, run_use, run_head, run_form, run_next, run}
 use Rattle.model_laws.proofs.FrameAsks.{AllOf}
 use Rattle.model_laws.proofs.FrameHeads.{IfMacro}
 use Rattle.form_laws.proofs.Sides.{Both, Results, BinderLike, ItemLike, PendingLike, RenamedLike, TransformerLike, Answer, Sides}
@@ -41,6 +41,37 @@ item_itself R r (AssignedFunction n here k) = refl
 item_itself R r (ValuesOf bs x) = (bs, (both_itself (BinderLike R) (binder_itself R r) bs.names, refl), refl)
 item_itself R r (Record q) = (q, (both_itself (BinderLike R) (binder_itself R r) q.binders, refl, refl, refl), refl)
 item_itself R r (Macro b here) = (b, binder_itself R r b, refl)
+
+-- the head is a macro that is there
+abbrev ByRules : (Meaning → Bool) → Head → Type 0
+ByRules f (IsCore c) = Unit {0}
+ByRules f (IsAuxiliary a) = Unit {0}
+ByRules f (IsMacro m) = f m ≡ true
+ByRules f IsNone = Unit {0}
+
+macro_rules : (f : Meaning → Bool) (m : Meaning) (t : Bool) → f m ≡ t → ByRules f (macro_or_none t m)
+macro_rules f m true e = e
+macro_rules f m false e = tt
+
+other_rules : (f : Meaning → Bool) (m : Meaning) (a : Option Auxiliary) (t : Bool) → f m ≡ t → ByRules f (other_standard a t m)
+other_rules f m (Some a) t e = tt
+other_rules f m None t e = macro_rules f m t e
+
+standard_rules : (f : Meaning → Bool) (m : Meaning) (c : Option CoreKeyword) (a : Option Auxiliary) (t : Bool) → f m ≡ t → ByRules f (standard_head c a t m)
+standard_rules f m (Some c) a t e = tt
+standard_rules f m None a t e = other_rules f m a t e
+
+head_rules : (f : Meaning → Bool) (m : Meaning) → ByRules f (head_as f m)
+head_rules f (Local v) = macro_rules f (Local v) (f (Local v)) refl
+head_rules f (Global u i) = macro_rules f (Global u i) (f (Global u i)) refl
+head_rules f (Standard x) = standard_rules f (Standard x) (core_named x) (auxiliary_named x) (f (Standard x)) refl
+head_rules f (Free x) = tt
+
+rules_same : (f g : Meaning → Bool) → ((m : Meaning) → g m ≡ f m) → (c : Head) → ByRules f c → ByRules g c
+rules_same f g e (IsCore c) h = tt
+rules_same f g e (IsAuxiliary a) h = tt
+rules_same f g e (IsMacro m) h = e m ∙ h
+rules_same f g e IsNone h = tt
 
 module _ {E A L S T : Type 0} (ops : Ops E A L S) (others : Ops E A L T) (fits : S → E → E → Type 0) (k : Sides ops others fits) where
   abbrev there : Ops E A L T
@@ -368,32 +399,26 @@ module _ {E A L S T : Type 0} (ops : Ops E A L S) (others : Ops E A L T) (fits :
                   (λ t n. ap (λ (c : Counted). let b = has_use (record ops { counted = λ u. c }) s in caught (noted (cond b (notes_there t) []) q).notes (cond b (use_there t) (fails here UseBudget t)) (next_there (noted (cond b (notes_there t) []) q))) (k.counts s t n))
                   (by_budget (has_use ops s))
 
-        -- what is done by a macro, where its rules were asked for
-        macro_runs : (x : Target) (y : Form A) (ts : Trees A) (tail : Tail A) (p q : Pending A L) (s : S) → fits s e f → Waits e s p q → (m : Meaning) (o : Option (Transformer E A)) → o ≡ ops.transformer s m
+        -- what is done by a macro that is there, where its rules were asked for
+        macro_runs : (x : Target) (y : Form A) (ts : Trees A) (tail : Tail A) (p q : Pending A L) (s : S) → fits s e f → Waits e s p q → (m : Meaning) (o : Option (Transformer E A)) → o ≡ ops.transformer s m → is_some (ops.transformer s m) ≡ true
             → Runs ops others fits k e s (run_use ops go here e x o y ts tail p (ops.ask (RulesOf m ∷ []) s)) (run_head there go2 here f (IsMacro m) x y ts tail q)
-        macro_runs x y ts tail p q s h l m None d =
-            let qs = RulesOf m ∷ [] in
-            comes_asked ops others fits k s qs qs (refl, tt) _ (go2 (put (Expression y) q)) (λ t n a. ap (λ z. run_use there go2 here f x z y ts tail q (others.ask qs t)) (by a.0))
-            (put_runs (Expression y) (Expression y) refl p q (ops.ask qs s) (asked_fits ops others fits k s qs e f h) (asked_waits s qs p q l))
-          where
-            by : {z : Option (Transformer E A)} → TransformerLike (fits s) (ops.transformer s m) z → z ≡ None
-            by {z} a = subst (λ (w : Option (Transformer E A)). TransformerLike (fits s) w z) (sym d) a
-        macro_runs x y ts tail p q s h l m (Some c) d =
+        macro_runs x y ts tail p q s h l m None d r = let z : false ≡ true = ap is_some d ∙ r in absurd cc
+        macro_runs x y ts tail p q s h l m (Some c) d r =
             let qs = RulesOf m ∷ [] in
             let u = ops.ask qs s in
             let one = subst (IfMacro (λ (c : Transformer E A). (g : E) × fits s c.env g)) (sym d) (k.macro s e f h m) in
             comes_into ops others fits k s u _ (fits u c.env) one.0 (asked_fits ops others fits k s qs c.env one.0 one.1) (λ g. run_use there go2 here f x (Some (record { env = g; rules = c.rules })) y ts tail q) (k.ask_back s qs) (k.ask_later s qs)
             (λ g z. use_runs p q x y ts tail u (asked_fits ops others fits k s qs e f h) (asked_waits s qs p q l) c g z)
-            (λ t n a. let z = by (k.answered s t n qs a).0 in (z.0, asked_fits ops others fits k s qs c.env z.0 z.1, others.ask qs t, k.ask_near s t n qs qs (refl, tt), ap (λ w. run_use there go2 here f x w y ts tail q (others.ask qs t)) z.2))
+            (λ t n a. let z = by (k.answered s t n qs a).0 in (z.0, asked_fits ops others fits k s qs c.env z.0 z.1, others.ask qs t, k.ask_near s t n qs qs ((k.ruled_there s m r, refl), tt), ap (λ w. run_use there go2 here f x w y ts tail q (others.ask qs t)) z.2))
           where
             by : {z : Option (Transformer E A)} → TransformerLike (fits s) (ops.transformer s m) z → TransformerLike (fits s) (Some c) z
             by {z} a = subst (λ (w : Option (Transformer E A)). TransformerLike (fits s) w z) (sym d) a
 
-        head_runs : (c : Head) (x : Target) (y : Form A) (ts : Trees A) (tail : Tail A) (p q : Pending A L) (s : S) → fits s e f → Waits e s p q → Runs ops others fits k e s (run_head ops go here e c x y ts tail p s) (run_head there go2 here f c x y ts tail q)
-        head_runs (IsCore c) x y ts tail p q s h l = core_runs p q x y ts tail s h l c
-        head_runs (IsAuxiliary a) x y ts tail p q s h l = put_runs (Expression y) (Expression y) refl p q s h l
-        head_runs (IsMacro m) x y ts tail p q s h l = macro_runs x y ts tail p q s h l m (ops.transformer s m) refl
-        head_runs IsNone x y ts tail p q s h l = put_runs (Expression y) (Expression y) refl p q s h l
+        head_runs : (c : Head) (x : Target) (y : Form A) (ts : Trees A) (tail : Tail A) (p q : Pending A L) (s : S) → fits s e f → Waits e s p q → ByRules (λ m. is_some (ops.transformer s m)) c → Runs ops others fits k e s (run_head ops go here e c x y ts tail p s) (run_head there go2 here f c x y ts tail q)
+        head_runs (IsCore c) x y ts tail p q s h l r = core_runs p q x y ts tail s h l c
+        head_runs (IsAuxiliary a) x y ts tail p q s h l r = put_runs (Expression y) (Expression y) refl p q s h l
+        head_runs (IsMacro m) x y ts tail p q s h l r = macro_runs x y ts tail p q s h l m (ops.transformer s m) refl r
+        head_runs IsNone x y ts tail p q s h l r = put_runs (Expression y) (Expression y) refl p q s h l
 
         -- ---- any form
 
@@ -411,7 +436,8 @@ module _ {E A L S T : Type 0} (ops : Ops E A L S) (others : Ops E A L T) (fits :
             let l1 : Waits e s (noted (n ∷ []) p) (noted (m ∷ []) q) = record { todo = l.todo; aside = l.aside; uses = l.uses; notes = k.more_notes s e p.notes q.notes l.notes n m (k.placed s e f h i, refl, refl) } in
             comes_asked ops others fits k s qs rs ((f, h, refl), tt) _ (run_head there go2 here f hd x y ts tail (noted (m ∷ []) q))
             (λ t w a. let b = a.0 f h in λ j. run_head there go2 here f (b.1 j) (record { meaning = b.0 j; ident = ops.plain i; occ = z }) y ts tail (noted (LookedUp (others.place f i) true (is_keyword (b.1 j)) ∷ []) q) (others.ask rs t))
-            (head_runs hd x y ts tail (noted (n ∷ []) p) (noted (m ∷ []) q) (ops.ask qs s) (asked_fits ops others fits k s qs e f h) (asked_waits s qs (noted (n ∷ []) p) (noted (m ∷ []) q) l1))
+            (head_runs hd x y ts tail (noted (n ∷ []) p) (noted (m ∷ []) q) (ops.ask qs s) (asked_fits ops others fits k s qs e f h) (asked_waits s qs (noted (n ∷ []) p) (noted (m ∷ []) q) l1)
+            (rules_same (λ m. is_some (ops.transformer s m)) (λ m. is_some (ops.transformer (ops.ask qs s) m)) (λ m. ap is_some (k.ask_macro s qs m)) hd (head_rules (λ m. is_some (ops.transformer s m)) (ops.means e s i))))
         form_runs y (list (tree (atom a z) ts) tail o) p q s h l = put_runs (Expression y) (Expression y) refl p q s h l
         form_runs y (list (tree (list us end z) ts) tail o) p q s h l = put_runs (Expression y) (Expression y) refl p q s h l
         form_runs y (list (tree (vector us z) ts) tail o) p q s h l = put_runs (Expression y) (Expression y) refl p q s h l

@@ -60,7 +60,7 @@ module _ {E A L S T : Type 0} (ops : Ops E A L S) (others : Ops E A L T) (fits :
   comes_read {X} {Y} {R} s {q} g g2 e law = record { back = law.back; after = law.after; some = law.some; same = λ t n a. subst (λ (w : Y × T). R q.1 q.0 w.0 × k.near q.1 w.1) (sym (e t n)) (law.same t n a) }
 
   abbrev pub AskAlike : S → List (Asked E A) → List (Asked E A) → Type 0
-  AskAlike s qs rs = Both (AskedLike (fits s)) qs rs
+  AskAlike s qs rs = Both (AskedLike (k.ruled s) (fits s)) qs rs
 
   -- once it was asked, and the second has asked alike
   pub comes_asking : {X Y : Type 0} {R : S → X → Y → Type 0} (s : S) (qs : List (Asked E A)) {q : X × S} (g g2 : T → Y × T)

@@ -1,6 +1,6 @@
 -- Two sides of expansion over one kind of identifiers: what it means that the second answers as the first asks, and what each
 -- operation then has to keep. A side is given by its operations; the second's names and identifiers are the first's.
-use Rattle.std.proofs.Common.{◌≡◌, ℕ, List, [], ◌∷◌, Option, Some, None, Result, Ok, Err}
+use Rattle.std.proofs.Common.{◌≡◌, ℕ, List, [], ◌∷◌, true, Option, Some, None, Result, Ok, Err}
 use Rattle.scheme_model.specs.Identifiers.{Number}
 use Rattle.scheme_model.specs.Ident.{Ident}
 use Rattle.scheme_model.specs.Trees.{Trees}
@@ -8,7 +8,7 @@ use Rattle.scheme_model.specs.ExpansionFaults.{Named, Fault}
 use Rattle.scheme_model.specs.Meaning.{Meaning, same_meaning}
 use Rattle.scheme_model.specs.RulesShape.{Rules}
 use Rattle.scheme_model.specs.Cores.{Target, Bound, Binder, Binders, RecordType, MacroUse, MacroDef, Parts, no_parts, part, Part, Expression as expression_part, Define as define_part, Values as values_part, Fields as fields_part, Syntax as syntax_part}
-use Rattle.scheme_model.specs.Order.{Item, Expression, Value, Function, Assigned, AssignedFunction, ValuesOf, Record, Macro, Note, LookedUp, Compared, Left, Pending, Renamed, Transformer, Asked, Meant, Headed, RulesOf, Alike, Assigns, Library, Ops, head_of}
+use Rattle.scheme_model.specs.Order.{Item, Expression, Value, Function, Assigned, AssignedFunction, ValuesOf, Record, Macro, Note, LookedUp, Compared, Left, Pending, Renamed, Transformer, Asked, Meant, Headed, RulesOf, Alike, Assigns, Library, Ops, is_some, head_of}
 use Rattle.scheme_model.specs.Expression.{meaning_of}
 use Rattle.model_laws.proofs.FrameAsks.{AllOf}
 use Rattle.model_laws.proofs.FrameHeads.{IfMacro}
@@ -94,14 +94,14 @@ LeftLike R l m = (m.uses ≡ l.uses) × Both (ItemLike R) l.items m.items
 
 -- ---- two sides
 
--- what both ask, in environments that go together
-abbrev pub AskedLike : {E A : Type 0} → (E → E → Type 0) → Asked E A → Asked E A → Type 0
-AskedLike {E} fits (Meant e i) q = (f : E) × fits e f × (q ≡ Meant f i)
-AskedLike {E} fits (Headed e i) q = (f : E) × fits e f × (q ≡ Headed f i)
-AskedLike fits (RulesOf m) q = q ≡ RulesOf m
-AskedLike {E} fits (Alike d l e j) q = (g : E) × (f : E) × fits d g × fits e f × (q ≡ Alike g l f j)
-AskedLike {E} fits (Assigns e i) q = (f : E) × fits e f × (q ≡ Assigns f i)
-AskedLike fits (Library n) q = q ≡ Library n
+-- what both ask, in environments that go together, and of which macros
+abbrev pub AskedLike : {E A : Type 0} → (Meaning → Type 0) → (E → E → Type 0) → Asked E A → Asked E A → Type 0
+AskedLike {E} ruled fits (Meant e i) q = (f : E) × fits e f × (q ≡ Meant f i)
+AskedLike {E} ruled fits (Headed e i) q = (f : E) × fits e f × (q ≡ Headed f i)
+AskedLike ruled fits (RulesOf m) q = ruled m × (q ≡ RulesOf m)
+AskedLike {E} ruled fits (Alike d l e j) q = (g : E) × (f : E) × fits d g × fits e f × (q ≡ Alike g l f j)
+AskedLike {E} ruled fits (Assigns e i) q = (f : E) × fits e f × (q ≡ Assigns f i)
+AskedLike ruled fits (Library n) q = q ≡ Library n
 
 module _ {E A L S T : Type 0} (ops : Ops E A L S) (others : Ops E A L T) (fits : S → E → E → Type 0) where
   -- the second tells identifiers as the first
@@ -119,7 +119,8 @@ module _ {E A L S T : Type 0} (ops : Ops E A L S) (others : Ops E A L T) (fits :
 
   -- `same_so_far` holds of a state if all that was asked by then has the same answers, `later` of a state and one after it, `near` of two
   -- states that go together, `fits` of their environments, and `defines` of those in which definitions are made; `like` holds of what
-  -- notes keep of an identifier, `bounds` of what a definition binds, and `notes` of the notes of a body or a unit
+  -- notes keep of an identifier, `bounds` of what a definition binds, `notes` of the notes of a body or a unit, and `ruled` of a macro of
+  -- which the rules are asked, as of one that is there
   pub record Sides : Type 1 where
     pub same_so_far : S → Type 0
     pub later : S → S → Type 0
@@ -128,6 +129,8 @@ module _ {E A L S T : Type 0} (ops : Ops E A L S) (others : Ops E A L T) (fits :
     pub like : S → L → L → Type 0
     pub bounds : E → Bound → Bound → Type 0
     pub notes : S → E → List (Note L) → List (Note L) → Type 0
+    pub ruled : S → Meaning → Type 0
+    pub ruled_there : (s : S) (m : Meaning) → is_some (ops.transformer s m) ≡ true → ruled s m
     pub itself : (s : S) → later s s
     pub then_ : (s t u : S) → later s t → later t u → later s u
     pub fits_later : (s t : S) → later s t → (e f : E) → fits s e f → fits t e f
@@ -137,8 +140,9 @@ module _ {E A L S T : Type 0} (ops : Ops E A L S) (others : Ops E A L T) (fits :
     pub answered : (s : S) (t : T) → near s t → (qs : List (Asked E A)) → same_so_far (ops.ask qs s) → AllOf (Answer s t) qs
     pub ask_back : (s : S) (qs : List (Asked E A)) → same_so_far (ops.ask qs s) → same_so_far s
     pub ask_later : (s : S) (qs : List (Asked E A)) → later s (ops.ask qs s)
-    pub ask_near : (s : S) (t : T) → near s t → (qs rs : List (Asked E A)) → Both (AskedLike (fits s)) qs rs → near (ops.ask qs s) (others.ask rs t)
+    pub ask_near : (s : S) (t : T) → near s t → (qs rs : List (Asked E A)) → Both (AskedLike (ruled s) (fits s)) qs rs → near (ops.ask qs s) (others.ask rs t)
     pub ask_means : (s : S) (qs : List (Asked E A)) (e : E) (i : A) → ops.means e (ops.ask qs s) i ≡ ops.means e s i
+    pub ask_macro : (s : S) (qs : List (Asked E A)) (m : Meaning) → ops.transformer (ops.ask qs s) m ≡ ops.transformer s m
     pub ask_meant : (t : T) (rs : List (Asked E A)) (f : E) (i : A) → others.means f (others.ask rs t) i ≡ others.means f t i
     pub counts : (s : S) (t : T) → near s t → others.counted t ≡ ops.counted s
     pub spend_back : (s : S) (n : ℕ) → same_so_far (ops.spend n s) → same_so_far s

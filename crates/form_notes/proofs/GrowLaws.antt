@@ -83,5 +83,6 @@ module _ (old new : Names) (keeps : KeepsNames old new) where
               all = λ m there. (let p = s.notes.all m there in (p.0, p.1, note_on r p.0 m p.2));
               alone = λ y there. (let p = s.notes.alone y there in (p.0, p.1, note_on r y p.0 p.2));
             };
+            order = s.order;
           };
     }

@@ -1,5 +1,5 @@
 -- A note more stands for a question more; and what is noted of an identifier by what the form's definitions have to do with it.
-use Rattle.std.proofs.Common.{◌≡◌, ◌⊎◌, ℕ, List, [], ◌∷◌, ◌++◌, length, Bool, true, false, cond, refl, sym, ap, ◌∙◌, subst, inl, inr, arith}
+use Rattle.std.proofs.Common.{◌≡◌, ◌⊎◌, ℕ, ◌+◌, List, [], ◌∷◌, ◌++◌, append_assoc, length, Bool, true, false, cond, refl, sym, ap, ◌∙◌, subst, inl, inr, arith}
 use Rattle.std.specs.Prelude.{◌||◌, Option}
 use Rattle.std.specs.BTreeSet.{BTreeSet}
 use Rattle.std.specs.List.{Contains}
@@ -13,7 +13,7 @@ use Rattle.scheme_model.specs.Meaning.{Meaning, same_meaning}
 use Rattle.scheme_model.specs.Questions.{LooksUp, UsesRules, Compares, IsAssigned, Answer, Means, Expands, Says}
 use Rattle.question_laws.specs.Noted.{before_uses, is_defined_in, defines_within, answers_alone, compares_alone}
 use Rattle.form_notes.specs.Noted.{Noted, Since, began, is_local, at_start, noted_as, looked_up, compared, is_own, rules_used, assigned_as}
-use Rattle.form_notes.specs.Standing.{IsNote, HaveNotes, OwnStands, NotingStands, Adds}
+use Rattle.form_notes.specs.Standing.{IsNote, HaveNotes, OwnStands, NotingStands, Adds, stood, IsAsked, RisesTo, InOrder}
 use Rattle.form_notes.specs.declared.notes.Note as code_note
 use Rattle.form_notes.specs.declared.noting.Noting as code_noting
 
@@ -27,6 +27,18 @@ front_cases x xs y h =
 
 in_front : {X : Type 0} (x : X) (xs : List X) → Contains (x ∷ xs) x
 in_front x xs = Contains-append_left (x ∷ []) xs x (Contains-push [] x)
+
+no_more : (n m : ℕ) → m ≡ 0 → n + m ≡ n
+no_more n m none = omega (arith, none)
+
+rises_more : (xs : List code_note.Note) (x : code_note.Note) (a b : ℕ) → RisesTo xs a b → IsAsked x.question b x.behind → RisesTo (xs ++ x ∷ []) a (b + stood x.question)
+rises_more [] x a b h is = (subst (λ (n : ℕ). IsAsked x.question n x.behind) (sym h) is, ap (λ (n : ℕ). n + stood x.question) h)
+rises_more (y ∷ xs) x a b h is = (h.0, rises_more xs x (a + stood y.question) b h.1 is)
+
+-- a note that the form's definitions have a part in, or not
+pub part_at : (part : Bool) (n made : ℕ) → n ≡ cond part made 0 → (n ≡ 0) ⊎ (n ≡ made)
+part_at true n made is = inr is
+part_at false n made is = inl is
 
 module _ (names : Names) (r : Since) where
   -- one note more
@@ -44,8 +56,19 @@ module _ (names : Names) (r : Since) where
         ];
   }
 
-  pub adds : (old new : code_noting.Noting) (ms ns : List Noted) (x : code_note.Note) → Adds old new x → NotingStands names old r ms → (OwnStands names old.own r → (m : Noted) × IsNote names r x m × (m ∷ ms ≡ ns)) → NotingStands names new r ns
-  adds old new ms ns x a h one = record {
+  -- and it is in order
+  pub order_more : (first made : ℕ) (xs ys : List code_note.Note) (x : code_note.Note) → ys ≡ xs ++ x ∷ [] → IsAsked x.question made x.behind → InOrder first xs made → InOrder first ys (made + stood x.question)
+  order_more first made xs ys x is asked o = record {
+    before = o.before;
+    since = o.since ++ x ∷ [];
+    split = is ∙ (ap (λ (zs : List code_note.Note). zs ++ x ∷ []) o.split ∙ append_assoc o.before o.since (x ∷ []));
+    count = o.count;
+    rises = rises_more o.since x 0 made o.rises asked;
+  }
+
+  pub adds : (old new : code_noting.Noting) (ms ns : List Noted) (x : code_note.Note) → Adds old new x → stood x.question ≡ 0 → NotingStands names old r ms
+      → (OwnStands names old.own r → (m : Noted) × IsNote names r x m × (m ∷ ms ≡ ns) × IsAsked x.question (length r.own) x.behind) → NotingStands names new r ns
+  adds old new ms ns x a none h one = record {
     since = record {
       unit = ap (λ (n : code_noting.Noting). n.unit) a.rest ∙ h.since.unit;
       form = ap (λ (n : code_noting.Noting). n.form) a.rest ∙ h.since.form;
@@ -58,6 +81,8 @@ module _ (names : Names) (r : Since) where
         record {
           own = subst (λ (own : BTreeSet ℕ). OwnStands names own r) (sym (ap (λ (n : code_noting.Noting). n.own) a.rest)) s.own;
           notes = subst (λ (xs : List code_note.Note). HaveNotes names r xs ns) (sym p.1) (subst (HaveNotes names r (old.notes ++ x ∷ [])) m.2 (have_more old.notes ms x m.0 m.1 s.notes));
+          order = subst (λ (k : ℕ). InOrder k new.notes (length r.own)) (sym (ap (λ (n : code_noting.Noting). n.first) a.rest))
+              (subst (InOrder old.first new.notes) (no_more (length r.own) (stood x.question) none) (order_more old.first (length r.own) old.notes new.notes x p.1 m.3 s.order));
         };
   }
 
@@ -65,7 +90,7 @@ module _ (names : Names) (r : Since) where
   pub stays : (x : code_noting.Noting) (ms ns : List Noted) → NotingStands names x r ms → (OwnStands names x.own r → ms ≡ ns) → NotingStands names x r ns
   stays x ms ns h same = record {
     since = h.since;
-    stands = λ kept. let s = h.stands kept in record { own = s.own; notes = subst (HaveNotes names r x.notes) (same s.own) s.notes };
+    stands = λ kept. let s = h.stands kept in record { own = s.own; notes = subst (HaveNotes names r x.notes) (same s.own) s.notes; order = s.order };
   }
 
 -- ---- what is noted

@@ -1,5 +1,5 @@
 -- What the notes of the code stand for.
-use Rattle.std.specs.Prelude.{◌≡◌, ℕ, ◌<◌, List, [], ◌∷◌, ◌++◌, length, true, false, ◌==◌, Option}
+use Rattle.std.specs.Prelude.{◌≡◌, ◌⊎◌, ℕ, ◌+◌, ◌<◌, List, [], ◌∷◌, ◌++◌, length, Bool, true, false, ◌==◌, Option}
 use Rattle.std.specs.BTreeSet.{BTreeSet, contains, btree_set_len}
 use Rattle.std.specs.List.{Contains}
 use Rattle.std.specs.Ordering.{nat_cmp}
@@ -31,6 +31,11 @@ outcome_as outcomes.Stands = Stands
 outcome_as outcomes.Redefines = Redefines
 outcome_as outcomes.StoodBefore = StoodBefore
 
+-- how a definition fails
+abbrev pub failed_as : (redefines : Bool) → Outcome
+failed_as true = Redefines
+failed_as false = StoodBefore
+
 abbrev pub IsQuestion : Names → Since → code_question.Question → Question → Answer → Type 0
 IsQuestion names r (code.Lookup ident meaning keyword) q a =
     (i : Identifier) × (m : Meaning) × (q ≡ LooksUp i) × (a ≡ Means m keyword) × IsIdent names ident i × IsMeaning names r.unit r.form meaning m
@@ -51,6 +56,44 @@ pub record HaveNotes (names : Names) (r : Since) (xs : List code_note.Note) (ms 
   pub all : (m : Noted) → Contains ms m → (x : code_note.Note) × Contains xs x × IsNote names r x m
   pub alone : (x : code_note.Note) → Contains xs x → (m : Noted) × Contains ms m × IsNote names r x m
 
+-- ---- their order
+
+-- how many definitions of the form stand behind it, more than before it
+abbrev pub made_by : code_outcome.Outcome → ℕ
+made_by outcomes.Stands = 1
+made_by outcomes.Redefines = 0
+made_by outcomes.StoodBefore = 0
+
+abbrev pub stood : code_question.Question → ℕ
+stood (code.Lookup ident meaning keyword) = 0
+stood (code.Literal literal ident holds) = 0
+stood (code.Rules meaning edition) = 0
+stood (code.Assigned ident is) = 0
+stood (code.Library name is) = 0
+stood (code.Definition ident ends) = made_by ends
+
+-- a definition is behind all that were made by then; all else is so too, or was asked as at the start
+abbrev pub IsAsked : code_question.Question → (made behind : ℕ) → Type 0
+IsAsked (code.Lookup ident meaning keyword) made behind = (behind ≡ 0) ⊎ (behind ≡ made)
+IsAsked (code.Literal literal ident holds) made behind = (behind ≡ 0) ⊎ (behind ≡ made)
+IsAsked (code.Rules meaning edition) made behind = (behind ≡ 0) ⊎ (behind ≡ made)
+IsAsked (code.Assigned ident is) made behind = (behind ≡ 0) ⊎ (behind ≡ made)
+IsAsked (code.Library name is) made behind = (behind ≡ 0) ⊎ (behind ≡ made)
+IsAsked (code.Definition ident ends) made behind = behind ≡ made
+
+-- from so many definitions to so many
+abbrev pub RisesTo : List code_note.Note → ℕ → ℕ → Type 0
+RisesTo [] from to = from ≡ to
+RisesTo (x ∷ xs) from to = IsAsked x.question from x.behind × RisesTo xs (from + stood x.question) to
+
+-- behind the first ones the notes are in the order in which they were asked, from none to so many definitions
+pub record InOrder (first : ℕ) (xs : List code_note.Note) (made : ℕ) : Type 0 where
+  pub before : List code_note.Note
+  pub since : List code_note.Note
+  pub split : xs ≡ before ++ since
+  pub count : length before ≡ first
+  pub rises : RisesTo since 0 made
+
 -- ---- while a part of a form is at work
 
 pub record IsSince (x : code_noting.Noting) (r : Since) : Type 0 where
@@ -69,6 +112,7 @@ pub record OwnStands (names : Names) (own : BTreeSet ℕ) (r : Since) : Type 0 w
 pub record NotesStand (names : Names) (x : code_noting.Noting) (r : Since) (ms : List Noted) : Type 0 where
   pub own : OwnStands names x.own r
   pub notes : HaveNotes names r x.notes ms
+  pub order : InOrder x.first x.notes (length r.own)
 
 -- unless some were lost
 pub record NotingStands (names : Names) (x : code_noting.Noting) (r : Since) (ms : List Noted) : Type 0 where

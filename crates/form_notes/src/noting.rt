@@ -1,6 +1,6 @@
 //! What the part of a form that is at work notes (R7RS 4.3, 5.3): what the form itself answers is noted as nothing; what its own
 //! definitions have a part in, as it is asked; all else, as it was before the form's macro uses and its definitions.
-ghost use Rattle.std.specs.Prelude.{◌≡◌, ℕ, ◌+◌, ◌<◌, ◌++◌, nat_eq, List, length, Bool, false, ◌||◌, Option, OnOk, if◌then◌else◌};
+ghost use Rattle.std.specs.Prelude.{◌≡◌, ℕ, ◌+◌, ◌<◌, ◌++◌, nat_eq, List, [], length, Bool, false, ◌||◌, Option, OnOk, if◌then◌else◌};
 ghost use Rattle.std.specs.BTreeSet.{btree_set_len, contains};
 ghost use Rattle.std.specs.Ordering.{nat_cmp};
 ghost use Rattle.scheme_model.specs.ExpansionFaults.{Named};
@@ -9,6 +9,7 @@ ghost use Rattle.scheme_model.specs.Meaning.{Meaning as ModelMeaning, same_meani
 ghost use Rattle.scheme_model.specs.Order.{Note as Asked, Transformer};
 ghost use Rattle.scheme_model.specs.Requirements.{LibraryName};
 ghost use Rattle.scheme_model.specs.RulesShape.{Rules};
+ghost use Rattle.scheme_model.specs.Questions.{Stands};
 ghost use Rattle.scheme_model.specs.ScopedExpansion.{FramedIdent, Frames};
 ghost use Rattle.scheme_tokens.specs.LibraryNames.{library_text};
 ghost use Rattle.syntax_tree.specs.Names.{Names};
@@ -17,7 +18,7 @@ ghost use Rattle.syntax_tree.specs.Meant.{IsMeaning};
 ghost use Rattle.syntax_tree.specs.Numbered.{number_of};
 ghost use Rattle.question_laws.specs.Noted.{is_to_come, before_uses, is_defined_in, defines_within, answers_alone, compares_alone};
 ghost use Rattle.form_notes.specs.Noted.{Noted, Since, beginning, began, is_local, is_own, looked_up, compared, rules_used, assigned_as, required, defined_as, defining};
-ghost use Rattle.form_notes.specs.Standing.{HaveNotes, IsSince, OwnStands, NotingStands, Adds, outcome_as};
+ghost use Rattle.form_notes.specs.Standing.{HaveNotes, IsSince, OwnStands, NotingStands, Adds, failed_as, made_by, outcome_as};
 ghost use Rattle.form_notes.specs.declared.notes.Question.TheVariants as questions;
 
 use crate::notes::{Note, Notes, Outcome, Question};
@@ -28,13 +29,14 @@ use std::mem;
 use syntax_tree::meaning::Meaning;
 use syntax_tree::symbols::{IdNo, Ident, Symbols, UseNo};
 
-/// Where the part of a form at work began: its unit, its number, and how many macro uses it had begun; what it has defined in the unit
-/// since; its notes, and whether one was lost for want of memory.
+/// Where the part of a form at work began: its unit, its number, how many macro uses it had begun, and how many notes there were; what it
+/// has defined in the unit since; its notes, and whether one was lost for want of memory.
 #[derive(Drop)]
 pub struct Noting {
     pub unit: u32,
     pub form: u32,
     pub begun: u32,
+    pub first: usize,
     pub own: BTreeSet<IdNo>,
     pub notes: Notes,
     pub lost: bool,
@@ -42,11 +44,15 @@ pub struct Noting {
 
 impl Noting {
     /// No form is at work. It takes no memory.
-    pub fn new(alloc: Global) -> Noting {
+    pub fn new(alloc: Global) -> Noting
+        ensures notes { result.notes ≡ [] }
+        ensures kept { result.lost ≡ false }
+    {
         Noting {
             unit: 0,
             form: 0,
             begun: 0,
+            first: 0,
             own: BTreeSet::new(alloc),
             notes: Items::new(alloc),
             lost: false,
@@ -138,6 +144,21 @@ impl Noting {
         self.own = BTreeSet::new(alloc);
         self.lost = false;
         mem::swap(&mut self.notes, notes);
+        self.first = self.notes.as_slice().len();
+    }
+
+    /// The part of a form begins, which has begun so many macro uses; its notes go on behind those that there are.
+    pub fn restart(&mut self, alloc: Global, unit: u32, form: u32, begun: u32)
+        ensures begins { (names : Names) (editions : ℕ → Option (Transformer Frames Identifier)) (ms : List Noted) → let r = beginning unit form begun editions in
+            HaveNotes names r self.old.notes ms → NotingStands names self.new r ms }
+        ensures notes { self.new.notes ≡ self.old.notes }
+    {
+        self.unit = unit;
+        self.form = form;
+        self.begun = begun;
+        self.first = self.notes.as_slice().len();
+        self.own = BTreeSet::new(alloc);
+        self.lost = false;
     }
 
     /// The part ends: its notes, unless some were lost.
@@ -294,25 +315,46 @@ impl Noting {
         self.push(0, Question::Library { name, answer });
     }
 
-    /// Notes how a definition in the unit ends.
-    pub fn end_definition(&mut self, ident: IdNo, answer: Outcome)
+    /// Notes how a definition in the unit fails: it changes what a keyword was taken for, or its identifier is defined already.
+    pub fn fail_definition(&mut self, ident: IdNo, redefines: bool)
         ensures noted { (names : Names) (r : Since) (ms : List Noted) (fs : Frames) (x : Named Identifier) (rules : Option (Rules Identifier)) (ns : List (Asked FramedIdent)) → NotingStands names self.old r ms → IsIdent names ident x.name →
-            NotingStands names self.new r (defined_as r fs x rules ns (outcome_as answer) ++ ms) }
+            NotingStands names self.new r (defined_as r fs x rules ns (failed_as redefines) ++ ms) }
     {
         let behind = self.behind(true);
+        let answer = failure(redefines);
         self.push(behind, Question::Definition { ident, answer });
     }
 
-    /// From here on the form has defined an identifier in its unit, which it hadn't.
+    /// Notes that a definition in the unit stands. From here on the form has defined the identifier there, which it hadn't.
     pub fn define(&mut self, symbols: &Symbols, ident: IdNo)
-        ensures defined { (r : Since) (ms : List Noted) (x : Named Identifier) (keyword : Bool) → NotingStands symbols.now self.old r ms → IsIdent symbols.now ident x.name → is_defined_in r.own r.unit x.name ≡ false →
-            NotingStands symbols.now self.new (defining r x keyword) ms }
+        ensures defined { (r : Since) (ms : List Noted) (fs : Frames) (x : Named Identifier) (rules : Option (Rules Identifier)) (ns : List (Asked FramedIdent)) (keyword : Bool) → NotingStands symbols.now self.old r ms →
+            IsIdent symbols.now ident x.name → is_defined_in r.own r.unit x.name ≡ false → NotingStands symbols.now self.new (defining r x keyword) (defined_as r fs x rules ns Stands ++ ms) }
     {
         symbols.told_apart();
+        let behind = self.behind(true);
+        self.push(
+            behind,
+            Question::Definition {
+                ident,
+                answer: Outcome::Stands,
+            },
+        );
         match add(&mut self.own, ident) {
             Ok(()) => {}
             Err(Memory) => self.lost = true,
         }
+    }
+}
+
+/// How a definition ends that fails.
+fn failure(redefines: bool) -> Outcome
+    ensures ends { outcome_as result ≡ failed_as redefines }
+    ensures made { made_by result ≡ 0 }
+{
+    if redefines {
+        Outcome::Redefines
+    } else {
+        Outcome::StoodBefore
     }
 }
 

@@ -142,7 +142,7 @@ module _ (w v : Around) (same : SameForm w v) (h : Begins w.state) (k : Begins v
   asked_before is s a =
       let there = answering v.state v.known in
       let ss = sides w v same.unit same.form (no_locals w h) (no_locals v k) in
-      (parts_go (asking w) there fits ss (expand (asking w) turns) (expand there turns) (expand_goes (asking w) there fits ss turns) (λ (x y : Bound). y ≡ x) (λ x y d i. ap (λ z. meaning_of z i) d) max_depth [] [] is is
+      (parts_go (asking w) there fits ss (λ s m. tt) (expand (asking w) turns) (expand there turns) (expand_goes (asking w) there fits ss (λ s m. tt) turns) (λ (x y : Bound). y ≡ x) (λ x y d i. ap (λ z. meaning_of z i) d) max_depth [] [] is is
       (both_itself (ItemLike (λ (x y : Bound). y ≡ x)) (item_itself (λ (x y : Bound). y ≡ x) (λ x. refl)) is) s refl).back a
 
   front_answers : (is : List (Item Ident)) (n : ℕ) (s : Asking) → Answered (parts fa is s).1 → Answered (parts fa (first_of n is) s).1

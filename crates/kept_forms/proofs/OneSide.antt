@@ -244,6 +244,8 @@ module _ (known : Known) (I : ScopedState → Type 0) (begun : (fs : Frames) (s 
     like = λ s l m. m ≡ l;
     bounds = bounds;
     notes = λ s e. Notes;
+    ruled = λ s m. Unit {0};
+    ruled_there = λ s m a. tt;
     itself = λ s h. h;
     then_ = λ s t u a b h. b (a h);
     fits_later = λ s t a e f h. (h.0, a h.1);
@@ -255,6 +257,7 @@ module _ (known : Known) (I : ScopedState → Type 0) (begun : (fs : Frames) (s 
     ask_later = λ s qs h. h;
     ask_near = λ s t n qs rs a. n;
     ask_means = λ s qs e i. refl;
+    ask_macro = λ s qs m. refl;
     ask_meant = λ t rs f i. refl;
     counts = λ s t n. ap ops.counted n.0;
     spend_back = λ s n a. tt;
@@ -341,7 +344,7 @@ module _ (known : Known) (I : ScopedState → Type 0) (begun : (fs : Frames) (s 
   item_keeps : (turns : ℕ) (i : Item Ident) (s : ScopedState) → I s → I (item_part (expand (counted known) turns) (counted known) max_depth [] i s).1
   item_keeps turns i s h =
       let F = expand (counted known) turns in
-      let law = item_goes ops ops fits sides F F (expand_goes ops ops fits sides turns) (λ (x y : Bound). y ≡ x) (λ x y d j. ap (λ z. meaning_of z j) d) max_depth [] [] i i (item_itself (λ (x y : Bound). y ≡ x) (λ x. refl) i) s (refl, h) in
+      let law = item_goes ops ops fits sides (λ s m. tt) F F (expand_goes ops ops fits sides (λ s m. tt) turns) (λ (x y : Bound). y ≡ x) (λ x y d j. ap (λ z. meaning_of z j) d) max_depth [] [] i i (item_itself (λ (x y : Bound). y ≡ x) (λ x. refl) i) s (refl, h) in
       (law.same s (refl, h) tt).1.1
 
   met_keeps : (us : List (WaitingUse Ident)) (s : ScopedState) → I s → I (meet_all ops [] us s)

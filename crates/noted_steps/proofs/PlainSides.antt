@@ -53,6 +53,31 @@ owned_state : (b : Option Number) (n : Named Ident) (k : Bool) (s : Noting) → 
 owned_state None n k s = refl
 owned_state (Some b) n k s = refl
 
+-- whether notes stand, and the editions that they are told by, are as they were
+abbrev pub Kept : Noting → Noting → Type 0
+Kept s u = (u.exact ≡ s.exact) × (u.since.editions ≡ s.since.editions)
+
+ended_kept : (b : Option Number) (n : Named Ident) (r : Option (Rules Ident)) (fs : Frames) (ns : List (Note FramedIdent)) (o : Outcome) (s : Noting) → Kept s (ended b n r fs ns o s)
+ended_kept None n r fs ns o s = (refl, refl)
+ended_kept (Some b) n r fs ns o s = (refl, refl)
+
+owned_kept : (b : Option Number) (n : Named Ident) (k : Bool) (s : Noting) → Kept s (owned b n k s)
+owned_kept None n k s = (refl, refl)
+owned_kept (Some b) n k s = (refl, refl)
+
+by_kept : (b : Option Number) (n : Named Ident) (r : Option (Rules Ident)) (fs : Frames) (p : Pending Ident FramedIdent) (o : Outcome) (s : Noting) → Kept s (define_by o b n r fs p s).1
+by_kept b n r fs p Redefines s = (refl, refl)
+by_kept b n r fs p StoodBefore s = (refl, refl)
+by_kept b n r fs p Stands s = owned_kept b n (is_some r) (with_state s (definition_added b n r fs (state_of s)))
+
+pub define_kept : (b : Option Number) (n : Named Ident) (r : Option (Rules Ident)) (fs : Frames) (p : Pending Ident FramedIdent) (s : Noting) → Kept s (define_noting b n r fs p s).1
+define_kept b n r fs p s =
+    let o = outcome b n r fs p s in
+    let u = ended b n r fs p.notes o s in
+    let x = ended_kept b n r fs p.notes o s in
+    let y = by_kept b n r fs p o u in
+    (y.0 ∙ x.0, y.1 ∙ x.1)
+
 abbrev pub Same : Bound → Bound → Type 0
 Same x y = y ≡ x
 
@@ -109,64 +134,67 @@ module _ (known : Known) where
   abbrev pub sides : Sides here there Fits
   sides = record {
     same_so_far = λ s. Unit {0};
-    later = λ s u. Unit {0};
+    later = Kept;
     near = λ s t. t ≡ state_of s;
     defines = λ fs. Unit {0};
     like = λ s l k. k ≡ l;
     bounds = λ fs. Same;
     notes = λ s fs. SameNotes;
-    itself = λ s. tt;
-    then_ = λ s t u a b. tt;
+    ruled = λ s m. Unit {0};
+    ruled_there = λ s m a. tt;
+    itself = λ s. (refl, refl);
+    then_ = λ s t u a b. (b.0 ∙ a.0, b.1 ∙ a.1);
     fits_later = λ s t a e f d. d;
     notes_later = λ s t a e ns ms d. d;
     more_notes = λ s e ns ms d n m h. (let a = note_same n m h in λ j. a j ∷ d j);
     placed = λ s e f d i. (λ j. record { frames = d j; ident = i });
     answered = λ s t h qs a. all_answered s t h qs;
     ask_back = λ s qs a. tt;
-    ask_later = λ s qs. tt;
+    ask_later = λ s qs. (refl, refl);
     ask_near = λ s t h qs rs a. h;
     ask_means = λ s qs e i. refl;
+    ask_macro = λ s qs m. refl;
     ask_meant = λ t rs f i. refl;
     counts = λ s t h. ap (λ z. there.counted z) h;
     spend_back = λ s n a. tt;
-    spend_later = λ s n. tt;
+    spend_later = λ s n. (refl, refl);
     spend_near = λ s t h n. ap (λ z. there.spend n z) h;
     spend_means = λ s n e i. refl;
     spend_meant = λ t n f i. refl;
     meet_back = λ s x a. tt;
-    meet_later = λ s x. tt;
+    meet_later = λ s x. (refl, refl);
     meet_near = λ s t h x. ap (λ z. there.meet x z) h;
     meet_use_back = λ s u a. tt;
-    meet_use_later = λ s u. tt;
+    meet_use_later = λ s u. (refl, refl);
     meet_use_near = λ s t h u. ap (λ z. there.meet_use u z) h;
     next_use = λ s t h. ap (λ z. there.next_use z) h;
     begin_back = λ s e a. tt;
-    begin_later = λ s e f d. tt;
+    begin_later = λ s e f d. (refl, refl);
     begin_near = λ s t h e f d. (λ j. there.begin_use (d j) (h j));
     next_local = λ s t h. ap (λ z. there.next_local z) h;
     take_back = λ s a. tt;
-    take_later = λ s. tt;
+    take_later = λ s. (refl, refl);
     take_near = λ s t h. ap (λ z. there.take_local z) h;
     some_bound = λ s e f d. (here.next_bound e s, refl);
     next_bound = λ s t h e f d. (λ j. there.next_bound (d j) (h j));
     same_meant = λ e x y d i. ap (λ z. meaning_of z i) d;
     bind_back = λ s x e ts a. tt;
-    bind_later = λ s x e f d ts. tt;
+    bind_later = λ s x e f d ts. (refl, refl);
     bind_some = λ s x e f d ts. (Bind x (here.next_local s) ∷ e, refl);
     bind_near = λ s t h x e f d ts. (ap (λ z. there.take_local z) h, (λ j. Bind x (there.next_local (h j)) ∷ d j), refl);
     macro = λ s e f d m. macro_some (macro_at s.macros m);
     keep_back = λ s v r e a. tt;
-    keep_later = λ s v r e f d. tt;
+    keep_later = λ s v r e f d. (refl, refl);
     keep_near = λ s t h v r e f d. (λ j. there.keep v r (d j) (h j));
     enter_back = λ s e ts a. tt;
-    enter_later = λ s e f d ts. tt;
+    enter_later = λ s e f d ts. (refl, refl);
     enter_some = λ s e f d ts. ((here.enter e ts s).env, refl);
     enter_near = λ s t h e f d ts. ((λ j. (there.enter (d j) ts (h j)).state), (λ j. (there.enter (d j) ts (h j)).env), refl);
     entered = λ s e f d ts. refl;
     inside = λ s e ts. tt;
     inside_bounds = λ s e ts x y d. d;
     define_back = λ s n r e p a. tt;
-    define_later = λ s e f d h n r p q l. tt;
+    define_later = λ s e f d h n r p q l. define_kept (body_around e) n r e p s;
     define_some = λ s e f d h n r p q l. some_by (body_around e) n r e p q l (outcome (body_around e) n r e p s) (ended (body_around e) n r e p.notes (outcome (body_around e) n r e p s) s);
     define_near = λ s t h e f d g n r p q l a. defined_near s t h e f g n r p q l;
   }
@@ -201,8 +229,31 @@ module _ (known : Known) (turns : ℕ) where
       let g = expand (searched known) turns in
       let q = item_part f (noting known) max_depth [] i s in
       let y = item_part g (searched known) max_depth [] i (state_of s) in
-      let law = item_goes (noting known) (searched known) Fits (sides known) f g (expand_goes (noting known) (searched known) Fits (sides known) turns) Same (λ x y e k. ap (λ z. meaning_of z k) e) max_depth [] [] i i (item_itself Same (λ x. refl) i) s refl in
+      let law = item_goes (noting known) (searched known) Fits (sides known) (λ s m. tt) f g (expand_goes (noting known) (searched known) Fits (sides known) (λ s m. tt) turns) Same (λ x y e k. ap (λ z. meaning_of z k) e) max_depth [] [] i i (item_itself Same (λ x. refl) i) s refl in
       let x = law.same (state_of s) refl tt in
       let a = result_same (PartLike Same) (part_equal Same (λ x y e. e)) q.0 y.0 x.0 in
       let c = x.1 in
       λ j. (a j, c j)
+
+  -- a run leaves whether notes stand, and by which editions
+  pub run_kept : (p : Pending Ident FramedIdent) (s : Noting) → Kept s (run (noting known) turns [] p s).1
+  run_kept p s =
+      let law = run_runs (noting known) (searched known) Fits (sides known) [] [] tt turns p p s refl (record { todo = refl; aside = both_itself _ (item_itself Same (λ x. refl)) p.aside; uses = refl; notes = refl }) in
+      law.after
+
+  pub run_exact : (p : Pending Ident FramedIdent) (s : Noting) → (run (noting known) turns [] p s).1.exact ≡ s.exact
+  run_exact p s = let kept = run_kept p s in kept.0
+
+  pub run_editions : (p : Pending Ident FramedIdent) (s : Noting) → (run (noting known) turns [] p s).1.since.editions ≡ s.since.editions
+  run_editions p s = let kept = run_kept p s in kept.1
+
+  pub item_kept : (i : Item Ident) (s : Noting) → Kept s (item_part (expand (noting known) turns) (noting known) max_depth [] i s).1
+  item_kept i s =
+      let law = item_goes (noting known) (searched known) Fits (sides known) (λ s m. tt) (expand (noting known) turns) (expand (searched known) turns) (expand_goes (noting known) (searched known) Fits (sides known) (λ s m. tt) turns) Same (λ x y e k. ap (λ z. meaning_of z k) e) max_depth [] [] i i (item_itself Same (λ x. refl) i) s refl in
+      law.after
+
+  pub item_exact : (i : Item Ident) (s : Noting) → (item_part (expand (noting known) turns) (noting known) max_depth [] i s).1.exact ≡ s.exact
+  item_exact i s = let kept = item_kept i s in kept.0
+
+  pub item_editions : (i : Item Ident) (s : Noting) → (item_part (expand (noting known) turns) (noting known) max_depth [] i s).1.since.editions ≡ s.since.editions
+  item_editions i s = let kept = item_kept i s in kept.1

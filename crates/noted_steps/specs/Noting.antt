@@ -1,7 +1,7 @@
 -- Expansion that notes what it asks. Its state is that of the expansion by counted scopes, with what the part of the form at work began
 -- with and has defined since, and with the notes so far, latest first. It differs from unit_scopes' `searched` in nothing else, and comes
 -- to the same: see the law `runs_that_note`.
-use Rattle.std.specs.Prelude.{ℕ, suc, ◌+◌, ◌-◌, List, [], ◌∷◌, ◌++◌, length, take, Bool, ◌&&◌, Option, Some, None, Result, Ok, Err}
+use Rattle.std.specs.Prelude.{ℕ, suc, ◌+◌, ◌-◌, List, [], ◌∷◌, ◌++◌, length, take, Bool, true, ◌&&◌, Option, Some, None, Result, Ok, Err}
 use Rattle.scheme_model.specs.Identifiers.{Number}
 use Rattle.scheme_model.specs.Ident.{Ident, Inserted, same_ident, symbol_of}
 use Rattle.scheme_model.specs.ExpansionFaults.{Named, Fault, KeywordRedefined, Duplicate}
@@ -34,6 +34,8 @@ pub record Noting : Type 0 where
   pub places : List UsePlace
   pub definitions : BodyDefinitions
   pub since : Since
+  -- whether the editions of macros tell their rules: only then notes are said to stand
+  pub exact : Bool
   -- how many notes of the unit's forms there were
   pub before : ℕ
   pub noted : List Noted
@@ -75,6 +77,7 @@ with_state n s = record {
   places = s.places;
   definitions = s.definitions;
   since = n.since;
+  exact = n.exact;
   before = n.before;
   noted = n.noted;
 }
@@ -182,8 +185,9 @@ noting known = record {
 
 -- ---- where a part of a form begins
 
-abbrev pub begun : ℕ → Since → ScopedState → Noting
-begun before since s = record {
+-- behind these notes
+abbrev pub going : (exact : Bool) → (before : ℕ) → Since → List Noted → ScopedState → Noting
+going exact before since noted s = record {
   unit = s.unit;
   program = s.program;
   form = s.form;
@@ -199,6 +203,11 @@ begun before since s = record {
   places = s.places;
   definitions = s.definitions;
   since = since;
+  exact = exact;
   before = before;
-  noted = [];
+  noted = noted;
 }
+
+-- behind none
+abbrev pub begun : ℕ → Since → ScopedState → Noting
+begun before since s = going true before since [] s

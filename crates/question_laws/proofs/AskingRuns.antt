@@ -37,6 +37,8 @@ module _ (w : Around) (en : NoLocals w) (k : Invariant w) where
     like = x.like;
     bounds = x.bounds;
     notes = x.notes;
+    ruled = x.ruled;
+    ruled_there = x.ruled_there;
     itself = λ s h. h;
     then_ = λ s t u a b h. b (a h);
     fits_later = λ s t a e f h. h;
@@ -48,6 +50,7 @@ module _ (w : Around) (en : NoLocals w) (k : Invariant w) where
     ask_later = λ s qs h. k.asks s qs h;
     ask_near = x.ask_near;
     ask_means = x.ask_means;
+    ask_macro = x.ask_macro;
     ask_meant = x.ask_meant;
     counts = x.counts;
     spend_back = x.spend_back;
@@ -99,5 +102,5 @@ module _ (w : Around) (en : NoLocals w) (k : Invariant w) where
 
   pub left_holds : (turns : ℕ) (l : Left Ident) → k.holds (no_questions w) → k.holds (finish_asking w turns (Ok l)).1
   left_holds turns l h =
-      (left_parts (asking w) (answering w.state w.known) fits runs (expand (asking w) turns) (expand (answering w.state w.known) turns) (expand_goes (asking w) (answering w.state w.known) fits runs turns) (λ x y. y ≡ x)
+      (left_parts (asking w) (answering w.state w.known) fits runs (λ s m. tt) (expand (asking w) turns) (expand (answering w.state w.known) turns) (expand_goes (asking w) (answering w.state w.known) fits runs (λ s m. tt) turns) (λ x y. y ≡ x)
       (λ x y e i. ap (λ z. meaning_of z i) e) max_depth [] [] l l (refl, both_itself (ItemLike (λ x y. y ≡ x)) (item_itself (λ x y. y ≡ x) (λ x. refl)) l.items) (no_questions w) refl).after h

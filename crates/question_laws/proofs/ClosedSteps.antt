@@ -103,6 +103,8 @@ module _ (known : Known) where
     like = λ s l m. Unit {0};
     bounds = λ e. Same;
     notes = λ s e ns ms. Unit {0};
+    ruled = λ s m. Unit {0};
+    ruled_there = λ s m a. tt;
     itself = λ s. (λ h. h, λ u i e. e, refl);
     then_ = λ s t u a b. (λ h. b.0 (a.0 h), λ v i e. b.1 v i (a.1 v i e), b.2 ∙ a.2);
     fits_later = λ s t a e f h. tt;
@@ -114,6 +116,7 @@ module _ (known : Known) where
     ask_later = λ s qs. (λ h. h, λ u i e. e, refl);
     ask_near = λ s t h qs rs a. h;
     ask_means = λ s qs e i. refl;
+    ask_macro = λ s qs m. refl;
     ask_meant = λ t rs f i. refl;
     counts = λ s t h. absurd h;
     spend_back = λ s n a. tt;
@@ -169,7 +172,7 @@ module _ (known : Known) where
 
     pub finish_later : (l : Left Ident) (s : ScopedState) → Later s (parts (item_part (expand ops turns) ops max_depth []) l.items (meet_all ops [] l.uses s)).1
     finish_later l s =
-        (left_parts ops ops anything steps (expand ops turns) (expand ops turns) (expand_goes ops ops anything steps turns) Same (λ x y e i. ap (λ z. meaning_of z i) e) max_depth [] [] l l
+        (left_parts ops ops anything steps (λ s m. tt) (expand ops turns) (expand ops turns) (expand_goes ops ops anything steps (λ s m. tt) turns) Same (λ x y e i. ap (λ z. meaning_of z i) e) max_depth [] [] l l
         (refl, both_itself (ItemLike Same) (item_itself Same (λ x. refl)) l.items) s tt).after
 
     item_later : (i : Item Ident) (s : ScopedState) → Later s (item_part (expand ops turns) ops max_depth [] i s).1

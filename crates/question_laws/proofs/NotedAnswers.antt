@@ -65,7 +65,7 @@ each_split P [] ys h = (tt, h)
 each_split P (x ∷ xs) ys h = let q = each_split P xs ys h.1 in ((h.0, q.0), q.1)
 
 module _ (w : Around) where
-  made_new : (qs : List (Moment × Question)) (u : ℕ) (i : Ident) → Made w qs u i → is_defined_in w.state.table u i ≡ false
+  pub made_new : (qs : List (Moment × Question)) (u : ℕ) (i : Ident) → Made w qs u i → is_defined_in w.state.table u i ≡ false
   made_new [] u i h = absurd h
   made_new ((n, LooksUp j) ∷ qs) u i (inl h) = absurd h
   made_new ((n, UsesRules m) ∷ qs) u i (inl h) = absurd h
@@ -93,7 +93,7 @@ module _ (w : Around) (qs : List (Moment × Question)) where
   made_as : (u v : ℕ) (i j : Ident) → (eqb u v && same_ident i j) ≡ true → Made w qs u i → Made w qs v j
   made_as u v i j e h = let p = same_one u v i j e in subst (λ (z : ℕ). Made w qs z j) p.0 (subst (λ (y : Ident). Made w qs u y) p.1 h)
 
-  own_made : (ds : Table) → Each (λ (d : Defined). Made w qs d.unit d.ident) ds → (u : ℕ) (i : Ident) → is_defined_in ds u i ≡ true → Made w qs u i
+  pub own_made : (ds : Table) → Each (λ (d : Defined). Made w qs d.unit d.ident) ds → (u : ℕ) (i : Ident) → is_defined_in ds u i ≡ true → Made w qs u i
   own_made [] h u i e = let q : false ≡ true = e in absurd cc
   own_made (d ∷ ds) h u i e = go (eqb d.unit u && same_ident d.ident i) refl (λ f. own_made ds h.1 u i f) e
     where
@@ -102,7 +102,7 @@ module _ (w : Around) (qs : List (Moment × Question)) where
       go false f k e = k e
 
   -- what stood before isn't among it
-  stands_not_made : (own : Table) → Each (λ (d : Defined). Made w qs d.unit d.ident) own → (m : Meaning) → NoLocal m → StandsThere w.state.table m → IsLocalOr w own m → ⊥
+  pub stands_not_made : (own : Table) → Each (λ (d : Defined). Made w qs d.unit d.ident) own → (m : Meaning) → NoLocal m → StandsThere w.state.table m → IsLocalOr w own m → ⊥
   stands_not_made own h (Local v) a b e = absurd a
   stands_not_made own h (Global u i) a b e = both_ways (is_defined_in w.state.table u i) (made_new w qs u i (own_made own h u i e)) b
   stands_not_made own h (Standard x) a b e = absurd e
@@ -114,7 +114,7 @@ module _ (w : Around) (qs : List (Moment × Question)) where
 abbrev New : Table → Table → Type 0
 New own table = (u : ℕ) (i : Ident) → is_defined_in own u i ≡ true → is_defined_in table u i ≡ false
 
-look_as : (a : Around) (n : Moment) (i : Ident) (m : Meaning) → root_means (at_moment a n) i ≡ m → answer a n (LooksUp i) ≡ Means m (is_some (macro_at n.macros m) || is_some (macro_at a.state.macros m))
+pub look_as : (a : Around) (n : Moment) (i : Ident) (m : Meaning) → root_means (at_moment a n) i ≡ m → answer a n (LooksUp i) ≡ Means m (is_some (macro_at n.macros m) || is_some (macro_at a.state.macros m))
 look_as a n i m e = ap (λ z. Means z (is_some (macro_at (n.macros ++ a.state.macros) z))) e ∙ ap (λ z. Means m z) (macro_either n.macros a.state.macros m)
 
 abbrev rules_as : Option (Transformer Frames Ident) → Answer

@@ -22,7 +22,8 @@ use Rattle.text_arrows.specs.ArrowsStatuses.{arrows_status}
 use Rattle.command_output.specs.Statuses.{code_of, fetch_status}
 use Rattle.session_serving.specs.SessionEnds.{session_status}
 use Rattle.command_output.specs.Streams.{Streams}
-use Rattle.scheme_ls.specs.WorkOutcome.{CheckEndsAs, PrintsLines, RunsOut, RenameEndsAs, ReplayEndsAs, Replays, WorkEndsAs, WorkSeen, check_status, rename_status, work_seen}
+use Rattle.file_runs.specs.WorkOutcome.{CheckEndsAs, PrintsLines, RunsOut, RenameEndsAs, WorkEndsAs, WorkSeen, check_status, rename_status, work_seen}
+use Rattle.scheme_ls.specs.ReplayOutcome.{ReplayEndsAs, Replays}
 use Rattle.session_serving.specs.declared.answering.Exit.TheVariants as exits
 use Rattle.text_arrows.specs.declared.arrows.ArrowsEnd.{ArrowsEnd}
 use Rattle.text_arrows.specs.declared.arrows.ArrowsEnd.TheVariants as arrows

@@ -4,7 +4,8 @@ use Rattle.ls_base.specs.declared.places.Pos.{Pos}
 use Rattle.command_words.specs.declared.command.Command.{Command}
 use Rattle.command_words.specs.declared.command.Command.TheVariants.{Arrows, Check, Rename, Replay, Selfrun, Serve, ServeAhead, TooManyFiles, Unknown}
 use Rattle.scheme_ls.specs.RunOutcome.{ArrowsDone, AsksNothing, CommandEndsAs, Seen, ServeAheadDone, ServeDone, UsageDone, Works}
-use Rattle.scheme_ls.specs.WorkOutcome.{CheckEndsAs, RenameEndsAs, ReplayEndsAs, SelfrunEndsAs}
+use Rattle.file_runs.specs.WorkOutcome.{CheckEndsAs, RenameEndsAs, SelfrunEndsAs}
+use Rattle.scheme_ls.specs.ReplayOutcome.{ReplayEndsAs}
 use Rattle.command_output.specs.declared.status.Status.{Status}
 use Rattle.command_output.specs.declared.status.Status.TheVariants.{TooLong}
 

@@ -41,7 +41,8 @@ use Rattle.text_arrows.specs.declared.arrows.ArrowsEnd.TheVariants as arrows
 use Rattle.text_arrows.specs.declared.arrows.TextEnd.TheVariants as text
 use Rattle.text_arrows.proofs.OneText as alone
 use Rattle.scheme_ls.specs.RunOutcome.{CommandEndsAs, NothingDone, RunEnds, Seen, counting}
-use Rattle.scheme_ls.specs.WorkOutcome.{CheckEndsAs, PrintsLines, RenameEndsAs, Replays, ReplayEndsAs, RunsOut, WorkEndsAs, WorkSeen, check_status, rename_status, recording_piece, work_seen}
+use Rattle.file_runs.specs.WorkOutcome.{CheckEndsAs, PrintsLines, RenameEndsAs, RunsOut, WorkEndsAs, WorkSeen, check_status, rename_status, work_seen}
+use Rattle.scheme_ls.specs.ReplayOutcome.{Replays, ReplayEndsAs, recording_piece}
 
 -- a number that neither want of memory nor a failed write has
 record IsPlain (code : ℕ) : Type 0 where

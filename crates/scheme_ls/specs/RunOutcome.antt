@@ -14,7 +14,8 @@ use Rattle.command_output.specs.Statuses.{code_of}
 use Rattle.session_serving.specs.SessionEnds.{session_status}
 use Rattle.command_output.specs.Streams.{Streams}
 use Rattle.scheme_ls.specs.Wording.{usage_text}
-use Rattle.scheme_ls.specs.WorkOutcome.{CheckEndsAs, PrintsLines, RenameEndsAs, ReplayEndsAs, SelfrunEndsAs, WorkSeen, work_seen}
+use Rattle.file_runs.specs.WorkOutcome.{CheckEndsAs, PrintsLines, RenameEndsAs, SelfrunEndsAs, WorkSeen, work_seen}
+use Rattle.scheme_ls.specs.ReplayOutcome.{ReplayEndsAs}
 use Rattle.text_arrows.specs.declared.arrows.ArrowsEnd.{ArrowsEnd}
 use Rattle.session_serving.specs.declared.serve.SessionEnd.{SessionEnd}
 use Rattle.command_output.specs.declared.status.Status.{Status}

@@ -12,7 +12,6 @@ pub mod laws;
 mod replay;
 pub mod run;
 mod wording;
-mod work;
 
 use command_output::Status;
 use ls_base::Steps;

@@ -4,7 +4,8 @@ ghost use Rattle.file_fetching.specs.FilesSeen.{FilesSeen, files_seen};
 ghost use Rattle.ls_outside.specs.Left.{pieces_left};
 ghost use Rattle.ls_outside.specs.Sources.{AreCuts};
 ghost use Rattle.command_output.specs.Prints.{sink_seen};
-ghost use Rattle.scheme_ls.specs.WorkOutcome.{ReplayEndsAs, Replays, recording_piece, work_seen};
+ghost use Rattle.file_runs.specs.WorkOutcome.{work_seen};
+ghost use Rattle.scheme_ls.specs.ReplayOutcome.{ReplayEndsAs, Replays, recording_piece};
 
 use command_output::Status;
 use file_fetching::fetch_recording;

@@ -10,9 +10,9 @@ ghost use Rattle.scheme_ls.specs.RunOutcome.{CommandEndsAs, RunEnds, seen};
 
 use crate::replay::replay;
 use crate::wording::USAGE;
-use crate::work::{check, print_lines, rename, selfrun};
 use command_output::Status;
 use command_words::{Command, command_of};
+use file_runs::work::{check, print_lines, rename, selfrun};
 use ls_base::Steps;
 use ls_outside::{Files, Sink, Source};
 use session_serving::serve::{serve, serve_ahead};

@@ -12,5 +12,5 @@ pub mod GrowthLaws  -- What an environment stands for where the tables of symbol
 pub mod AroundLaws  -- Which scopes are around which
 pub mod Marking  -- Marks in a row
 pub mod MarkLaws  -- What is marked of an environment, and that no scope binds what isn't
-pub mod Copies  -- Scopes that are copied stand for the same
 pub mod Forgotten  -- An environment without the scopes from a number on
+pub mod PutBack  -- A scope binds an identifier to what it bound it to before, or to nothing

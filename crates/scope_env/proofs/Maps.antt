@@ -1,12 +1,12 @@
 -- The finite map that the entries of an ordered map make.
-use Rattle.std.proofs.Common.{◌≡◌, List, [], ◌∷◌, map, Some, cond, refl, sym, ap, ◌∙◌, subst}
+use Rattle.std.proofs.Common.{◌≡◌, List, [], ◌∷◌, map, Some, None, cond, refl, sym, ap, ◌∙◌, subst}
 use Rattle.std.specs.declared.cmp.Ordering.{Ordering}
 use Rattle.std.specs.Ordering.{is_eq, eq_by_cmp}
 use Rattle.std.specs.Cmp.{IsTotalOrder, eq_by_cmp_equiv}
 use Rattle.std.specs.Map.{lookup}
 use Rattle.std.specs.BTreeMap.{BTreeMap, is_at, Updates}
 use Rattle.std.specs.BTreeMap as tree
-use Rattle.std.specs.FinMap.{FinMap, get, insert, from_entries, find, IsAntisymmetric, get-from_entries, get-insert, same_map}
+use Rattle.std.specs.FinMap.{FinMap, get, insert, remove, from_entries, find, IsAntisymmetric, get-from_entries, get-insert, get-remove, same_map}
 
 tied : {K B : Type 0} (P : K → K → Ordering) (R : B → B → Ordering) (total : IsTotalOrder R) (f : K → B) (agree : (x y : K) → P x y ≡ R (f x) (f y)) (x y : K) → is_at (P x) y ≡ eq_by_cmp R (f y) (f x)
 tied P R total f agree x y = ap is_eq (agree x y) ∙ (eq_by_cmp_equiv total).symm (f x) (f y)
@@ -30,3 +30,9 @@ module _ {K B X : Type 0} (P : K → K → Ordering) (R : B → B → Ordering) 
       let at : (y : K) → get (seen n.entries) (f y) ≡ get (insert (seen m.entries) (f k) v) (f y) =
       λ y. get_seen n y ∙ u.0 y ∙ (λ j. cond (tied P R total f agree k y j) (Some v) (sym (get_seen m y) j)) ∙ sym (get-insert total (seen m.entries) (f k) v (f y)) in
       same_map total same _ _ (λ q. subst (λ b. get (seen n.entries) b ≡ get (insert (seen m.entries) (f k) v) b) (onto q) (at (g q)))
+
+  pub gone_seen : (g : B → K) → ((b : B) → f (g b) ≡ b) → (m n : BTreeMap K X) (k : K) → ((q : K) → tree.get P n q ≡ cond (is_at (P k) q) None (tree.get P m q)) → seen n.entries ≡ remove (seen m.entries) (f k)
+  gone_seen g onto m n k u =
+      let at : (y : K) → get (seen n.entries) (f y) ≡ get (remove (seen m.entries) (f k)) (f y) =
+      λ y. get_seen n y ∙ u y ∙ (λ j. cond (tied P R total f agree k y j) None (sym (get_seen m y) j)) ∙ sym (get-remove total (seen m.entries) (f k) (f y)) in
+      same_map total same _ _ (λ q. subst (λ b. get (seen n.entries) b ≡ get (remove (seen m.entries) (f k)) b) (onto q) (at (g q)))

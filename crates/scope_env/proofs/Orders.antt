@@ -1,19 +1,19 @@
 -- The order of the numbers of macro uses, and finite maps by numbers.
-use Rattle.std.proofs.Common.{◌≡◌, ℕ, List, [], ◌∷◌, map, Some, refl, sym, ap, ◌∙◌}
+use Rattle.std.proofs.Common.{◌≡◌, ℕ, List, [], ◌∷◌, map, cond, Some, None, refl, sym, ap, ◌∙◌}
 use Rattle.std.specs.declared.cmp.Ordering.{Ordering}
 use Rattle.std.specs.declared.cmp.Ordering.TheVariants.{Less, Equal, Greater}
 use Rattle.std.specs.Ordering.{nat_cmp, ordering_then}
 use Rattle.std.specs.Cmp.{IsTotalOrder, nat_cmp_total, on_total, then_total}
-use Rattle.std.specs.BTreeMap.{BTreeMap, Updates}
+use Rattle.std.specs.BTreeMap.{BTreeMap, is_at, Updates}
 use Rattle.std.specs.BTreeMap as tree
-use Rattle.std.specs.FinMap.{get, insert, from_entries, IsAntisymmetric, nat_cmp-IsAntisymmetric}
+use Rattle.std.specs.FinMap.{get, insert, remove, from_entries, IsAntisymmetric, nat_cmp-IsAntisymmetric}
 use Rattle.scheme_model.specs.Identifiers.{Number}
 use Rattle.syntax_tree.specs.Numbered.{number_of}
 use Rattle.syntax_tree.specs.declared.symbols.UseNo.{UseNo}
 use Rattle.syntax_tree.specs.contracts.symbols.UseNoOrd.TheImpl.{cmp-value}
 use Rattle.scope_env.specs.Environment.{number_cmp}
 use Rattle.scope_env.specs.Kept.{uses_of}
-use Rattle.scope_env.proofs.Maps.{get_seen, put_seen}
+use Rattle.scope_env.proofs.Maps.{get_seen, put_seen, gone_seen}
 
 pub number_total : IsTotalOrder number_cmp
 number_total =
@@ -53,6 +53,12 @@ put_plain m n k v u =
     sym (ap (λ es. from_entries {R = nat_cmp} es) (plain n.entries))
     ∙ put_seen nat_cmp nat_cmp nat_cmp_total nat_cmp-IsAntisymmetric (λ n. n) (λ x y. refl) (λ n. n) (λ b. refl) m n k v u
     ∙ ap (λ es. insert (from_entries {R = nat_cmp} es) k v) (plain m.entries)
+
+pub gone_plain : {X : Type 0} (m n : BTreeMap ℕ X) (k : ℕ) → ((q : ℕ) → tree.get nat_cmp n q ≡ cond (is_at (nat_cmp k) q) None (tree.get nat_cmp m q)) → from_entries {R = nat_cmp} n.entries ≡ remove (from_entries m.entries) k
+gone_plain m n k u =
+    sym (ap (λ es. from_entries {R = nat_cmp} es) (plain n.entries))
+    ∙ gone_seen nat_cmp nat_cmp nat_cmp_total nat_cmp-IsAntisymmetric (λ n. n) (λ x y. refl) (λ n. n) (λ b. refl) m n k u
+    ∙ ap (λ es. remove (from_entries {R = nat_cmp} es) k) (plain m.entries)
 
 -- ---- maps by the numbers of uses
 

@@ -3,7 +3,7 @@
 use Rattle.std.specs.Prelude.{◌≡◌, ℕ, zero, suc, ◌<◌, List, [], ◌∷◌, ◌++◌, length, take, slice_get, Option, Some, None}
 use Rattle.std.specs.declared.cmp.Ordering.{Ordering}
 use Rattle.std.specs.Ordering.{nat_cmp, ordering_then}
-use Rattle.std.specs.FinMap.{FinMap, empty, get, insert}
+use Rattle.std.specs.FinMap.{FinMap, empty, get, insert, remove}
 use Rattle.scheme_model.specs.Identifiers.{Number}
 use Rattle.syntax_tree.specs.declared.meaning.Meaning.{Meaning}
 use Rattle.scope_env.specs.declared.env.Bound.{Bound}
@@ -61,6 +61,16 @@ with_bound env scope ident meaning = record env { scopes = changed_at (bound_in 
 abbrev pub with_added : Environment → Option Bound → Environment
 with_added env None = env
 with_added env (Some b) = with_bound env b.scope b.ident b.meaning
+
+-- ---- what calls take back
+
+-- an identifier is bound to this, or to nothing
+abbrev pub bound_as : ℕ → Option Meaning → Scope → Scope
+bound_as ident None = λ s. record s { bound = remove s.bound ident }
+bound_as ident (Some meaning) = bound_in ident meaning
+
+abbrev pub with_before : Environment → ℕ → ℕ → Option Meaning → Environment
+with_before env scope ident before = record env { scopes = changed_at (bound_as ident before) env.scopes scope }
 
 -- ---- what calls forget
 

@@ -6,7 +6,7 @@ ghost use Rattle.scheme_model.specs.Scopes.{Chain, Uses, Own, means};
 ghost use Rattle.syntax_tree.specs.Macros.{IsIdent};
 ghost use Rattle.syntax_tree.specs.Meant.{IsMeaning};
 ghost use Rattle.syntax_tree.specs.Numbered.{number_of};
-ghost use Rattle.scope_env.specs.Environment.{no_scopes, with_root, with_child, with_bound, with_added, with_use, without_locals, IsSound};
+ghost use Rattle.scope_env.specs.Environment.{no_scopes, with_root, with_child, with_bound, with_added, with_use, with_before, without_locals, IsSound};
 ghost use Rattle.scope_env.specs.Resolved.{local, own, bound_at, resolved, reached};
 ghost use Rattle.scope_env.specs.Standing.{EnvFor, StandsFor};
 ghost use Rattle.scope_env.specs.Marks.{marked, marked_for};
@@ -14,7 +14,7 @@ ghost use Rattle.scheme_model.specs.Meaning.{of_form};
 
 use crate::marks::Marks;
 use ls_base::{Mem, Memory};
-use std::alloc::{AllocError, Global};
+use std::alloc::Global;
 use std::collections::BTreeMap;
 use std::marker::Model;
 use syntax_tree::meaning::Meaning;
@@ -29,20 +29,6 @@ pub type ScopeNo = usize;
 struct Scope {
     parent: Option<ScopeNo>,
     bound: BTreeMap<IdNo, Meaning>,
-}
-
-impl Clone for Scope {
-    ghost use Rattle.std.specs.Prelude.{◌≡◌};
-    ghost use Rattle.scope_env.specs.Kept.{scope_of};
-
-    ghost is_clone = { λ s t. scope_of t ≡ scope_of s };
-
-    fn clone(&self) -> Result<Scope, AllocError> {
-        Ok(Scope {
-            parent: self.parent,
-            bound: self.bound.clone()?,
-        })
-    }
 }
 
 /// A binding that may be made: what a scope would bind an identifier to.
@@ -94,18 +80,11 @@ impl Env {
         }
     }
 
-    /// The same scopes once more.
-    pub fn copy(&self) -> Mem<Env>
-        ensures { IfOk result (λ env. env ≡ self.now) }
+    /// How many scopes there are.
+    pub fn count(&self) -> usize
+        ensures { result ≡ length self.now.scopes }
     {
-        Ok(Env {
-            alloc: self.alloc,
-            scopes: self.scopes.clone()?,
-            uses: self.uses.clone()?,
-            roots: self.roots.clone()?,
-            locals: self.locals.copy(self.alloc)?,
-            owns: self.owns.copy(self.alloc)?,
-        })
+        self.scopes.len()
     }
 
     /// Opens the own scope of a unit that has none yet. It binds nothing, and no scope is around it.
@@ -159,6 +138,37 @@ impl Env {
         let scope = &mut self.scopes[scope];
         scope.bound.insert(ident, meaning)?;
         Ok(())
+    }
+
+    /// Binds an identifier that a scope binds to what it was bound to before, or to nothing. It takes no memory.
+    pub fn put_back(&mut self, scope: ScopeNo, ident: IdNo, before: Option<Meaning>)
+        requires scope { scope < length self.old.scopes }
+        requires bound { IsSome (bound_at self.old scope ident) }
+        ensures { self.new ≡ with_before self.old scope ident before }
+    {
+        match before {
+            None => self.unbind(scope, ident),
+            Some(meaning) => self.bind_again(scope, ident, meaning),
+        }
+    }
+
+    /// Binds an identifier to nothing.
+    fn unbind(&mut self, scope: ScopeNo, ident: IdNo)
+        requires { scope < length self.old.scopes }
+        ensures { self.new ≡ with_before self.old scope ident None }
+    {
+        let scope = &mut self.scopes[scope];
+        scope.bound.remove(&ident);
+    }
+
+    /// Binds an identifier that a scope binds to something else.
+    fn bind_again(&mut self, scope: ScopeNo, ident: IdNo, meaning: Meaning)
+        requires scope { scope < length self.old.scopes }
+        requires bound { IsSome (bound_at self.old scope ident) }
+        ensures { self.new ≡ with_bound self.old scope ident meaning }
+    {
+        let scope = &mut self.scopes[scope];
+        let _ = scope.bound.insert(ident, meaning);
     }
 
     /// Keeps the scope in which the macro of a use was defined.

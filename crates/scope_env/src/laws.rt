@@ -12,7 +12,8 @@ ghost use Rattle.syntax_tree.specs.Macros.{IsIdent};
 ghost use Rattle.syntax_tree.specs.Meant.{IsGivenMeaning};
 ghost use Rattle.syntax_tree.specs.declared.meaning.Meaning as code_meaning;
 ghost use Rattle.syntax_tree.specs.declared.meaning.Meaning.TheVariants as code;
-ghost use Rattle.scope_env.specs.Environment.{Environment, IsSound, with_root, with_child, with_bound, with_use, without_locals};
+ghost use Rattle.scope_env.specs.Environment.{Environment, IsSound, with_root, with_child, with_bound, with_use, with_before, without_locals};
+ghost use Rattle.scope_env.specs.Resolved.{bound_at};
 ghost use Rattle.scope_env.specs.Standing.{EnvFor, StandsFor, IsGiven, AreLocalsOf, AreOf, AreUsesOf};
 ghost use Rattle.scope_env.specs.Moved.{parent_of, is_around, with_use_under, with_binder, with_given, has_use, AreNamed, AreGivenNamed};
 
@@ -75,6 +76,11 @@ pub fn locals_are_forgotten()
         n < from → n < length old.scopes → StandsFor names old (Some n) c → StandsFor names (without_locals old from) (Some n) c }
     ensures env { (names : Names) (old : Environment) (from : ℕ) (given : Own) (uses : Uses) → IsSound old → ((u n : ℕ) → get old.roots u ≡ Some n → n < from) →
         EnvFor names old given uses → EnvFor names (without_locals old from) given (λ k. []) }
+{}
+
+/// Where an identifier that was bound is bound again to what the scope bound it to before, or to nothing, the environment is what it was.
+pub fn bindings_are_put_back()
+    ensures { (old : Environment) (scope ident : ℕ) (m : code_meaning.Meaning) → with_before (with_bound old scope ident m) scope ident (bound_at old scope ident) ≡ old }
 {}
 
 /// A use more: its scope has around it what the scope that was noted has. An identifier that this use hasn't inserted means what

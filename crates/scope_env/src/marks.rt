@@ -21,15 +21,6 @@ impl Marks {
         }
     }
 
-    /// The same marks once more.
-    pub fn copy(&self, alloc: Global) -> Mem<Marks>
-        ensures { IfOk result (λ copy. copy.marks.items ≡ self.now.marks.items) }
-    {
-        Ok(Marks {
-            marks: Vec::from_slice(alloc, self.marks.as_slice())?,
-        })
-    }
-
     /// Whether a number is marked.
     #[inline(always)]
     pub fn has(&self, number: usize) -> bool

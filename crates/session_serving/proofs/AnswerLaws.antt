@@ -13,9 +13,9 @@ use Rattle.lsp_messages.specs.declared.reply.Reply.{Reply}
 use Rattle.session_serving.specs.AheadOutput.{looked_from, looked_step}
 use Rattle.session_serving.specs.BodiesOutcome.{AreAnswered, AnswersBodies, AnswersSome, BodiesEndAs, EndsSession, IsQuietBody, body_end_of}
 use Rattle.command_output.specs.Prints.{SinkSeen, Prints, PrintsFront, PrintsPart}
-use Rattle.session_serving.specs.ReplyFrames.{frames_of}
+use Rattle.reply_writing.specs.ReplyFrames.{frames_of}
 use Rattle.session_serving.proofs.Sessions.{replies_of_one, end_of_one, state_of_one, more_bodies, ended_session, are_more, frames_more}
-use Rattle.session_serving.proofs.Writes.{prints_nothing, prints_then, part_after, front_after, whole_part}
+use Rattle.reply_writing.proofs.Writes.{prints_nothing, prints_then, part_after, front_after, whole_part}
 
 -- ---- one body
 

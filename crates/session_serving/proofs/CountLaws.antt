@@ -18,7 +18,7 @@ use Rattle.session_serving.specs.AheadOutput.{looked_from, looked_step}
 use Rattle.session_serving.specs.BodiesOutcome.{AnswersBodies, BodiesCountAs, CountsSome, EndsSession, body_end_of}
 use Rattle.session_serving.specs.PieceOutcome.{CountsInPiece, CountsPiece, IsOpen, Serving, TakesPiece}
 use Rattle.command_output.specs.Prints.{PrintsFront, SinkSeen}
-use Rattle.session_serving.specs.ReplyFrames.{frames_of}
+use Rattle.reply_writing.specs.ReplyFrames.{frames_of}
 use Rattle.session_serving.specs.ServeOutcome.{WritesFront}
 use Rattle.session_serving.specs.SessionEnds.{said_exit}
 use Rattle.command_output.specs.Streams.{Streams}
@@ -28,7 +28,7 @@ use Rattle.session_serving.proofs.PieceEndsSession.{counts_all_then, first_in, f
 use Rattle.session_serving.proofs.QuietLaws.{same_rest}
 use Rattle.session_serving.proofs.SessionSoFar.{Going, frames_so_far, joined_run}
 use Rattle.session_serving.proofs.Sessions.{ended_session, frames_more, more_bodies, replies_of_one}
-use Rattle.session_serving.proofs.Writes.{front_after}
+use Rattle.reply_writing.proofs.Writes.{front_after}
 
 -- ---- one body
 

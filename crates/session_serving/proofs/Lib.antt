@@ -1,7 +1,5 @@
-pub mod Items  -- The items of a list from a place on
 pub mod Sessions  -- Sessions over bodies that come one after another
 pub mod OneOutput  -- A stream has one output, and messages that begin it are its front
-pub mod Writes  -- Bytes written one after another
 pub mod AnswerLaws  -- Bodies that are answered one after another
 pub mod Pieces  -- Pieces that are read one after another, and the bodies that they complete
 pub mod SessionSoFar  -- A session that goes on, read by read

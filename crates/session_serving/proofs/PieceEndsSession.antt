@@ -25,9 +25,10 @@ use Rattle.session_serving.specs.BodiesOutcome.{AnswersBodies}
 use Rattle.session_serving.specs.PieceOutcome.{AnswersInPiece, EndsInPiece, HasFault, Serving, TakesPiece}
 use Rattle.command_output.specs.Prints.{SinkSeen, Prints, PrintsFront, PrintsPart}
 use Rattle.session_serving.specs.QuietBytes.{AreQuiet}
-use Rattle.session_serving.specs.ReplyFrames.{frame_of_reply, frames_of}
+use Rattle.reply_writing.specs.ReplyFrames.{frame_of_reply, frames_of}
 use Rattle.session_serving.specs.ServeOutcome.{WritesFront}
-use Rattle.session_serving.specs.SessionOutput.{Output, fault_log, written}
+use Rattle.session_serving.specs.SessionOutput.{Output, written}
+use Rattle.reply_writing.specs.ReplyFrames.{fault_log}
 use Rattle.session_serving.specs.SessionEnds.{said_exit}
 use Rattle.command_output.specs.Streams.{Streams}
 use Rattle.session_serving.specs.declared.answering.Exit.{Exit}
@@ -37,7 +38,7 @@ use Rattle.session_serving.proofs.AnswerLaws.{answers_then, are_first, ends_afte
 use Rattle.session_serving.proofs.Pieces.{complete_more, joined_more, pieces_whole, reads_no_piece, whole_none}
 use Rattle.session_serving.proofs.SessionSoFar.{Going, Read, frames_so_far, going_frames, is_output_so_far, joined_quiet, joined_run, output_so_far, without_farewell}
 use Rattle.session_serving.proofs.Sessions.{frames_more}
-use Rattle.session_serving.proofs.Writes.{front_after, part_after, prints_nothing, prints_then, whole_part}
+use Rattle.reply_writing.proofs.Writes.{front_after, part_after, prints_nothing, prints_then, whole_part}
 
 -- how the bytes end, where that is told
 pub some_end : (e : Option End) (bytes : List ℕ) (bodies : List (List ℕ)) → IsSomeAnd e (IsFrames bytes bodies) → (end : End) × IsFrames bytes bodies end

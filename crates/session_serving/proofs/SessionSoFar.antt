@@ -26,14 +26,14 @@ use Rattle.session_serving.specs.BodiesOutcome.{AnswersBodies}
 use Rattle.session_serving.specs.PieceOutcome.{IsOpen, Serving, TakesPiece}
 use Rattle.command_output.specs.Prints.{Prints, SinkSeen}
 use Rattle.session_serving.specs.QuietBytes.{AreQuiet}
-use Rattle.session_serving.specs.ReplyFrames.{frames_of}
+use Rattle.reply_writing.specs.ReplyFrames.{frames_of}
 use Rattle.session_serving.specs.ServeOutcome.{GoesOn}
 use Rattle.session_serving.specs.SessionOutput.{Output}
 use Rattle.command_output.specs.Streams.{Streams}
 use Rattle.session_serving.specs.declared.serve.SessionEnd.TheVariants.{InputEnded, ReadFailed, Endless}
 use Rattle.session_serving.proofs.AnswerLaws.{none_yet, answers_then}
 use Rattle.session_serving.proofs.Pieces.{Joined, TakesWhole, complete_more, joined_more, joined_none, pieces_more, pieces_over, pieces_stay, pieces_whole, reads_end, reads_failing, reads_no_piece, reads_piece, whole_none}
-use Rattle.session_serving.proofs.Writes.{take_first}
+use Rattle.reply_writing.proofs.Writes.{take_first}
 
 -- a session that read pieces, answered all the bodies that they complete and goes on
 pub record Going (looking : Looking) (old now : Streams) (server : Serving) (taken most : ℕ) : Type 0 where

@@ -9,7 +9,7 @@ use Rattle.session_replies.specs.Asked.{Question, questions}
 use Rattle.session_replies.specs.ToWire.{AreReplies}
 use Rattle.lsp_messages.specs.declared.reply.Reply.{Reply}
 use Rattle.session_serving.specs.AheadOutput.{looked_from, looked_step}
-use Rattle.session_serving.specs.ReplyFrames.{frame_of_reply, frames_of}
+use Rattle.reply_writing.specs.ReplyFrames.{frame_of_reply, frames_of}
 use Rattle.session_serving.specs.SessionOutput.{said, session_from}
 
 -- ---- a session over one body

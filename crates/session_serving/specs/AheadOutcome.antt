@@ -17,7 +17,7 @@ use Rattle.session_serving.specs.AheadOutput.{AnswerFirstBy, BeginBy, IsOutputBy
 use Rattle.command_output.specs.Prints.{SinkSeen}
 use Rattle.session_serving.specs.QuietBytes.{AreQuiet}
 use Rattle.command_output.specs.Reads.{SourceSeen}
-use Rattle.session_serving.specs.ReplyFrames.{frames_of}
+use Rattle.reply_writing.specs.ReplyFrames.{frames_of}
 use Rattle.session_serving.specs.ServeOutcome.{IsUnfinished, SessionEndsAs, WritesFront, max_stream}
 use Rattle.session_serving.specs.SessionOutput.{Output, written}
 use Rattle.command_output.specs.Streams.{Streams}

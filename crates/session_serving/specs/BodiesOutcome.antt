@@ -7,7 +7,7 @@ use Rattle.session_replies.specs.Counted.{AreCounted}
 use Rattle.session_replies.specs.Stepped.{IsQuiet}
 use Rattle.session_replies.specs.ToWire.{AreReplies}
 use Rattle.command_output.specs.Prints.{SinkSeen, Prints, PrintsFront, PrintsPart}
-use Rattle.session_serving.specs.ReplyFrames.{frames_of}
+use Rattle.reply_writing.specs.ReplyFrames.{frames_of}
 use Rattle.session_serving.specs.AheadOutput.{looked_from}
 use Rattle.session_serving.specs.SessionEnds.{said_exit}
 use Rattle.session_serving.specs.declared.answering.Exit.TheVariants.{Clean, Early}

@@ -1,7 +1,4 @@
-pub mod Wording  -- The text that a session says by itself
 pub mod SessionEnds  -- How sessions end, and which status each end has
-pub mod ReplyFrames  -- The bytes that replies are written as (LSP 3.17, base protocol)
-pub mod Writing  -- How writing bytes ends that are made on the way
 pub mod SessionOutput  -- What a session writes in answer to a stream of bytes (LSP 3.17, base protocol and lifecycle)
 pub mod AheadOutput  -- What a session writes in answer to a stream that comes in pieces, where the bodies of a piece are looked at ahead or not (LSP 3.17, "Cancellation Support")
 pub mod BodiesOutcome  -- What answering bodies one after another leaves, in the middle of a session

@@ -6,7 +6,7 @@ use Rattle.lsp_messages.specs.declared.reply.Reply.{Reply}
 use Rattle.ls_outside.specs.Calls.{CallsTake, LastTakes}
 use Rattle.ls_outside.specs.Sources.{bytes_of}
 use Rattle.scheme_model.specs.Session.{Ending}
-use Rattle.session_serving.specs.ReplyFrames.{frames_of}
+use Rattle.reply_writing.specs.ReplyFrames.{frames_of}
 use Rattle.command_output.specs.Prints.{SinkSeen, Prints, PrintsFront, PrintsPart}
 use Rattle.session_serving.specs.CountedBytes.{CountsAll, CountsBegin}
 use Rattle.session_serving.specs.QuietBytes.{AreQuiet}

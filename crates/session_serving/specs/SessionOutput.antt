@@ -4,12 +4,11 @@ use Rattle.std.specs.FinMap.{empty}
 use Rattle.ls_base.specs.Frames.{End, IsFrames, fault, fault_number, rest}
 use Rattle.lsp_messages.specs.Messages.{message_of}
 use Rattle.lsp_messages.specs.declared.reply.Reply.{Reply}
-use Rattle.lsp_messages.specs.declared.reply.Reply.TheVariants as replies
 use Rattle.scheme_model.specs.Session.{Ending, Message, Run, State, begin, run_from}
 use Rattle.session_replies.specs.FromWire.{offsets, said_by}
 use Rattle.session_replies.specs.Asked.{Question, questions}
 use Rattle.session_replies.specs.ToWire.{AreReplies}
-use Rattle.session_serving.specs.Wording.{fault_text}
+use Rattle.reply_writing.specs.ReplyFrames.{fault_log}
 
 -- what a body says
 abbrev pub said : List ℕ → Message
@@ -28,9 +27,6 @@ pub record Output : Type 0 where
   pub messages : List Reply
   pub exit : Option Ending
   pub end : End
-
-abbrev pub fault_log : ℕ → ℕ → Reply
-fault_log number offset = replies.Log (fault_text number offset)
 
 -- the last message, which nothing asks for: the log of a fault of frames that no `exit` precedes
 abbrev pub farewell : Option Ending → End → List Reply

@@ -5,12 +5,12 @@ ghost use Rattle.session_serving.specs.BodiesOutcome.{BodiesCountAs, BodiesEndAs
 ghost use Rattle.command_output.specs.Prints.{sink_seen};
 ghost use Rattle.session_serving.specs.SessionEnds.{exit_status};
 
-use crate::replies::{WriteStop, write_replies};
 use command_output::Status;
 use lookahead::{Bodies, Next};
 use ls_base::{Memory, Steps};
 use ls_outside::Sink;
 use lsp_messages::Id;
+use reply_writing::replies::{WriteStop, write_replies};
 use session_core::Session;
 use std::alloc::Global;
 use std::sync::ledger::Ledger;

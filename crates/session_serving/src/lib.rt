@@ -4,10 +4,8 @@
 pub mod ahead_laws;
 pub mod answering;
 pub mod laws;
-pub mod replies;
 pub mod serve;
 pub mod server;
-mod wording;
 
 pub use answering::Exit;
 pub use serve::SessionEnd;

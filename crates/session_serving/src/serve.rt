@@ -12,13 +12,13 @@ ghost use Rattle.session_serving.specs.SessionEnds.{session_status};
 ghost use Rattle.command_output.specs.Streams.{streams};
 
 use crate::answering::Exit;
-use crate::replies::WriteStop;
-use crate::server::{PieceEnd, Server, say_farewell};
+use crate::server::{PieceEnd, Server};
 use command_output::Status;
 use lookahead::Looking;
 use ls_base::Steps;
 use ls_outside::{Got, Sink, Source};
 use lsp_framing::Deframer;
+use reply_writing::replies::{WriteStop, say_farewell};
 use session_core::Session;
 use std::alloc::Global;
 use std::sync::ledger::Ledger;
@@ -149,7 +149,12 @@ fn answer_input<I: Source, O: Sink, L: Ledger>(
                 taken += count as u64;
                 match server.take(&buf[..count], looking, output, steps) {
                     PieceEnd::Answered => {}
-                    PieceEnd::Faulty(fault) => match say_farewell(server.alloc, fault, output) {
+                    PieceEnd::Faulty(fault) => match say_farewell(
+                        server.alloc,
+                        fault.number,
+                        fault.offset,
+                        output,
+                    ) {
                         Ok(()) => return SessionEnd::FrameFault,
                         Err(WriteStop::Failed) => return SessionEnd::WriteFailed,
                         Err(WriteStop::Memory) => return SessionEnd::NoMemory,

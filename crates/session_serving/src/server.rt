@@ -1,19 +1,13 @@
 //! A session, and the frames that it gets its bodies from.
 ghost use Rattle.std.specs.Prelude.{◌≡◌, ◌+◌, ◌<◌, ◌^◌, length, IfOk};
 ghost use Rattle.session_serving.specs.PieceOutcome.{Cuts, IsQuietPiece, PieceCountsAs, PieceEndsAs, serving};
-ghost use Rattle.session_serving.specs.Writing.{WritingEndsAs};
 ghost use Rattle.command_output.specs.Prints.{sink_seen};
-ghost use Rattle.session_serving.specs.ReplyFrames.{frame_of_reply};
-ghost use Rattle.session_serving.specs.SessionOutput.{fault_log};
 
 use crate::answering::{BodiesEnd, Exit, answer_bodies};
-use crate::replies::{WriteStop, write_reply};
-use crate::wording::fault_text;
 use lookahead::{Bodies, Looking};
-use ls_base::{Items, Mem, Memory, Steps, Text};
+use ls_base::{Items, Mem, Memory, Steps};
 use ls_outside::Sink;
 use lsp_framing::{Deframer, FrameFault};
-use lsp_messages::Reply;
 use session_core::Session;
 use std::alloc::Global;
 use std::sync::ledger::Ledger;
@@ -111,15 +105,4 @@ impl Server {
             BodiesEnd::NoMemory => PieceEnd::NoMemory,
         }
     }
-}
-
-/// Writes the last message of a session whose input has a fault of frames: the log of the fault.
-pub fn say_farewell<O: Sink>(alloc: Global, fault: FaultAt, output: &mut O) -> Result<(), WriteStop>
-    ensures { WritingEndsAs (sink_seen (O.taken output.old) (O.faults output.old) (O.writes output.old))
-        (sink_seen (O.taken output.new) (O.faults output.new) (O.writes output.new))
-        (frame_of_reply (fault_log fault.number fault.offset)) result }
-{
-    let text = fault_text(alloc, fault.number, fault.offset)?;
-    write_reply(alloc, &Reply::Log(Text::from_string(text)), output)?;
-    Ok(())
 }

@@ -33,7 +33,7 @@ use Rattle.core_tree.specs.Names.{IsBound}
 use Rattle.unit_scopes.specs.Binds.{with_locals}
 use Rattle.unit_scopes.specs.Chains.{body_chain}
 use Rattle.unit_scopes.specs.Counts.{named_fault}
-use Rattle.unit_scopes.specs.Macros.{IsBound as IsBound_meaning, Keeps}
+use Rattle.unit_scopes.specs.Macros.{macro_in, same_key, IsBound as IsBound_meaning, Keeps}
 use Rattle.unit_scopes.specs.State.{IsMacro, EnvStands, Stands, is_program, most_locals}
 use Rattle.unit_scopes.specs.Stepped.{BindsBody, with_told, with_definition, with_macros}
 use Rattle.unit_scopes.specs.Searched.{speaks_of, define_searched}
@@ -245,6 +245,23 @@ module _ (work : Work) (u w : UnitScope) (ls : List Frames) (s : ScopedState) (s
       subst (λ (q : Result (Renamed Identifier FramedIdent) Broken × ScopedState). EndsIn (λ (done : Unit {0}) (made : Renamed Identifier FramedIdent). made ≡ unchanged p) work u w ls spot fs (Ok tt) q)
       (sym (is_made here (body_around fs) n r fs p s no first))
       (unchanged p, record { stands = stands; placed = placed; same = same.same }, refl, refl)
+
+-- neither its notes nor the macros change
+pub placed_notes : (u w : UnitScope) (b k : Bool) (scope : ℕ) (name : NamePart) (m : Meaning) → Places u w b scope name m k → w.form.trace.notes ≡ u.form.trace.notes
+placed_notes u w true k scope name m p = λ j. (p j).form.trace.notes
+placed_notes u w false k scope name m p = λ j. (p.1 j).form.trace.notes
+
+pub placed_macros : (u w : UnitScope) (b k : Bool) (scope : ℕ) (name : NamePart) (m : Meaning) → Places u w b scope name m k → w.macros ≡ u.macros
+placed_macros u w true k scope name m p = λ j. (p j).macros
+placed_macros u w false k scope name m p = λ j. (p.1 j).macros
+
+-- no other macro changes
+pub kept_beside : (u w : UnitScope) (ms : Macros) (b : Bool) (ident : ℕ) (k : Macro) (f : ℕ) (m : Meaning) → w.form.number ≡ u.form.number → w.macros ≡ u.macros → Keeps w.macros ms w.form.number (next_here u b ident) k →
+    same_key u.form.number (next_here u b ident) f m ≡ false → macro_in ms f m ≡ macro_in u.macros f m
+kept_beside u w ms b ident k f m number macros keeps apart =
+    keeps f m
+    ∙ ((λ j. if same_key (number j) (next_here u b ident) f m then Some k else macro_in (macros j) f m)
+    ∙ ap (λ (q : Bool). if q then Some k else macro_in u.macros f m) apart)
 
 -- what is kept is a macro exactly where there are rules
 pub kept_tells : (work : Work) (ls : List Frames) (fs : Frames) (k : Option Macro) (r : Option (Rules Identifier)) → IsKept work ls fs k r → is_kept k ≡ is_some r

@@ -21,7 +21,7 @@ use Rattle.syntax_tree.specs.declared.meaning.Meaning.TheVariants.{Local, Global
 use Rattle.syntax_tree.specs.declared.trees.Work.{Work}
 use Rattle.syntax_tree.proofs.RoleLaws.{same_by_number}
 use Rattle.scope_env.specs.Moved.{IsNamed}
-use Rattle.unit_scopes.specs.Macros.{macro_in, same_key, IsBound, Keeps}
+use Rattle.unit_scopes.specs.Macros.{macro_in, same_key, IsBound, Keeps, numbered}
 use Rattle.unit_scopes.specs.State.{IsMacro, IsMacroIfAny, MacrosStand, IsBegun, Stands}
 use Rattle.unit_scopes.specs.Stepped.{kept, with_macros}
 use Rattle.unit_scopes.specs.declared.macros.Macro.{Macro}
@@ -102,7 +102,7 @@ module _ (names : Names) (apart : AreToldApart names.idents) (told : AreToldApar
   by_standard n x is (Free k) (model.Standard y) h = absurd h
   by_standard n x is (Free k) (model.Free y) h = refl
 
-  by_key : (c : Meaning) (l : model.Meaning) → IsBound c → IsMeaning names unit f c l → (d : Meaning) (m : model.Meaning) → IsMeaning names unit g d m → same_key f c g d ≡ same_meaning l m
+  pub by_key : (c : Meaning) (l : model.Meaning) → IsBound c → IsMeaning names unit f c l → (d : Meaning) (m : model.Meaning) → IsMeaning names unit g d m → same_key f c g d ≡ same_meaning l m
   by_key (Local n) l b is d m h = by_local n d m h ∙ ap (λ (x : model.Meaning). same_meaning x m) (sym is)
   by_key (Global u n) (model.Local w) b is d m h = absurd is
   by_key (Global u n) (model.Global w i) b is d m h = by_global u n w i is.0 is.1 d m h
@@ -234,6 +234,10 @@ is_begun names unit form roots (Free n) l w root means bound same = absurd bound
 pub begun_by : (roots : map.FinMap nat_cmp ℕ) (w : Number) (t : Transformer Frames Identifier) (o : Option (Transformer Frames Identifier)) (q : Bool) → (q ≡ true → IsBegun roots w) → (is_some o ≡ true → IsBegun roots w) → is_some (cond q (Some t) o) ≡ true → IsBegun roots w
 begun_by roots w t o true now before h = now refl
 begun_by roots w t o false now before h = before h
+
+-- its edition is no part of what a macro stands for
+pub numbered_stands : (work : Work) (ls : List Frames) (k : Macro) (t : Transformer Frames Identifier) (n : ℕ) → IsMacro work ls k t → IsMacro work ls (numbered k n) t
+numbered_stands work ls k t n h = record { scope = h.scope; checked = h.checked; rules = h.rules; leaves = h.leaves }
 
 -- a macro more, by what means it in the form at work
 pub kept_stands : (work : Work) (u : UnitScope) (ls : List Frames) (s : ScopedState) (ms : Macros) (c : Meaning) (l : model.Meaning) (k : Macro) (t : Transformer Frames Identifier) →

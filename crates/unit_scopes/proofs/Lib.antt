@@ -23,7 +23,6 @@ pub mod OutcomeLaws  -- How steps follow one another
 pub mod OpenedStand  -- A unit is begun
 pub mod ImportLaws  -- The imports of a unit, bound one after another, and the unit once all are bound
 pub mod RestLaws  -- Between two calls, when no form is at work
-pub mod CopyLaws  -- A copy of units stands for what they stand for
 pub mod NodeLaws  -- A core node that begins, and nodes that are counted
 pub mod SearchedNotes  -- The notes that speak of an identifier, by their numbers
 pub mod DefineLaws  -- A definition where forms are gone through
@@ -39,3 +38,5 @@ pub mod UseSizes  -- A use gives a tree of at most 4,194,304 nodes
 pub mod SyntaxLaws  -- The rules of macros where they are defined, by what the code was told
 pub mod CoreStandLaws  -- What stood for a core, a part, a clause or what was set aside in a work still does in one that grew
 pub mod FreshLaws  -- A unit that was begun just now
+pub mod WithinLaws  -- Notes and macros are in scopes that are no newer than one
+pub mod ForgottenLaws  -- Units stand for the same once what is local to their forms is forgotten, without what was local

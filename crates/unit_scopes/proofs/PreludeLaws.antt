@@ -1,5 +1,5 @@
 -- The prelude's unit: it is begun when there is nothing yet, and each macro that is added stands.
-use Rattle.std.proofs.Common.{◌≡◌, ℕ, ◌==◌, ◌&&◌, List, [], ◌∷◌, map, slice_get, Bool, true, false, cond, ◌||◌, Option, Some, None, Result, Ok, Err, OnOk, refl, sym, ap, ◌∙◌, subst}
+use Rattle.std.proofs.Common.{◌≡◌, ℕ, ◌+◌, ◌==◌, ◌&&◌, List, [], ◌∷◌, map, slice_get, Bool, true, false, cond, ◌||◌, Option, Some, None, Result, Ok, Err, OnOk, refl, sym, ap, ◌∙◌, subst}
 use Rattle.std.specs.List.{list_any}
 use Rattle.std.specs.Str.{bytes_eq}
 use Rattle.std.specs.BTreeMap.{get}
@@ -32,7 +32,7 @@ use Rattle.scope_env.specs.Resolved.{bound_at}
 use Rattle.scope_env.specs.Standing.{StandsFor, Gives, EnvFor}
 use Rattle.unit_scopes.specs.Chains.{chain_in, uses_in, given_in}
 use Rattle.unit_scopes.specs.Kept.{NotesFor}
-use Rattle.unit_scopes.specs.Macros.{macro_in, Keeps}
+use Rattle.unit_scopes.specs.Macros.{macro_in, numbered, Keeps}
 use Rattle.unit_scopes.specs.Opened.{with_imports, started, nothing_yet, HasUnits}
 use Rattle.unit_scopes.specs.Preluded.{standard_names, prelude_with, prelude_state, IsPrelude, Continues, AddsMacro}
 use Rattle.unit_scopes.specs.State.{EnvStands, IsMacro, IsMacroIfAny, MacrosStand, Rests}
@@ -42,6 +42,7 @@ use Rattle.unit_scopes.specs.declared.asked.Asked.{Asked}
 use Rattle.unit_scopes.specs.declared.macros.Macro.{Macro}
 use Rattle.unit_scopes.specs.declared.macros.Macros.{Macros}
 use Rattle.unit_scopes.specs.declared.scope.UnitScope.{UnitScope}
+use Rattle.unit_scopes.proofs.KeptStands.{numbered_stands}
 use Rattle.unit_scopes.proofs.GrowthStands.{growth_rests}
 use Rattle.unit_scopes.proofs.NotesStand.{notes_on}
 use Rattle.unit_scopes.proofs.RestLaws.{kept_rests, own_macro_rests}
@@ -173,7 +174,7 @@ module _ (old new : Work) (trees : KeepsTrees old new) (names : KeepsNames old.s
     noted = notes_on old new ([] ∷ []) ([] ∷ []) names (λ n fs there. there) u.asked [] apart notes
 
     -- of a standard name
-    standard_rests : (n : ℕ) (ms : Macros) → IsSymbol new.symbols n x → is_standard x ≡ true → Keeps u.macros ms 0 (code.Standard n) k → Rests new (with_macros u ms) ([] ∷ []) (prelude_with x r s)
+    standard_rests : (n : ℕ) (ms : Macros) → IsSymbol new.symbols n x → is_standard x ≡ true → Keeps u.macros ms 0 (code.Standard n) (numbered k (u.macros.editions + 1)) → Rests new (with_macros u ms) ([] ∷ []) (prelude_with x r s)
     standard_rests n ms spelt standard keeps =
         let t : Transformer Frames Identifier = record { env = []; rules = r } in
         let path : kept (model.Standard x) t s ≡ prelude_with x r s =
@@ -181,9 +182,9 @@ module _ (old new : Work) (trees : KeepsTrees old new) (names : KeepsNames old.s
           table = cond (sym standard j) s.table (record { unit = prelude_unit; form = 0; ident = prelude_name x; keyword = true; occ = None } ∷ s.table);
           macros = record { meaning = cond (sym standard j) (model.Standard x) (model.Global prelude_unit (prelude_name x)); frames = []; rules = r } ∷ s.macros;
         } in
-        subst (Rests new (with_macros u ms) ([] ∷ [])) path (kept_rests new u ([] ∷ []) s ms 0 (code.Standard n) (model.Standard x) k t apart told keeps tt spelt macro grown)
+        subst (Rests new (with_macros u ms) ([] ∷ [])) path (kept_rests new u ([] ∷ []) s ms 0 (code.Standard n) (model.Standard x) (numbered k (u.macros.editions + 1)) t apart told keeps tt spelt (numbered_stands new ([] ∷ []) k t (u.macros.editions + 1) macro) grown)
 
-    pub standard_added : (n : ℕ) (ms : Macros) → IsSymbol new.symbols n x → is_standard x ≡ true → Keeps u.macros ms 0 (code.Standard n) k → UnitStands new (with_macros u ms) ([] ∷ []) (prelude_with x r s) []
+    pub standard_added : (n : ℕ) (ms : Macros) → IsSymbol new.symbols n x → is_standard x ≡ true → Keeps u.macros ms 0 (code.Standard n) (numbered k (u.macros.editions + 1)) → UnitStands new (with_macros u ms) ([] ∷ []) (prelude_with x r s) []
     standard_added n ms spelt standard keeps = record { rests = standard_rests n ms spelt standard keeps; notes = noted }
 
     -- of a name of its own
@@ -196,7 +197,7 @@ module _ (old new : Work) (trees : KeepsTrees old new) (names : KeepsNames old.s
           macros = record { meaning = cond (sym other j) (model.Standard x) (model.Global (is.unit j) (prelude_name x)); frames = []; rules = r } ∷ s.macros;
         } in
         subst (λ (w : UnitScope). Rests new w ([] ∷ []) (prelude_with x r s)) (sym h.after)
-        (subst (Rests new (with_macros (with_definition u ident h.defined) h.macros) ([] ∷ [])) path (own_macro_rests new u ([] ∷ []) s [] 0 ident n h.defined h.macros k r apart told sound at h.put h.more h.keeps macro grown))
+        (subst (Rests new (with_macros (with_definition u ident h.defined) h.macros) ([] ∷ [])) path (own_macro_rests new u ([] ∷ []) s [] 0 ident n h.defined h.macros (numbered k (u.macros.editions + 1)) r apart told sound at h.put h.more h.keeps (numbered_stands new ([] ∷ []) k (record { env = []; rules = r }) (u.macros.editions + 1) macro) grown))
 
     pub own_added : (v : UnitScope) → IsSound u.env → is_standard x ≡ false → AddsMacro u v ident k → UnitStands new v ([] ∷ []) (prelude_with x r s) []
     own_added v sound other h = record {

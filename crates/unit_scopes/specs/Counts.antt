@@ -1,5 +1,5 @@
 -- Counts within their budgets, and faults, as the code has them.
-use Rattle.std.specs.Prelude.{◌≡◌, ◌⊎◌, ℕ, ◌+◌, ◌≤◌, ◌<◌, Option, Some, None, Result, Ok, Err, if◌then◌else◌}
+use Rattle.std.specs.Prelude.{◌≡◌, ◌⊎◌, ℕ, ◌+◌, ◌≤◌, ◌<◌, Option, Some, None, Result, Ok, Err}
 use Rattle.scheme_model.specs.declared.Occ.{Occ}
 use Rattle.core_forms.specs.declared.shape.NamePart.{NamePart}
 use Rattle.feature_requirements.specs.declared.fault.ExpandFault.{ExpandFault}

@@ -1,5 +1,5 @@
 -- Definitions in the code (R7RS 5.3 to 5.5).
-use Rattle.std.specs.Prelude.{◌≡◌, ℕ, ◌+◌, ◌≤◌, List, [], ◌∷◌, Bool, true, false, Option, Some, None, Result, Ok, Err, if◌then◌else◌}
+use Rattle.std.specs.Prelude.{◌≡◌, ℕ, ◌+◌, ◌≤◌, List, [], ◌∷◌, Bool, true, false, Option, Some, None, Result, Ok, Err, if◌then◌else◌, ◌&&◌}
 use Rattle.std.specs.BTreeMap.{BTreeMap, get, btree_map_len}
 use Rattle.std.specs.Ordering.{nat_cmp, is_eq}
 use Rattle.scheme_model.specs.Ident.{Ident as Identifier}
@@ -8,8 +8,13 @@ use Rattle.scheme_model.specs.Meaning.{Meaning}
 use Rattle.scheme_model.specs.RulesShape.{Rules}
 use Rattle.scheme_model.specs.Cores.{Binder}
 use Rattle.scheme_model.specs.Steps.{Broken, Step, ◌>>=◌, done}
-use Rattle.scheme_model.specs.Order.{Here, Note, Pending, Ops, told, binder_at}
-use Rattle.scheme_model.specs.ScopedExpansion.{Frames, FramedIdent, ScopedState}
+use Rattle.scheme_model.specs.Order.{Here, Note, Pending, Ops, told, binder_at, is_some}
+use Rattle.scheme_model.specs.Identifiers.{Number}
+use Rattle.scheme_model.specs.CountedExpansion.{refused_here}
+use Rattle.scheme_model.specs.Questions.{Outcome, outcome_by}
+use Rattle.scheme_model.specs.Substitution.{any}
+use Rattle.scheme_model.specs.ScopedExpansion.{Frames, FramedIdent, ScopedState, definition_added, meaning_next, is_defined}
+use Rattle.unit_scopes.specs.Searched.{speaks_of}
 use Rattle.syntax_tree.specs.Macros.{IsIdent}
 use Rattle.syntax_tree.specs.Meant.{IsMeaning}
 use Rattle.syntax_tree.specs.declared.meaning.Meaning as code_meaning
@@ -104,6 +109,11 @@ EndsIn {X} {Y} P work u v ls spot fs (Ok x) p = (y : Y) × GoesTo work u v ls sp
 EndsIn P work u v ls spot fs (Err (fault.At e)) p = GoesTo work u v ls spot fs p.1 × Breaks work e p
 EndsIn P work u v ls spot fs (Err fault.Full) p = ⊥
 EndsIn P work u v ls spot fs (Err fault.Memory) p = Unit {0}
+
+-- how a definition ends: with it a note that speaks of its identifier would be told otherwise, or the identifier has a definition there, or it stands
+abbrev pub outcome_here : Option Number → Named Identifier → Option (Rules Identifier) → Frames → List (Note FramedIdent) → ScopedState → Outcome
+outcome_here b n r fs ns s =
+    outcome_by (any (λ note. speaks_of n.name note && refused_here (definition_added b n r fs s) (meaning_next s b n.name) (is_some r) note) ns) (is_defined s b n.name)
 
 -- names are defined one after another, each a variable
 abbrev pub define_each : {E A L S : Type 0} → Ops E A L S → Here → E → List (Named A) → Pending A L → Step S (List Binder)

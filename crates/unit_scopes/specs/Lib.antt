@@ -1,5 +1,6 @@
 pub mod Chains  -- The binders that frames are
 pub mod Macros  -- What means a macro in the code, by its maps
+pub mod Editions  -- The rules of macros by their editions
 pub mod State  -- What the scopes, the macros and the counts of the code stand for
 pub mod Counts  -- Counts within their budgets, and faults, as the code has them
 pub mod Binds  -- Binders of names, and the scope in which they are bound, as the code has them
@@ -15,5 +16,6 @@ pub mod Defining  -- Definitions in the code (R7RS 5.3 to 5.5)
 pub mod Units  -- The calls of the expander on the forms of units (R7RS 5.1, 5.3, 5.6)
 pub mod Opened  -- What a unit begins with, in the definition and in the code (R7RS 5.1, 5.6)
 pub mod Preluded  -- The prelude's unit (R7RS 4.2, 7.3)
-pub mod Copied  -- Units that are copied
 pub mod Others  -- What a step of a form leaves of the forms beside it
+pub mod Within  -- Notes and macros in scopes that are no newer than one
+pub mod Forgotten  -- What is local to the forms of units, and is forgotten between two of them (R7RS 4.3, 5.3)

@@ -11,9 +11,21 @@ use Rattle.unit_scopes.specs.declared.macros.Macros.{Macros}
 -- the macro that means this in a form
 abbrev pub macro_in : Macros → ℕ → Meaning → Option Macro
 macro_in m form (Local n) = get pair_cmp m.locals (form, n)
-macro_in m form (Global u i) = get pair_cmp m.globals (u, i)
+macro_in m form (Global u i) = get pair_cmp m.globals.all (u, i)
 macro_in m form (Standard s) = get nat_cmp m.standards s
 macro_in m form (Free s) = None
+
+-- a macro with its edition
+abbrev pub numbered : Macro → ℕ → Macro
+numbered k n = record k { edition = n }
+
+-- the edition of the macro that means this in a form; 0 is that of none
+abbrev pub edition_of : Option Macro → ℕ
+edition_of None = 0
+edition_of (Some k) = k.edition
+
+abbrev pub edition_in : Macros → ℕ → Meaning → ℕ
+edition_in m form c = edition_of (macro_in m form c)
 
 -- two meanings, each in a form, are one
 abbrev pub same_key : ℕ → Meaning → ℕ → Meaning → Bool

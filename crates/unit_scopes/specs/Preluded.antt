@@ -14,7 +14,7 @@ use Rattle.scheme_model.specs.ScopedProgram.{ScopedProgress, prelude_rules}
 use Rattle.syntax_tree.specs.Meant.{IsSymbol}
 use Rattle.syntax_tree.specs.declared.trees.Work.{Work}
 use Rattle.syntax_tree.specs.declared.meaning.Meaning.TheVariants.{Global}
-use Rattle.unit_scopes.specs.Macros.{Keeps}
+use Rattle.unit_scopes.specs.Macros.{numbered, Keeps}
 use Rattle.unit_scopes.specs.Opened.{started, nothing_yet}
 use Rattle.unit_scopes.specs.Stepped.{with_definition, with_macros}
 use Rattle.unit_scopes.specs.Units.{UnitStands}
@@ -77,4 +77,4 @@ pub record AddsMacro (old new : UnitScope) (ident : ℕ) (k : Macro) : Type 0 wh
   pub after : new ≡ with_macros (with_definition old ident defined) macros
   pub put : (n : ℕ) → get nat_cmp defined n ≡ (if is_eq (nat_cmp ident n) then Some true else get nat_cmp old.defined n)
   pub more : btree_map_len defined ≡ btree_map_len old.defined + 1
-  pub keeps : Keeps old.macros macros 0 (Global old.unit ident) k
+  pub keeps : Keeps old.macros macros 0 (Global old.unit ident) (numbered k (old.macros.editions + 1))

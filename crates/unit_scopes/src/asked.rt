@@ -1,9 +1,7 @@
 //! What was looked up and compared before a definition (R7RS 5.3, 5.4): a definition that would change an answer is refused.
-ghost use Rattle.std.specs.Prelude.{◌≡◌, ℕ, ◌≤◌, ◌<◌, [], ◌∷◌, ◌++◌, length, slice_get, false, nat_eq, Some, IfOk, OnOk, if◌then◌else◌};
-ghost use Rattle.scheme_model.specs.Ident.{Ident as Identifier};
-ghost use Rattle.syntax_tree.specs.Names.{Names};
-ghost use Rattle.syntax_tree.specs.Macros.{IsIdent};
-ghost use Rattle.unit_scopes.specs.Asks.{idents_of, numbers_in, is_inside_at, AreWithin, IsKnown, AskedStands};
+ghost use Rattle.std.specs.Prelude.{◌≡◌, ℕ, ◌≤◌, ◌<◌, List, map, slice_get, Some, max, min};
+ghost use Rattle.unit_scopes.specs.declared.asked.Note.{Note as AnyNote};
+ghost use Rattle.unit_scopes.specs.Within.{newest_of, note_within};
 
 use ls_base::Mem;
 use scope_env::ScopeNo;
@@ -34,15 +32,71 @@ pub enum Note {
     },
 }
 
-/// All notes of a body or a unit, and for each identifier those that ask it or an identifier that uses inserted in its place.
+impl Note {
+    /// The newest of its scopes.
+    fn newest(self) -> ScopeNo
+        ensures { result ≡ newest_of self }
+    {
+        match self {
+            Note::LookedUp {
+                at,
+                head: _,
+                keyword: _,
+            } => at.scope,
+            Note::Compared {
+                literal,
+                at,
+                held: _,
+            } => literal.scope.max(at.scope),
+        }
+    }
+
+    /// The same in scopes that are no newer than this one.
+    fn within(self, last: ScopeNo) -> Note
+        ensures { result ≡ note_within last self }
+    {
+        match self {
+            Note::LookedUp { at, head, keyword } => Note::LookedUp {
+                at: Asking {
+                    scope: at.scope.min(last),
+                    ident: at.ident,
+                },
+                head,
+                keyword,
+            },
+            Note::Compared { literal, at, held } => Note::Compared {
+                literal: Asking {
+                    scope: literal.scope.min(last),
+                    ident: literal.ident,
+                },
+                at: Asking {
+                    scope: at.scope.min(last),
+                    ident: at.ident,
+                },
+                held,
+            },
+        }
+    }
+}
+
+/// All notes of a body or a unit, and for each identifier those that ask it or an identifier that uses inserted in its place. No
+/// note has a scope that is newer than `newest`.
 #[derive(Drop)]
 pub struct Asked {
     alloc: Global,
     notes: Vec<Note>,
     asking: BTreeMap<IdNo, Vec<usize>>,
+    newest: ScopeNo,
+    ghost within: { (n : ℕ) (note : AnyNote) → slice_get notes.items n ≡ Some note → newest_of note ≤ newest },
 }
 
 impl Asked {
+    ghost use Rattle.std.specs.Prelude.{[], ◌∷◌, ◌++◌, length, false, nat_eq, IfOk, OnOk, if◌then◌else◌};
+    ghost use Rattle.scheme_model.specs.Ident.{Ident as Identifier};
+    ghost use Rattle.syntax_tree.specs.Names.{Names};
+    ghost use Rattle.syntax_tree.specs.Macros.{IsIdent};
+    ghost use Rattle.unit_scopes.specs.Asks.{idents_of, numbers_in, is_inside_at, AreWithin, IsKnown, AskedStands};
+
     /// No notes, which takes no memory.
     pub fn new(alloc: Global) -> Asked
         ensures notes { result.notes.items ≡ [] }
@@ -52,19 +106,8 @@ impl Asked {
             alloc,
             notes: Vec::new(alloc),
             asking: BTreeMap::new(alloc),
+            newest: 0,
         }
-    }
-
-    /// The same notes once more.
-    pub fn copy(&self) -> Mem<Asked>
-        ensures notes { IfOk result (λ asked. asked.notes.items ≡ self.now.notes.items) }
-        ensures asking { IfOk result (λ asked. (n : ℕ) → numbers_in asked n ≡ numbers_in self.now n) }
-    {
-        Ok(Asked {
-            alloc: self.alloc,
-            notes: Vec::from_slice(self.alloc, self.notes.as_slice())?,
-            asking: self.asking.clone()?,
-        })
     }
 
     /// Adds a note.
@@ -74,6 +117,7 @@ impl Asked {
         ensures stands { AskedStands symbols.now self.old → OnOk result (AskedStands symbols.now self.new) }
     {
         let number = self.notes.len();
+        self.newest = self.newest.max(note.newest());
         self.notes.push(note)?;
         match note {
             Note::LookedUp {
@@ -90,6 +134,18 @@ impl Asked {
                 Ok(self.ask(symbols, at.ident, number)?)
             }
         }
+    }
+
+    /// Notes of newer scopes than this one are from now on of this one.
+    pub(crate) fn keep_within(&mut self, last: ScopeNo)
+        ensures notes { self.new.notes.items ≡ map (note_within last) self.old.notes.items }
+        ensures asking { self.new.asking ≡ self.old.asking }
+    {
+        if self.newest <= last {
+            return;
+        }
+        all_within(self.notes.as_mut_slice(), last);
+        self.newest = last;
     }
 
     /// The note with this number asks an identifier, and each inside it.
@@ -151,5 +207,14 @@ impl Asked {
         ensures { slice_get self.now.notes.items number ≡ Some result }
     {
         self.notes[number]
+    }
+}
+
+/// Notes in scopes that are no newer than this one.
+fn all_within(notes: &mut [Note], last: ScopeNo)
+    ensures { notes.new ≡ map (note_within last) notes.old }
+{
+    for at in 0..notes.len() {
+        notes[at] = notes[at].within(last);
     }
 }

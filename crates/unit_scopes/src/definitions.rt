@@ -1,5 +1,5 @@
 //! Definitions in units and bodies (R7RS 5.3): one that changes what a keyword was taken for is refused, and so is a second one.
-ghost use Rattle.std.specs.Prelude.{◌≡◌, ◌+◌, ◌^◌, ◌≤◌, ◌<◌, List, length, Option, None, OnOk, false, ◌&&◌, ◌||◌};
+ghost use Rattle.std.specs.Prelude.{◌≡◌, ℕ, ◌+◌, ◌^◌, ◌≤◌, ◌<◌, List, length, Option, None, Err, OnOk, false, ◌&&◌, ◌||◌};
 ghost use Rattle.std.specs.BTreeMap.{get};
 ghost use Rattle.std.specs.Ordering.{nat_cmp};
 ghost use Rattle.scheme_model.specs.CountedExpansion.{means_here, refused_here};
@@ -8,18 +8,23 @@ ghost use Rattle.scheme_model.specs.Ident.{Ident as Identifier};
 ghost use Rattle.scheme_model.specs.Meaning.{Meaning as ModelMeaning};
 ghost use Rattle.scheme_model.specs.Requirements.{Known};
 ghost use Rattle.scheme_model.specs.RulesShape.{Rules};
-ghost use Rattle.scheme_model.specs.Order.{Note as ModelNote, Pending, Renamed, binder_at, told};
+ghost use Rattle.scheme_model.specs.Order.{Note as ModelNote, Pending, Renamed, binder_at, told, is_some};
 ghost use Rattle.scheme_model.specs.ScopedExpansion.{Frames, FramedIdent, ScopedState, body_around, meaning_next, is_defined, assigned};
 ghost use Rattle.scheme_model.specs.Substitution.{any, differ, unchanged};
 ghost use Rattle.syntax_tree.specs.Macros.{IsIdent};
 ghost use Rattle.syntax_tree.specs.Meant.{IsMeaning};
+ghost use Rattle.syntax_tree.specs.declared.meaning.Meaning.{Meaning as AnyMeaning};
 ghost use Rattle.syntax_tree.specs.declared.trees.Work.{Work as AnyWork};
 ghost use Rattle.core_forms.specs.Parts.{IsName};
 ghost use Rattle.core_tree.specs.Names.{IsBinder};
+ghost use Rattle.core_tree.specs.declared.traces.FormFault.{FormFault as AnyFault};
+ghost use Rattle.feature_requirements.specs.declared.fault.ExpandFault.TheVariants.{At};
+ghost use Rattle.unit_scopes.specs.Macros.{macro_in, same_key};
 ghost use Rattle.unit_scopes.specs.Searched.{speaks_of, searched};
 ghost use Rattle.unit_scopes.specs.State.{Stands, most_locals};
 ghost use Rattle.unit_scopes.specs.Kept.{NoteFor, NotesFor, PlaceFor, SpotFor};
-ghost use Rattle.unit_scopes.specs.Defining.{CanGo, HasNumber, ComesTo, CanRefuse, next_here, Places, IsKept, Takes, EndsIn};
+ghost use Rattle.form_notes.specs.Standing.{outcome_as};
+ghost use Rattle.unit_scopes.specs.Defining.{CanGo, HasNumber, ComesTo, CanRefuse, next_here, Places, IsKept, Takes, EndsIn, outcome_here};
 
 use crate::asked::{Asked, Asking, Note};
 use crate::counting::fails_at;
@@ -29,6 +34,7 @@ use crate::uses::same_meaning;
 use core_forms::NamePart;
 use core_tree::cores::Binder;
 use feature_requirements::fault::{ExpandFault, code};
+use form_notes::Outcome;
 use form_parts::items::Spot;
 use ls_base::Mem;
 use scheme_model::Occ;
@@ -95,6 +101,10 @@ impl UnitScope {
             Stands work.now self.old ls s → SpotFor work.now self.old ls s spot fs → IsName work.now name n → IsKept work.now ls fs kept r → NotesFor work.now ls asked.now p.notes →
             EndsIn (λ (done : Unit {0}) (made : Renamed Identifier FramedIdent). made ≡ unchanged p) work.now self.old self.new ls spot fs result (told here ((searched known).define n r fs p s)) }
         ensures counts { OnOk result (Takes 1 self.old self.new) }
+        ensures refused { (e : AnyFault) → result ≡ Err (At e) → self.new ≡ self.old }
+        ensures notes { OnOk result (self.new.form.trace.notes ≡ self.old.form.trace.notes) }
+        ensures others { (f : ℕ) (m : AnyMeaning) → same_key self.old.form.number (next_here self.old spot.in_body name.ident) f m ≡ false →
+            OnOk result (macro_in self.new.macros f m ≡ macro_in self.old.macros f m) }
     {
         work.symbols.told_apart();
         self.env.sound();
@@ -121,6 +131,41 @@ impl UnitScope {
                 Ok(())
             }
         }
+    }
+
+    /// How the definition of a name ends, as a macro's or as a variable's.
+    pub fn outcome(
+        &self,
+        work: &Work,
+        spot: Spot,
+        name: NamePart,
+        is_macro: bool,
+        asked: &Asked,
+    ) -> Outcome
+        requires can { CanGo work.now self.now spot asked.now }
+        requires name { HasNumber work.now name }
+        ensures { (ls : List Frames) (s : ScopedState) (fs : Frames) (n : Named Identifier) (r : Option (Rules Identifier)) (ns : List (ModelNote FramedIdent)) →
+            Stands work.now self.now ls s → SpotFor work.now self.now ls s spot fs → IsName work.now name n → is_some r ≡ is_macro → NotesFor work.now ls asked.now ns →
+            outcome_as result ≡ outcome_here (body_around fs) n r fs ns s }
+    {
+        work.symbols.told_apart();
+        self.env.sound();
+        let meaning = self.next_meaning(spot, name.ident);
+        let coming = Coming {
+            bound: Bound {
+                scope: spot.scope,
+                ident: name.ident,
+                meaning,
+            },
+            is_macro,
+        };
+        if self.is_refused(work, coming, asked) {
+            return Outcome::Redefines;
+        }
+        if self.is_defined(spot, name.ident) {
+            return Outcome::StoodBefore;
+        }
+        Outcome::Stands
     }
 
     /// Binds a name that has no definition there yet: in a body to the next local, in a unit as one that it defines, which the

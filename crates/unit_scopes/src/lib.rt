@@ -6,6 +6,7 @@ pub mod asked;
 pub mod binding;
 pub mod counting;
 pub mod definitions;
+pub mod forgetting;
 pub mod heads;
 pub mod macros;
 pub mod prelude;
@@ -13,6 +14,7 @@ pub mod quasi;
 pub mod scope;
 pub mod syntax;
 pub mod unit;
+pub mod unit_macros;
 pub mod uses;
 
 pub use prelude::units_go_on;

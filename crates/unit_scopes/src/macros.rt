@@ -1,51 +1,38 @@
 //! The macros of all units, by what means them.
-ghost use Rattle.std.specs.Prelude.{◌≡◌, ℕ, None, IfOk, OnOk, OnErr};
+ghost use Rattle.std.specs.Prelude.{◌≡◌, ℕ, ◌+◌, None, IfOk, OnOk, OnErr, if◌then◌else◌};
 ghost use Rattle.std.specs.Option.{option_copied};
 ghost use Rattle.syntax_tree.specs.declared.meaning.Meaning.{Meaning as AnyMeaning};
-ghost use Rattle.unit_scopes.specs.Copied.{SameMacros};
-ghost use Rattle.unit_scopes.specs.Macros.{macro_in, IsBound, Keeps};
+ghost use Rattle.syntax_tree.specs.declared.meaning.Meaning.TheVariants.{Global as GlobalOf};
+ghost use Rattle.unit_scopes.specs.Macros.{macro_in, edition_in, numbered, same_key, IsBound, Keeps};
 
-use ls_base::{Items, Mem};
+use crate::unit_macros::UnitMacros;
+use ls_base::{Items, Mem, Memory};
 use rules_check::RuleLeaf;
 use scope_env::ScopeNo;
-use std::alloc::{AllocError, Global};
+use std::alloc::Global;
 use std::collections::BTreeMap;
 use syntax_tree::meaning::Meaning;
 use syntax_tree::rules::Rules;
 use syntax_tree::symbols::{IdNo, SymNo};
 
-/// A macro: the scope in which it was defined, its rules, and their leaves.
+/// A macro: the scope in which it was defined, its rules, and their leaves; and its edition, a number that it is given when it is
+/// kept, from 1 on.
 #[derive(Drop)]
 pub struct Macro {
     pub scope: ScopeNo,
     pub rules: Rules,
     pub leaves: Vec<RuleLeaf>,
+    pub edition: u64,
 }
 
-impl Clone for Macro {
-    ghost use Rattle.unit_scopes.specs.Copied.{SameMacro};
-
-    ghost is_clone = { SameMacro };
-
-    fn clone(&self) -> Result<Macro, AllocError> {
-        let alloc = *self.leaves.allocator();
-        let Ok(rules) = copy_rules(alloc, &self.rules) else {
-            return Err(AllocError);
-        };
-        Ok(Macro {
-            scope: self.scope,
-            rules,
-            leaves: Vec::from_slice(alloc, self.leaves.as_slice())?,
-        })
-    }
-}
-
-/// All macros: the open unit's local ones by form and number, those that units define, and the standard ones.
+/// All macros: the open unit's local ones by form and number, those that units define, and the standard ones; and the edition that was
+/// given last.
 #[derive(Drop)]
 pub struct Macros {
     pub locals: BTreeMap<(u32, u64), Macro>,
-    pub globals: BTreeMap<(u32, IdNo), Macro>,
+    pub globals: UnitMacros,
     pub standards: BTreeMap<SymNo, Macro>,
+    pub editions: u64,
 }
 
 impl Macros {
@@ -55,8 +42,9 @@ impl Macros {
     {
         Macros {
             locals: BTreeMap::new(alloc),
-            globals: BTreeMap::new(alloc),
+            globals: UnitMacros::new(alloc),
             standards: BTreeMap::new(alloc),
+            editions: 0,
         }
     }
 
@@ -66,27 +54,43 @@ impl Macros {
     {
         match meaning {
             Meaning::Local(number) => self.locals.get(&(form, number)),
-            Meaning::Global { unit, ident } => self.globals.get(&(unit, ident)),
+            Meaning::Global { unit, ident } => self.globals.get(unit, ident),
             Meaning::Standard(symbol) => self.standards.get(&symbol),
             Meaning::Free(_) => None,
         }
     }
 
-    /// The same macros once more.
-    pub fn copy(&self) -> Mem<Macros>
-        ensures { IfOk result (SameMacros self.now) }
+    /// The edition of the macro that means this in a form, or 0 where none does.
+    pub fn edition(&self, form: u32, meaning: Meaning) -> u64
+        ensures { result ≡ edition_in self.now form meaning }
     {
-        Ok(Macros {
-            locals: self.locals.clone()?,
-            globals: self.globals.clone()?,
-            standards: self.standards.clone()?,
-        })
+        match self.meaning(form, meaning) {
+            Some(kept) => kept.edition,
+            None => 0,
+        }
     }
 
-    /// Keeps a macro as what means this in a form. Nothing free means a macro.
+    /// Keeps a macro as what means this in a form, with the next edition. Nothing free means a macro.
     pub fn keep(&mut self, form: u32, meaning: Meaning, kept: Macro) -> Mem<()>
         requires { IsBound meaning }
+        ensures kept { OnOk result (Keeps self.old self.new form meaning (numbered kept (self.old.editions + 1))) }
+        ensures editions { OnOk result (self.new.editions ≡ self.old.editions + 1) }
+        ensures err { OnErr result ((f : ℕ) (m : AnyMeaning) → macro_in self.new f m ≡ macro_in self.old f m) }
+    {
+        let Some(edition) = self.editions.checked_add(1) else {
+            return Err(Memory);
+        };
+        let mut kept = kept;
+        kept.edition = edition;
+        self.editions = edition;
+        self.keep_as(form, meaning, kept)
+    }
+
+    /// Keeps a macro as what means this in a form, with the edition that it has. Nothing free means a macro.
+    pub fn keep_as(&mut self, form: u32, meaning: Meaning, kept: Macro) -> Mem<()>
+        requires { IsBound meaning }
         ensures kept { OnOk result (Keeps self.old self.new form meaning kept) }
+        ensures editions { self.new.editions ≡ self.old.editions }
         ensures err { OnErr result ((f : ℕ) (m : AnyMeaning) → macro_in self.new f m ≡ macro_in self.old f m) }
     {
         match meaning {
@@ -94,7 +98,7 @@ impl Macros {
                 self.locals.insert((form, number), kept)?;
             }
             Meaning::Global { unit, ident } => {
-                self.globals.insert((unit, ident), kept)?;
+                self.globals.insert(unit, ident, kept)?;
             }
             Meaning::Standard(symbol) => {
                 self.standards.insert(symbol, kept)?;
@@ -102,6 +106,15 @@ impl Macros {
             Meaning::Free(_) => {}
         }
         Ok(())
+    }
+
+    /// Takes out the macro that a unit defines as this identifier, where it does.
+    pub fn take(&mut self, unit: u32, ident: IdNo) -> Option<Macro>
+        ensures taken { (f : ℕ) → result ≡ macro_in self.old f (GlobalOf unit ident) }
+        ensures gone { (f : ℕ) (m : AnyMeaning) → macro_in self.new f m ≡ (if same_key f (GlobalOf unit ident) f m then None else macro_in self.old f m) }
+        ensures editions { self.new.editions ≡ self.old.editions }
+    {
+        self.globals.take(unit, ident)
     }
 }
 

@@ -15,6 +15,7 @@ ghost use Rattle.syntax_tree.specs.Macros.{identifiers, RulesFor};
 ghost use Rattle.syntax_tree.specs.Meant.{IsSymbol};
 ghost use Rattle.syntax_tree.specs.Names.{KeepsNames};
 ghost use Rattle.rules_check.specs.Gathered.{AreUnplaced};
+ghost use Rattle.unit_scopes.specs.Forgotten.{AllOwn, OwnFirst};
 ghost use Rattle.unit_scopes.specs.Opened.{IsNew, AreNumbered, ImportsFor, HasUnits, nothing_yet, started};
 ghost use Rattle.unit_scopes.specs.Preluded.{standard_names, prelude_begun, prelude_with, prelude_state, IsPrelude, CanAdd, Continues, AddsMacro};
 ghost use Rattle.unit_scopes.specs.Units.{UnitStands};
@@ -40,6 +41,7 @@ impl UnitScope {
         ensures rests { HasUnits work.old self.old [] nothing_yet → ImportsFor work.old.symbols imports.now standard_names →
             OnOk result (UnitStands work.new self.new ([] ∷ []) prelude_begun []) }
         ensures others { (v : ℕ) → (v ≡ prelude_unit → ⊥) → IsNew self.old v → OnOk result (IsNew self.new v) }
+        ensures own { AllOwn self.old → OnOk result (OwnFirst self.new × AllOwn self.new) }
         ensures trees { work.new.trees ≡ work.old.trees }
         ensures symbols { work.new.symbols.symbols ≡ work.old.symbols.symbols }
         ensures names { KeepsNames work.old.symbols work.new.symbols }
@@ -71,6 +73,7 @@ impl UnitScope {
             scope: self.root,
             rules,
             leaves,
+            edition: 0,
         };
         match self.env.resolve(self.root, ident, &work.symbols) {
             Meaning::Standard(symbol) => self.macros.keep(0, Meaning::Standard(symbol), kept),

@@ -149,6 +149,7 @@ impl UnitScope {
                     scope,
                     rules: checked,
                     leaves,
+                    edition: 0,
                 })
             }
             Err(fault) => Err(bad_rules(here, fault)),

@@ -5,7 +5,7 @@ ghost use Rattle.scheme_model.specs.Order.{Note};
 ghost use Rattle.scheme_model.specs.ScopedExpansion.{Frames, FramedIdent, ScopedState};
 ghost use Rattle.syntax_tree.specs.Names.{KeepsNames};
 ghost use Rattle.feature_requirements.specs.Judged.{Knows};
-ghost use Rattle.unit_scopes.specs.Copied.{SameUnits};
+ghost use Rattle.unit_scopes.specs.Forgotten.{AllOwn, OwnFirst};
 ghost use Rattle.unit_scopes.specs.Opened.{IsNew, AreNumbered, ImportsFor, HasUnits, BindsImport, nothing_yet, started, with_imports};
 ghost use Rattle.syntax_tree.specs.declared.trees.Work.{Work as AnyWork};
 ghost use Rattle.unit_scopes.specs.State.{is_program};
@@ -19,6 +19,7 @@ use crate::prelude::PRELUDE;
 use crate::scope::{Budget, FormAtWork, Imported, UnitScope};
 use core_tree::traces::Trace;
 use feature_requirements::known::Libraries;
+use form_notes::Noting;
 use ls_base::{Items, Mem};
 use scope_env::{Env, ScopeNo};
 use std::alloc::Global;
@@ -32,6 +33,7 @@ impl UnitScope {
     pub fn new(alloc: Global) -> UnitScope
         ensures units { (work : AnyWork) → HasUnits work result [] nothing_yet }
         ensures all_new { (unit : ℕ) → IsNew result unit }
+        ensures own { AllOwn result }
     {
         UnitScope {
             alloc,
@@ -75,6 +77,7 @@ impl UnitScope {
             OnOk result ((m : ℕ) → IsFresh (started unit (is_program kind) (with_imports unit imported s.entry) s) m) }
         ensures knows { (known : Known) → Knows self.old.libraries known → Knows self.new.libraries known }
         ensures others { (v : ℕ) → (v ≡ unit → ⊥) → IsNew self.old v → OnOk result (IsNew self.new v) }
+        ensures own { AllOwn self.old → OnOk result (OwnFirst self.new × AllOwn self.new) }
         ensures trees { work.new.trees ≡ work.old.trees }
         ensures symbols { work.new.symbols.symbols ≡ work.old.symbols.symbols }
         ensures names { KeepsNames work.old.symbols work.new.symbols }
@@ -98,6 +101,7 @@ impl UnitScope {
         ensures fresh { (ls : List Frames) (s : ScopedState) (imported : List ℕ → Option ModelMeaning) → HasUnits work.old self.old ls s →
             OnOk result ((m : ℕ) → IsFresh (started unit (is_program kind) (with_imports unit imported s.entry) s) m) }
         ensures others { (v : ℕ) → (v ≡ unit → ⊥) → IsNew self.old v → OnOk result (IsNew self.new v) }
+        ensures own { AllOwn self.old → OnOk result (OwnFirst self.new × AllOwn self.new) }
         ensures libraries { self.new.libraries ≡ self.old.libraries }
         ensures trees { work.new.trees ≡ work.old.trees }
         ensures symbols { work.new.symbols.symbols ≡ work.old.symbols.symbols }
@@ -138,28 +142,6 @@ impl UnitScope {
         Ok(())
     }
 
-    /// The same units once more, while no form is at work. What is done with one doesn't change the other.
-    pub fn copy(&self) -> Mem<UnitScope>
-        ensures same { IfOk result (SameUnits self.now) }
-        ensures rests { (work : AnyWork) (ls : List Frames) (s : ScopedState) (notes : List (Note FramedIdent)) → UnitStands work self.now ls s notes →
-            IfOk result (λ u. UnitStands work u ls s notes) }
-        ensures knows { (known : Known) → Knows self.now.libraries known → IfOk result (λ u. Knows u.libraries known) }
-        ensures others { (v : ℕ) → IsNew self.now v → IfOk result (λ u. IsNew u v) }
-    {
-        Ok(UnitScope {
-            alloc: self.alloc,
-            env: self.env.copy()?,
-            macros: self.macros.copy()?,
-            unit: self.unit,
-            kind: self.kind,
-            root: self.root,
-            libraries: self.libraries.clone()?,
-            defined: self.defined.clone()?,
-            asked: self.asked.copy()?,
-            form: no_form(self.alloc),
-        })
-    }
-
     /// Whether the open unit is a program.
     pub(crate) fn is_program(&self) -> bool
         ensures { result ≡ is_program self.now.kind }
@@ -185,6 +167,7 @@ fn no_form(alloc: Global) -> FormAtWork {
             definitions: Items::new(alloc),
             keywords: Items::new(alloc),
             uses: Items::new(alloc),
+            notes: Noting::new(alloc),
         },
     }
 }

@@ -157,6 +157,8 @@ impl UnitScope {
         ensures counted { OnOk result (self.new.form.budget.uses ≡ self.old.form.budget.uses + 1) }
         ensures locals { OnOk result (self.new.form.budget.locals ≡ self.old.form.budget.locals) }
         ensures scopes { self.new.env.scopes ≡ self.old.env.scopes }
+        ensures trace { self.new.form.trace ≡ self.old.form.trace }
+        ensures macros { self.new.macros ≡ self.old.macros }
     {
         if self.form.budget.uses == MAX_USES {
             return Err(fails(at.here, code::USE_BUDGET));
@@ -221,6 +223,8 @@ impl UnitScope {
         ensures begun { OnOk result (self.new ≡ with_use_begun self.old scope) }
         ensures number { IfOk result (λ number. number_of number ≡ use_number self.old) }
         ensures scopes { self.new.env.scopes ≡ self.old.env.scopes }
+        ensures trace { self.new.form.trace ≡ self.old.form.trace }
+        ensures macros { self.new.macros ≡ self.old.macros }
     {
         let number = UseNo {
             unit: self.unit,
@@ -250,6 +254,8 @@ impl UnitScope {
             Instances work.old work.new region.now self.old self.new at.here (instance r (number_of number) m (200000 - self.old.form.budget.nodes)) result }
         ensures grows { Grows work.old work.new region.now }
         ensures scopes { self.new.env.scopes ≡ self.old.env.scopes }
+        ensures trace { self.new.form.trace ≡ self.old.form.trace }
+        ensures macros { self.new.macros ≡ self.old.macros }
     {
         let Some(used) = self.macros.meaning(self.form.number, at.keyword.meaning) else {
             return Err(fails(at.here, code::BAD_FORM));

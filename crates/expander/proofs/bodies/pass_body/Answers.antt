@@ -10,9 +10,9 @@ use Rattle.form_parts.specs.declared.items.WaitingUse as code_waiting
 use Rattle.unit_scopes.specs.declared.scope.UnitScope.{UnitScope}
 use Rattle.expander.proofs.AfterLaws.{all_known}
 use Rattle.expander.proofs.BodyPass.{can_pass_inside, pass_inside, can_meet, body_ends, body_lost, body_fails, body_locals}
-use Rattle.unit_scopes.proofs.NodeLaws.{ends_err}
 use Rattle.unit_scopes.proofs.OutcomeLaws.{leaves_itself}
 use Rattle.expander.proofs.bodies.pass_body.Goals as goal
+use Rattle.noted_steps.proofs.NodeLaws.{ends_err}
 
 abbrev in_env : UnitScope → Environment → UnitScope
 in_env u e = record u { env = e }
@@ -154,7 +154,7 @@ returns-in_err-meet_all-clause-passed c = λ ts turns stand small enough known l
     let v = c.pass.new.units in
     let last = c.pass.new.pending in
     let h = pass_inside work region u w c.args.at.scope inner here ns ts todo asked child newest c.sound.ensures none asks forms aside stand named small ls s fs at stands known turns new v last c.pass.new.asked (Ok tt) knows enough c.in_ok-pass.ensures in
-    let x = c.meet_all.new.self in
+    let x = c.meet_all.new.units in
     ends_err (BodyFor new region x.unit x.form.number) work new region u x ls c.from_residual-in_err-meet_all.result fault.Memory (body_pass turns here ts known fs s) c.from_residual-in_err-meet_all.ensures.1
     (body_lost work region u w c.args.at.scope inner here ns ts todo asked child newest c.sound.ensures none asks forms aside stand named small ls s fs at stands known turns new v last c.pass.new.asked h)
 
@@ -180,7 +180,7 @@ returns-clause-passed c = λ ts turns stand small enough known ls s fs knows sta
     let v = c.pass.new.units in
     let last = c.pass.new.pending in
     let h = pass_inside work region u w c.args.at.scope inner here ns ts todo asked child newest c.sound.ensures none asks forms aside stand named small ls s fs at stands known turns new v last c.pass.new.asked (Ok tt) knows enough c.in_ok-pass.ensures in
-    body_ends work region u w c.args.at.scope inner here ns ts todo asked child newest c.sound.ensures none asks forms aside stand named small ls s fs at stands known turns new v last c.pass.new.asked h c.meet_all.new.self c.in_ok-meet_all.ensures.rest
+    body_ends work region u w c.args.at.scope inner here ns ts todo asked child newest c.sound.ensures none asks forms aside stand named small ls s fs at stands known turns new v last c.pass.new.asked h c.meet_all.new.units c.in_ok-meet_all.ensures.rest
     (λ known ls s fs us stands at waits. c.in_ok-meet_all.ensures.met known ls s fs us stands at (subst (λ (xs : List code_waiting.WaitingUse). AllMatch (WaitsFor new v.unit v.form.number) xs us) (sym c.as_slice.ensures.value) waits))
 
 pub returns-clause-locals : goal.returns-clause-locals

@@ -312,6 +312,38 @@ expand_kept_item-returns-in_ok-macro_def-in-Macro-clause-runs = items.expand_kep
 pub expand_kept_item-returns-in_ok-macro_def-in-Macro-clause-locals : goal.expand_kept_item-returns-in_ok-macro_def-in-Macro-clause-locals
 expand_kept_item-returns-in_ok-macro_def-in-Macro-clause-locals = items.expand_kept_item-returns-in_ok-macro_def-in-Macro-clause-locals
 
+-- ---- assignments
+
+pub set-variable-requires-clause-look : goal.set-variable-requires-clause-look
+set-variable-requires-clause-look = assigned.set-variable-requires-clause-look
+
+pub set-variable-requires-clause-name : goal.set-variable-requires-clause-name
+set-variable-requires-clause-name = assigned.set-variable-requires-clause-name
+
+pub set-returns-in_err-target-clause-runs : goal.set-returns-in_err-target-clause-runs
+set-returns-in_err-target-clause-runs = assigned.set-returns-in_err-target-clause-runs
+
+pub set-below-requires : goal.set-below-requires
+set-below-requires = assigned.set-below-requires
+
+pub set-returns-in_err-below-clause-runs : goal.set-returns-in_err-below-clause-runs
+set-returns-in_err-below-clause-runs = assigned.set-returns-in_err-below-clause-runs
+
+pub set-expand-requires : goal.set-expand-requires
+set-expand-requires = assigned.set-expand-requires
+
+pub set-returns-in_err-value-clause-runs : goal.set-returns-in_err-value-clause-runs
+set-returns-in_err-value-clause-runs = assigned.set-returns-in_err-value-clause-runs
+
+pub set-returns-in_err-new-clause-runs : goal.set-returns-in_err-new-clause-runs
+set-returns-in_err-new-clause-runs = assigned.set-returns-in_err-new-clause-runs
+
+pub set-returns-clause-runs : goal.set-returns-clause-runs
+set-returns-clause-runs = assigned.set-returns-clause-runs
+
+pub set-returns-clause-locals : goal.set-returns-clause-locals
+set-returns-clause-locals = assigned.set-returns-clause-locals
+
 -- ---- later definitions of a program, read as assignments
 
 pub assign-below-requires : goal.assign-below-requires
@@ -322,6 +354,9 @@ assign-target-target-requires-clause-look = assigned.assign-target-target-requir
 
 pub assign-target-target-requires-clause-ident : goal.assign-target-target-requires-clause-ident
 assign-target-target-requires-clause-ident = assigned.assign-target-target-requires-clause-ident
+
+pub assign-note-requires : goal.assign-note-requires
+assign-note-requires = assigned.assign-note-requires
 
 pub assign-expand-requires : goal.assign-expand-requires
 assign-expand-requires = assigned.assign-expand-requires
@@ -349,6 +384,9 @@ assign_procedure-target-target-requires-clause-look = assigned.assign_procedure-
 
 pub assign_procedure-target-target-requires-clause-ident : goal.assign_procedure-target-target-requires-clause-ident
 assign_procedure-target-target-requires-clause-ident = assigned.assign_procedure-target-target-requires-clause-ident
+
+pub assign_procedure-note-requires : goal.assign_procedure-note-requires
+assign_procedure-note-requires = assigned.assign_procedure-note-requires
 
 pub assign_procedure-lambda-requires : goal.assign_procedure-lambda-requires
 assign_procedure-lambda-requires = assigned.assign_procedure-lambda-requires
@@ -412,17 +450,11 @@ expand_shape-case_lambda-requires = shapes.expand_shape-case_lambda-requires
 pub expand_shape-conditional-requires : goal.expand_shape-conditional-requires
 expand_shape-conditional-requires = shapes.expand_shape-conditional-requires
 
-pub expand_shape-assign-requires : goal.expand_shape-assign-requires
-expand_shape-assign-requires = shapes.expand_shape-assign-requires
+pub expand_shape-set-requires : goal.expand_shape-set-requires
+expand_shape-set-requires = shapes.expand_shape-set-requires
 
 pub expand_shape-sequence-requires : goal.expand_shape-sequence-requires
 expand_shape-sequence-requires = shapes.expand_shape-sequence-requires
-
-pub expand_shape-test_variable-requires-clause-look : goal.expand_shape-test_variable-requires-clause-look
-expand_shape-test_variable-requires-clause-look = shapes.expand_shape-test_variable-requires-clause-look
-
-pub expand_shape-test_variable-requires-clause-name : goal.expand_shape-test_variable-requires-clause-name
-expand_shape-test_variable-requires-clause-name = shapes.expand_shape-test_variable-requires-clause-name
 
 pub expand_shape-returns-in_err-below-in-Quasi-clause-runs : goal.expand_shape-returns-in_err-below-in-Quasi-clause-runs
 expand_shape-returns-in_err-below-in-Quasi-clause-runs = shapes.expand_shape-returns-in_err-below-in-Quasi-clause-runs
@@ -441,9 +473,6 @@ expand_shape-returns-in-CaseLambda-clause-runs = shapes.expand_shape-returns-in-
 
 pub expand_shape-returns-in-If-clause-runs : goal.expand_shape-returns-in-If-clause-runs
 expand_shape-returns-in-If-clause-runs = shapes.expand_shape-returns-in-If-clause-runs
-
-pub expand_shape-returns-in_err-test_variable-in-Set-clause-runs : goal.expand_shape-returns-in_err-test_variable-in-Set-clause-runs
-expand_shape-returns-in_err-test_variable-in-Set-clause-runs = shapes.expand_shape-returns-in_err-test_variable-in-Set-clause-runs
 
 pub expand_shape-returns-in-Set-clause-runs : goal.expand_shape-returns-in-Set-clause-runs
 expand_shape-returns-in-Set-clause-runs = shapes.expand_shape-returns-in-Set-clause-runs

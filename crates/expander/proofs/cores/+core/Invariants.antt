@@ -8,12 +8,13 @@ use Rattle.syntax_tree.specs.Works.{StandsFor}
 use Rattle.core_tree.specs.Names.{AllMatch}
 use Rattle.core_tree.specs.Cores.{CoreStands, PartStands}
 use Rattle.unit_scopes.specs.Kept.{ClauseFor, KeptFor}
-use Rattle.unit_scopes.specs.Outcomes.{IsEnough, Runs, Spends}
+use Rattle.unit_scopes.specs.Outcomes.{IsEnough, Spends}
 use Rattle.expander.specs.Expanded.{ClauseStands}
-use Rattle.unit_scopes.specs.Searched.{searched}
 use Rattle.expander.proofs.AfterLaws.{IsAfter}
 use Rattle.expander.proofs.RowLaws.{row, as_part}
 use Rattle.expander.proofs.cores.+core.Given as goal
+use Rattle.noted_steps.specs.Outcomes.{Runs}
+use Rattle.noted_steps.specs.Noting.{noting}
 
 -- a level of depth is eight steps; within a level each function calls those of a lower rank
 abbrev pub decreases-expand_kept : goal.decreases-expand_kept
@@ -43,6 +44,9 @@ decreases-case_lambda l = 8 * l.at.depth + 1
 abbrev pub decreases-conditional : goal.decreases-conditional
 decreases-conditional l = 8 * l.at.depth + 1
 
+abbrev pub decreases-set : goal.decreases-set
+decreases-set l = 8 * l.at.depth + 1
+
 abbrev pub decreases-assign : goal.decreases-assign
 decreases-assign l = 8 * l.at.depth + 1
 
@@ -66,7 +70,7 @@ invariant-expand_all-loop-part l = record {
   after : IsAfter l.fn.work l.work l.region l.fn.units l.units l.at.scope;
   spends : Spends 0 l.fn.units l.units;
   runs : (ts : List (Tree Identifier)) (turns : ℕ) → AllMatch (StandsFor l.fn.work) l.parts ts → IsEnough l.at.depth l.fn.units.form.budget.uses turns →
-      Runs (λ ls xs ms. AllMatch (CoreStands l.work l.units.unit l.units.form.number) xs ms) l.fn.work l.work l.region l.fn.units l.units l.at.scope (Ok l.cores.items) (λ known fs. row (λ t. expand (searched known) turns l.at.depth l.at.here fs (whole t)) (take l.part-index ts));
+      Runs (λ ls xs ms. AllMatch (CoreStands l.work l.units.unit l.units.form.number) xs ms) l.fn.work l.work l.region l.fn.units l.units l.at.scope (Ok l.cores.items) (λ known fs. row (λ t. expand (noting known) turns l.at.depth l.at.here fs (whole t)) (take l.part-index ts));
 }
 
 abbrev pub invariant-procedures-loop-clause : goal.invariant-procedures-loop-clause
@@ -74,7 +78,7 @@ invariant-procedures-loop-clause l = record {
   after : IsAfter l.fn.work l.work l.region l.fn.units l.units l.at.scope;
   spends : Spends 0 l.fn.units l.units;
   runs : (cs : List (Clause Identifier)) (turns : ℕ) → AllMatch (ClauseFor l.fn.work l.region) l.shapes cs → IsEnough l.at.depth l.fn.units.form.budget.uses turns →
-      Runs (λ ls xs ms. AllMatch (ClauseStands l.work l.units.unit l.units.form.number) xs ms) l.fn.work l.work l.region l.fn.units l.units l.at.scope (Ok l.all.items) (λ known fs. row (procedure (expand (searched known) turns) (searched known) l.at.depth l.at.here fs) (take l.clause-index cs));
+      Runs (λ ls xs ms. AllMatch (ClauseStands l.work l.units.unit l.units.form.number) xs ms) l.fn.work l.work l.region l.fn.units l.units l.at.scope (Ok l.all.items) (λ known fs. row (procedure (expand (noting known) turns) (noting known) l.at.depth l.at.here fs) (take l.clause-index cs));
 }
 
 abbrev pub invariant-expand_kept-loop-kept : goal.invariant-expand_kept-loop-kept
@@ -82,7 +86,7 @@ invariant-expand_kept-loop-kept l = record {
   after : IsAfter l.fn.work l.work l.region l.fn.units l.units l.at.scope;
   spends : Spends 0 l.fn.units l.units;
   runs : (is : List (Item Identifier)) (turns : ℕ) → AllMatch (KeptFor l.fn.work l.region l.fn.units.unit l.fn.units.form.number) l.aside is → IsEnough l.at.depth l.fn.units.form.budget.uses turns →
-      Runs (λ ls xs ms. AllMatch (PartStands l.work l.units.unit l.units.form.number) xs ms) l.fn.work l.work l.region l.fn.units l.units l.at.scope (Ok l.parts.items) (λ known fs. row (item_part (expand (searched known) turns) (searched known) l.at.depth fs) (take l.kept-index is));
+      Runs (λ ls xs ms. AllMatch (PartStands l.work l.units.unit l.units.form.number) xs ms) l.fn.work l.work l.region l.fn.units l.units l.at.scope (Ok l.parts.items) (λ known fs. row (item_part (expand (noting known) turns) (noting known) l.at.depth fs) (take l.kept-index is));
 }
 
 abbrev pub invariant-sequence-loop-form : goal.invariant-sequence-loop-form
@@ -90,5 +94,5 @@ invariant-sequence-loop-form l = record {
   after : IsAfter l.initial.work l.work l.region l.initial.units l.units l.below.scope;
   spends : Spends 0 l.initial.units l.units;
   runs : (ts : List (Tree Identifier)) (turns : ℕ) → AllMatch (StandsFor l.initial.work) l.forms ts → IsEnough l.below.depth l.initial.units.form.budget.uses turns →
-      Runs (λ ls xs ms. AllMatch (PartStands l.work l.units.unit l.units.form.number) xs ms) l.initial.work l.work l.region l.initial.units l.units l.below.scope (Ok l.parts.items) (λ known fs. row (as_part (λ u. expand (searched known) turns l.below.depth l.below.here fs (whole u))) (take l.form-index ts));
+      Runs (λ ls xs ms. AllMatch (PartStands l.work l.units.unit l.units.form.number) xs ms) l.initial.work l.work l.region l.initial.units l.units l.below.scope (Ok l.parts.items) (λ known fs. row (as_part (λ u. expand (noting known) turns l.below.depth l.below.here fs (whole u))) (take l.form-index ts));
 }

@@ -11,9 +11,10 @@ use Rattle.scheme_model.specs.Cores.{Binder}
 use Rattle.core_tree.specs.Names.{AllMatch, IsBinder}
 use Rattle.core_tree.specs.declared.cores.Binder as code_binder
 use Rattle.unit_scopes.specs.Defining.{define_each}
-use Rattle.unit_scopes.specs.Searched.{searched}
 use Rattle.expander.proofs.DefinitionSteps.{in_handed, DefinedSoFar, none_defined_yet, one_more_defined, next_fails, all_defined, matched_here, matched_length}
 use Rattle.expander.proofs.defining.define_all.Goals as goal
+use Rattle.noted_steps.specs.Noting.{state_of, noting}
+use Rattle.noted_steps.proofs.NoteLaws.{plainly}
 
 abbrev no_part : NamePart
 no_part = record { ident = 0; occ = None }
@@ -58,9 +59,9 @@ loop-name-preserved c = record {
       let h = c.loop-name.invariant.so_far known ls s fs ns p stands placed names notes in
       let n = matched_here (IsName work) c.args.names.now ns k no_part names c.loop-name-test.true in
       let ends = c.in_ok-define.ensures.defined known ls h.state fs n.0 None p h.goes.stands h.goes.placed n.1 tt notes in
-      let binder = c.next_binder-binder.ensures known work ls h.state fs n.0 h.goes.stands h.goes.placed n.1 in
-      subst (λ (bs : List code_binder.Binder). DefinedSoFar work known c.args.here c.args.units.now ls c.args.spot fs s ns p c.define.new.self (k + 1) bs) (sym c.in_ok-push.ensures.items)
-      (one_more_defined work known c.args.here c.args.units.now ls c.args.spot fs s ns p c.loop-name.units c.define.new.self k c.loop-name.binders.items n.0 n.2 h c.next_binder-binder.result binder ends);
+      let binder = c.next_binder-binder.ensures known work ls (state_of h.state) fs n.0 (plainly work c.loop-name.units ls h.state h.goes.stands) h.goes.placed n.1 in
+      subst (λ (bs : List code_binder.Binder). DefinedSoFar work known c.args.here c.args.units.now ls c.args.spot fs s ns p c.define.new.units (k + 1) bs) (sym c.in_ok-push.ensures.items)
+      (one_more_defined work known c.args.here c.args.units.now ls c.args.spot fs s ns p c.loop-name.units c.define.new.units k c.loop-name.binders.items n.0 n.2 h c.next_binder-binder.result binder ends);
   takes =
       let a = c.loop-name.invariant.takes in
       let b = c.in_ok-define.ensures.counts in
@@ -79,8 +80,8 @@ returns-in_err-define-clause-defined c = λ known ls s fs ns p stands placed nam
     let ends = c.in_err-define.ensures.defined known ls h.state fs n.0 None p h.goes.stands h.goes.placed n.1 tt notes in
     let e = c.in_err-define.field-0.0 in
     let P = λ (bs : Vec code_binder.Binder Global) (ms : List Binder). AllMatch (IsBinder work.symbols u.unit u.form.number) bs.items ms in
-    in_handed P work u c.define.new.self ls c.args.spot fs c.from_residual.result e (define_each (searched known) c.args.here fs ns p s) c.from_residual.ensures.1
-    (next_fails work known c.args.here u ls c.args.spot fs s ns p c.loop-name.units c.define.new.self k c.loop-name.binders.items n.0 n.2 h P e ends)
+    in_handed P work u c.define.new.units ls c.args.spot fs c.from_residual.result e (define_each (noting known) c.args.here fs ns p s) c.from_residual.ensures.1
+    (next_fails work known c.args.here u ls c.args.spot fs s ns p c.loop-name.units c.define.new.units k c.loop-name.binders.items n.0 n.2 h P e ends)
 
 pub returns-clause-defined : goal.returns-clause-defined
 returns-clause-defined c = λ known ls s fs ns p stands placed names notes.

@@ -6,7 +6,7 @@ use Rattle.scheme_model.specs.Ident.{Ident as Identifier}
 use Rattle.scheme_model.specs.Cores.{Binder}
 use Rattle.scheme_model.specs.Shapes.{RecordShape}
 use Rattle.scheme_model.specs.Order.{Going, Pass, record_names, run_record}
-use Rattle.scheme_model.specs.ScopedExpansion.{FramedIdent, ScopedState}
+use Rattle.scheme_model.specs.ScopedExpansion.{FramedIdent}
 use Rattle.core_forms.specs.Parts as forms
 use Rattle.core_forms.specs.Parts.{IsName, IsField}
 use Rattle.core_forms.specs.declared.shape.NamePart.{NamePart}
@@ -14,17 +14,18 @@ use Rattle.core_forms.specs.declared.shape.FieldShape.{FieldShape}
 use Rattle.core_forms.proofs.Distinct.{field_names_are}
 use Rattle.core_tree.specs.Names.{AllMatch, IsBinder, IsField as IsUse}
 use Rattle.core_tree.specs.declared.cores.Binder as code_binder
-use Rattle.unit_scopes.specs.State.{Stands, most_locals}
+use Rattle.unit_scopes.specs.State.{most_locals}
 use Rattle.form_parts.specs.FormsSeen.{used_fields}
-use Rattle.unit_scopes.specs.Kept.{SpotFor}
-use Rattle.unit_scopes.specs.Defining.{EndsIn, define_each}
-use Rattle.unit_scopes.specs.Searched.{searched}
+use Rattle.unit_scopes.specs.Defining.{define_each}
 use Rattle.form_parts.specs.declared.items.Pending as code_pending
 use Rattle.unit_scopes.specs.declared.scope.UnitScope.{UnitScope}
 use Rattle.unit_scopes.proofs.CountingStands.{most_fit}
 use Rattle.expander.proofs.DefinitionSteps.{matched_length, matched_so, goes_handed}
 use Rattle.expander.proofs.RecordSteps.{field_state, fields_taken, record_fails, record_goes}
 use Rattle.expander.proofs.defining.define_record.Goals as goal
+use Rattle.noted_steps.specs.Noting.{Noting, noting}
+use Rattle.noted_steps.specs.Standing.{Stands}
+use Rattle.noted_steps.specs.Kept.{SpotFor, EndsIn}
 
 some_names : (m : RecordShape Identifier) → 1 ≤ length (record_names m)
 some_names m = omega arith
@@ -99,10 +100,10 @@ returns-in_err-binders c = λ known region ls s fs m p given knows stands placed
     let taken = c.in_ok-fields.ensures.taken in
     let names = subst (λ (l : List NamePart). forms.AllMatch (IsName work) l (record_names m)) (sym c.deref-2.ensures.value) (c.in_ok-names.ensures work m is) in
     let e = c.in_err-binders.field-0.0 in
-    let each = define_each (searched known) c.args.here fs (record_names m) p state in
+    let each = define_each (noting known) c.args.here fs (record_names m) p state in
     let ends = subst (λ (x : UnitScope). EndsIn (λ (bs : Vec code_binder.Binder Global) (ms : List Binder). AllMatch (IsBinder work.symbols x.unit x.form.number) bs.items ms) work x v ls c.args.spot fs (Err e) each) taken
     (c.in_err-binders.ensures.defined known ls state fs (record_names m) p (subst (λ (x : UnitScope). Stands work x ls state) (sym taken) start.0) (subst (λ (x : UnitScope). SpotFor work x ls state c.args.spot fs) (sym taken) start.1) names notes) in
-    let step : Going Identifier FramedIdent ScopedState → Pass Identifier FramedIdent × ScopedState = λ go. run_record (searched known) go c.args.here fs p m s in
+    let step : Going Identifier FramedIdent Noting → Pass Identifier FramedIdent × Noting = λ go. run_record (noting known) go c.args.here fs p m s in
     goes_handed work region u v ls c.args.spot fs p.todo given c.args.pending.now c.args.asked.now c.from_residual-in_err-binders.result e step c.from_residual-in_err-binders.ensures.1
     (record_fails work u ls c.args.spot fs s m xs stands placed names_are room region v known c.args.here p c.args.pending.now c.args.asked.now given notes e ends)
 
@@ -125,7 +126,7 @@ returns c = λ known region ls s fs m p given knows stands placed is pending not
     let ys = c.deref-2.result.now in
     let names = subst (λ (l : List NamePart). forms.AllMatch (IsName work) l (record_names m)) (sym c.deref-2.ensures.value) (c.in_ok-names.ensures work m is) in
     let length_names = matched_length (IsName work) ys (record_names m) names in
-    let each = define_each (searched known) c.args.here fs (record_names m) p state in
+    let each = define_each (noting known) c.args.here fs (record_names m) p state in
     let bs = c.in_ok-binders.binders in
     let ends = subst (λ (x : UnitScope). EndsIn (λ (bs : Vec code_binder.Binder Global) (ms : List Binder). AllMatch (IsBinder work.symbols x.unit x.form.number) bs.items ms) work x v ls c.args.spot fs (Ok bs) each) taken
     (c.in_ok-binders.ensures.defined known ls state fs (record_names m) p (subst (λ (x : UnitScope). Stands work x ls state) (sym taken) start.0) (subst (λ (x : UnitScope). SpotFor work x ls state c.args.spot fs) (sym taken) start.1) names notes) in

@@ -1,11 +1,11 @@
-use Rattle.std.proofs.Common.{◌+◌, ◌≤◌, List, [], ◌∷◌, length, Bool, Result, Ok, Err, refl, sym, ap, ◌∙◌, subst, arith}
+use Rattle.std.proofs.Common.{◌+◌, ◌≤◌, List, length, Bool, Result, Ok, Err, refl, sym, ap, ◌∙◌, subst, arith}
 use Rattle.scheme_model.specs.Ident.{Ident as Identifier}
 use Rattle.scheme_model.specs.Cores.{Binder}
 use Rattle.scheme_model.specs.Steps.{Broken, ◌>>=◌}
 use Rattle.scheme_model.specs.Order.{Here, Form, Going, Item, Pass, Renamed, ValuesOf, put, caught, define_names}
 use Rattle.scheme_model.specs.Trees.{Tree, map_tree}
 use Rattle.scheme_model.specs.Substitution.{unchanged}
-use Rattle.scheme_model.specs.ScopedExpansion.{FramedIdent, ScopedState}
+use Rattle.scheme_model.specs.ScopedExpansion.{FramedIdent}
 use Rattle.scheme_model.proofs.ScopeLaws.{map_itself}
 use Rattle.core_forms.specs.Parts as forms
 use Rattle.core_forms.specs.Parts.{IsName}
@@ -16,17 +16,17 @@ use Rattle.std.specs.declared.alloc.Global.{Global}
 use Rattle.core_tree.specs.declared.cores.Binder as code_binder
 use Rattle.core_tree.specs.Names.{AllMatch, IsBinder}
 use Rattle.unit_scopes.specs.Defining.{define_each}
-use Rattle.unit_scopes.specs.Searched.{searched}
 use Rattle.expander.specs.Passed.{GoesOn}
 use Rattle.form_parts.specs.declared.items.Kept.TheVariants as kept
-use Rattle.unit_scopes.proofs.OutcomeLaws.{bound_goes}
 use Rattle.expander.proofs.DefinitionSteps.{goes_handed, goes_failing, aside_goes, in_fails, names_defined, with_made, matched_length}
 use Rattle.expander.proofs.defining.define_values.Goals as goal
+use Rattle.noted_steps.specs.Noting.{Noting, noting}
+use Rattle.noted_steps.proofs.OutcomeLaws.{bound_goes}
 
 abbrev Answer : Type 0
-Answer = Result (List Binder × Renamed Identifier FramedIdent) Broken × ScopedState
+Answer = Result (List Binder × Renamed Identifier FramedIdent) Broken × Noting
 
-abbrev going_on : Bool → Here → Tree Identifier → Going Identifier FramedIdent ScopedState → List Binder × Renamed Identifier FramedIdent → ScopedState → Pass Identifier FramedIdent × ScopedState
+abbrev going_on : Bool → Here → Tree Identifier → Going Identifier FramedIdent Noting → List Binder × Renamed Identifier FramedIdent → Noting → Pass Identifier FramedIdent × Noting
 going_on rest here t go r = go (put (ValuesOf (record { names = r.0; rest = rest }) (record { here = here; tree = map_tree r.1.rename t })) r.1.pending)
 
 pub define_all-requires : goal.define_all-requires
@@ -47,13 +47,13 @@ returns-in_err-binders c = λ known region ls s fs m t p given knows stands plac
     let u = c.args.units.now in
     let v = c.define_all.new.units in
     let here = c.args.form.here in
-    let d = define_each (searched known) here fs m.names p s in
+    let d = define_each (noting known) here fs m.names p s in
     let names = subst (λ (l : List NamePart). forms.AllMatch (IsName work) l m.names) (sym c.deref.ensures.value) is.names in
     let ends = c.in_err-binders.ensures.defined known ls s fs m.names p stands placed names notes in
     let P = λ (bs : Vec code_binder.Binder Global) (ms : List Binder). AllMatch (IsBinder work.symbols u.unit u.form.number) bs.items ms in
-    let whole : Answer = define_names (searched known) here fs m.names p s in
+    let whole : Answer = define_names (noting known) here fs m.names p s in
     let e = c.in_err-binders.field-0.0 in
-    let step : Going Identifier FramedIdent ScopedState → Pass Identifier FramedIdent × ScopedState = λ go. caught p.notes whole (going_on m.rest here t go) in
+    let step : Going Identifier FramedIdent Noting → Pass Identifier FramedIdent × Noting = λ go. caught p.notes whole (going_on m.rest here t go) in
     goes_handed work region u v ls c.args.spot fs p.todo given c.args.pending.now c.args.asked.now c.from_residual.result e step c.from_residual.ensures.1
     (subst (λ (x : Answer). GoesOn work work region u v ls c.args.spot fs p.todo given c.args.pending.now c.args.asked.now (Err e) (λ go. caught p.notes x (going_on m.rest here t go))) (sym (names_defined known here fs p m.names s))
     (goes_failing work region u v ls c.args.spot fs p.todo given c.args.pending.now c.args.asked.now p.notes (λ (done : Unit {0}) (x : List Binder × Renamed Identifier FramedIdent). Unit {0}) e (d >>= with_made p) (going_on m.rest here t) stands.form.few_nodes
@@ -66,7 +66,7 @@ returns c = λ known region ls s fs m t p given knows stands placed is on pendin
     let v = c.define_all.new.units in
     let here = c.args.form.here in
     let f : Form Identifier = record { here = here; tree = t } in
-    let d = define_each (searched known) here fs m.names p s in
+    let d = define_each (noting known) here fs m.names p s in
     let names = subst (λ (l : List NamePart). forms.AllMatch (IsName work) l m.names) (sym c.deref.ensures.value) is.names in
     let ends = c.in_ok-binders.ensures.defined known ls s fs m.names p stands placed names notes in
     let count = matched_length (IsName work) c.deref.result.now m.names names in

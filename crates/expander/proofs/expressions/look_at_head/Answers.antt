@@ -2,8 +2,9 @@ use Rattle.std.proofs.Common.{refl}
 use Rattle.scheme_model.specs.Order.{head_of}
 use Rattle.scheme_model.specs.CountedExpansion.{means_here}
 use Rattle.unit_scopes.specs.Searched.{searched}
+use Rattle.form_parts.specs.FormsSeen.{head_name_of}
 use Rattle.form_parts.specs.declared.heads.Head.TheVariants as heads
-use Rattle.expander.proofs.ReadLaws.{head_named, head_is_macro, head_no_macro, named_settled, nameless_settled}
+use Rattle.expander.proofs.ReadLaws.{head_named, head_is_macro, head_no_macro, named_settled, nameless_settled, named_target, nameless_target}
 use Rattle.expander.proofs.ListLaws.{head_is_core, head_no_core, named_plain, nameless_plain}
 use Rattle.expander.proofs.expressions.look_at_head.Goals as goal
 
@@ -32,7 +33,7 @@ returns-in-Auxiliary c = λ known ls s fs t e at is.
     let target = c.target-keyword.ensures ls s fs (record { name = h.ident; occ = h.place }) e at h.named in
     let here = c.in-Auxiliary.ensures ls s (means_here s fs h.ident) e target.meaning in
     let x = heads.Auxiliary c.in-Auxiliary.field-0 in
-    (named_settled known c.args.work.now s fs t c.in-Some.name h (head_no_macro x d refl here), named_plain known c.args.work.now s fs t c.in-Some.name h (head_no_core x d refl here))
+    (named_settled known c.args.work.now s fs t c.in-Some.name h (head_no_macro x d refl here), named_plain known c.args.work.now s fs t c.in-Some.name h (head_no_core x d refl here), named_target c.args.work.now s fs t c.in-Some.name h c.target-keyword.result target)
 
 pub returns-in-Other : goal.returns-in-Other
 returns-in-Other c = λ known ls s fs t e at is.
@@ -40,7 +41,7 @@ returns-in-Other c = λ known ls s fs t e at is.
     let d = head_of (searched known) fs s h.ident in
     let target = c.target-keyword.ensures ls s fs (record { name = h.ident; occ = h.place }) e at h.named in
     let here = c.in-Other.ensures ls s (means_here s fs h.ident) e target.meaning in
-    (named_settled known c.args.work.now s fs t c.in-Some.name h (head_no_macro heads.Other d refl here), named_plain known c.args.work.now s fs t c.in-Some.name h (head_no_core heads.Other d refl here))
+    (named_settled known c.args.work.now s fs t c.in-Some.name h (head_no_macro heads.Other d refl here), named_plain known c.args.work.now s fs t c.in-Some.name h (head_no_core heads.Other d refl here), named_target c.args.work.now s fs t c.in-Some.name h c.target-keyword.result target)
 
 pub head_by-requires : goal.head_by-requires
 head_by-requires c =
@@ -51,4 +52,4 @@ head_by-requires c =
 
 pub returns-in_default : goal.returns-in_default
 returns-in_default c = λ known ls s fs t e at is.
-    (nameless_settled known c.args.work.now s fs t (c.in_default.ensures t is), nameless_plain known c.args.work.now s fs t (c.in_default.ensures t is))
+    (nameless_settled known c.args.work.now s fs t (c.in_default.ensures t is), nameless_plain known c.args.work.now s fs t (c.in_default.ensures t is), nameless_target c.args.work.now s fs (head_name_of t) (c.in_default.ensures t is))

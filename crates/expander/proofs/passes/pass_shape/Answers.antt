@@ -5,13 +5,12 @@ use Rattle.scheme_model.specs.Trees.{no_trees}
 use Rattle.scheme_model.specs.Measures.{trees_size}
 use Rattle.scheme_model.specs.Order.{Going, Pass, or_none, read_then, record_names, splice}
 use Rattle.scheme_model.specs.Ident.{Ident as Identifier}
-use Rattle.scheme_model.specs.ScopedExpansion.{FramedIdent, ScopedState}
+use Rattle.scheme_model.specs.ScopedExpansion.{FramedIdent}
 use Rattle.syntax_tree.specs.Looks.{PartsStand, AllNamed}
 use Rattle.syntax_tree.specs.declared.trees.nodes.Tree as number
 use Rattle.core_forms.specs.Named.{TreesNamed}
 use Rattle.feature_requirements.specs.Judged.{Chooses, chosen_among}
 use Rattle.expander.specs.Passed.{GoesOn, choices_size, shape_weight}
-use Rattle.unit_scopes.specs.Searched.{searched}
 use Rattle.unit_scopes.specs.State.{most_locals}
 use Rattle.expander.proofs.PassForms.{can_go, room_for, goes_bad, read_is}
 use Rattle.expander.proofs.PassLaws.{goes_so, goes_err}
@@ -19,9 +18,10 @@ use Rattle.expander.proofs.ShapeKinds.{none_passed}
 use Rattle.expander.proofs.ShapePass.{begin_goes, choices_goes, variable_goes, procedure_goes, values_goes, syntax_goes, record_goes, variable_demands, procedure_demands, values_demands, syntax_demands, record_demands, chosen_here, named_here}
 use Rattle.expander.proofs.WeightLaws.{chosen_fits}
 use Rattle.expander.proofs.passes.pass_shape.Goals as goal
+use Rattle.noted_steps.specs.Noting.{Noting, noting}
 
 abbrev Step : Type 0
-Step = Going Identifier FramedIdent ScopedState → Pass Identifier FramedIdent × ScopedState
+Step = Going Identifier FramedIdent Noting → Pass Identifier FramedIdent × Noting
 
 at_least_one : (n : ℕ) → 1 < n → 1 ≤ n
 at_least_one n h = omega (arith, h)
@@ -85,7 +85,7 @@ pub returns-in-Define : goal.returns-in-Define
 returns-in-Define c = λ known region ls s fs form m p given knows stands placed shape named passed fits pending notes less.
     let work = c.args.work.now in
     let u = c.args.units.now in
-    variable_goes known work region s fs c.args.here form p given (λ (f : Going Identifier FramedIdent ScopedState → Pass Identifier FramedIdent × ScopedState). GoesOn work work region u c.define_variable.new.units ls c.args.spot fs p.todo given c.define_variable.new.pending c.args.asked.now c.define_variable.result f)
+    variable_goes known work region s fs c.args.here form p given (λ (f : Going Identifier FramedIdent Noting → Pass Identifier FramedIdent × Noting). GoesOn work work region u c.define_variable.new.units ls c.args.spot fs p.todo given c.define_variable.new.pending c.args.asked.now c.define_variable.result f)
     c.args.shape m shape named fits less c.in-Define.name c.in-Define.value c.in-Define.is
     (λ i t name value few. c.define_variable.ensures known region ls s fs i t p given knows stands placed name value pending notes (at_least_one given few))
 
@@ -93,7 +93,7 @@ pub returns-in-Procedure : goal.returns-in-Procedure
 returns-in-Procedure c = λ known region ls s fs form m p given knows stands placed shape named passed fits pending notes less.
     let work = c.args.work.now in
     let u = c.args.units.now in
-    procedure_goes known work region s fs c.args.here form p given (λ (f : Going Identifier FramedIdent ScopedState → Pass Identifier FramedIdent × ScopedState). GoesOn work work region u c.define_function.new.units ls c.args.spot fs p.todo given c.define_function.new.pending c.args.asked.now c.define_function.result f)
+    procedure_goes known work region s fs c.args.here form p given (λ (f : Going Identifier FramedIdent Noting → Pass Identifier FramedIdent × Noting). GoesOn work work region u c.define_function.new.units ls c.args.spot fs p.todo given c.define_function.new.pending c.args.asked.now c.define_function.result f)
     c.args.shape m shape named fits less c.in-Procedure.name c.in-Procedure.clause c.in-Procedure.is
     (λ i d name clause few. c.define_function.ensures known region ls s fs i d p given knows stands placed name clause pending notes (at_least_one given few))
 
@@ -101,7 +101,7 @@ pub returns-in-Values : goal.returns-in-Values
 returns-in-Values c = λ known region ls s fs form m p given knows stands placed shape named passed fits pending notes less.
     let work = c.args.work.now in
     let u = c.args.units.now in
-    values_goes known work region s fs c.args.here form p given (λ (f : Going Identifier FramedIdent ScopedState → Pass Identifier FramedIdent × ScopedState). GoesOn work work region u c.define_values.new.units ls c.args.spot fs p.todo given c.define_values.new.pending c.args.asked.now c.define_values.result f)
+    values_goes known work region s fs c.args.here form p given (λ (f : Going Identifier FramedIdent Noting → Pass Identifier FramedIdent × Noting). GoesOn work work region u c.define_values.new.units ls c.args.spot fs p.todo given c.define_values.new.pending c.args.asked.now c.define_values.result f)
     c.args.shape m shape named fits less c.in-Values.formals c.in-Values.value c.in-Values.is
     (λ d t formals value few. c.define_values.ensures known region ls s fs d t p given knows stands placed formals value pending notes few)
 
@@ -109,7 +109,7 @@ pub returns-in-DefineSyntax : goal.returns-in-DefineSyntax
 returns-in-DefineSyntax c = λ known region ls s fs form m p given knows stands placed shape named passed fits pending notes less.
     let work = c.args.work.now in
     let u = c.args.units.now in
-    syntax_goes known work region s fs c.args.here form p given (λ (f : Going Identifier FramedIdent ScopedState → Pass Identifier FramedIdent × ScopedState). GoesOn work work region u c.define_syntax.new.units ls c.args.spot fs p.todo given c.define_syntax.new.pending c.define_syntax.new.asked c.define_syntax.result f)
+    syntax_goes known work region s fs c.args.here form p given (λ (f : Going Identifier FramedIdent Noting → Pass Identifier FramedIdent × Noting). GoesOn work work region u c.define_syntax.new.units ls c.args.spot fs p.todo given c.define_syntax.new.pending c.define_syntax.new.asked c.define_syntax.result f)
     c.args.shape m shape named fits less c.in-DefineSyntax.name c.in-DefineSyntax.rules c.in-DefineSyntax.is
     (λ i t name value few. c.define_syntax.ensures known region ls s fs i t p given knows stands placed name value pending notes (at_least_one given few))
 
@@ -152,9 +152,9 @@ returns-in_err-chosen-in-CondExpand c = λ known region ls s fs form m p given k
     choices_goes known work region s fs here form p given (λ (f : Step). GoesOn work work region u u ls c.args.spot fs p.todo given before c.args.asked.now c.from_residual.result f)
     c.args.shape m shape named fits less c.in-CondExpand.choices c.deref-in-CondExpand.result.now c.in-CondExpand.is c.deref-in-CondExpand.ensures.value
     (λ ps are may few.
-    let step : Step = λ go. read_then (searched known) here p (chosen_among known ps) (λ o. splice (searched known) go here p (or_none o)) s in
+    let step : Step = λ go. read_then (noting known) here p (chosen_among known ps) (λ o. splice (noting known) go here p (or_none o)) s in
     goes_err region ls c.args.spot fs p.todo given before c.args.asked.now work work u u c.from_residual.result e step c.from_residual.ensures.1
-    (goes_bad region ls c.args.spot fs p.todo given before c.args.asked.now known work u s here e (chosen_among known ps) p (λ go o. splice (searched known) go here p (or_none o)) stands placed notes
+    (goes_bad region ls c.args.spot fs p.todo given before c.args.asked.now known work u s here e (chosen_among known ps) p (λ go o. splice (noting known) go here p (or_none o)) stands placed notes
     (chosen_here work c.judge.result.work.now u.libraries c.judge.result.libraries.now c.deref-in-CondExpand.result.now here c.judge.ensures.work c.judge.ensures.libraries (Err e) c.in_err-chosen-in-CondExpand.ensures.chosen known ps knows are)))
 
 pub returns-in-Some : goal.returns-in-Some
@@ -176,8 +176,8 @@ returns-in-Some c = λ known region ls s fs form m p given knows stands placed s
     (named_here work c.judge.result.work.now u.libraries c.judge.result.libraries.now cs here c.judge.ensures.work c.judge.ensures.libraries o c.in_ok-chosen-in-CondExpand.ensures.named region may) in
     let ts = chosen.0 in
     let seen = sym c.deref-in-Some.ensures.value in
-    goes_so region ls c.args.spot fs p.todo given new asked work work u v c.splice-in-Some.result (λ go. read_then (searched known) here p (chosen_among known ps) (λ x. splice (searched known) go here p (or_none x)) s) (λ go. splice (searched known) go here p ts s)
-    (λ go. read_is known here p (chosen_among known ps) (Some ts) (λ x. splice (searched known) go here p (or_none x)) s chosen.1)
+    goes_so region ls c.args.spot fs p.todo given new asked work work u v c.splice-in-Some.result (λ go. read_then (noting known) here p (chosen_among known ps) (λ x. splice (noting known) go here p (or_none x)) s) (λ go. splice (noting known) go here p ts s)
+    (λ go. read_is known here p (chosen_among known ps) (Some ts) (λ x. splice (noting known) go here p (or_none x)) s chosen.1)
     (c.splice-in-Some.ensures known work region ls s c.args.spot fs asked ts p given stands placed (subst (λ (l : List number.Tree). PartsStand work l ts) seen chosen.2) (subst (λ (l : List number.Tree). AllNamed work region l) seen names) pending notes
     (at_most (trees_size ts) (choices_size ps) given (chosen_fits known ps (Some ts) chosen.1) few)))
 
@@ -198,8 +198,8 @@ returns-in-CondExpand c = λ known region ls s fs form m p given knows stands pl
     (λ ps are may few.
     let chosen = subst (λ (x : Option (Vec number.Tree Global)). Chooses work here (Ok x) (chosen_among known ps)) c.in-None.is
     (chosen_here work c.judge.result.work.now u.libraries c.judge.result.libraries.now cs here c.judge.ensures.work c.judge.ensures.libraries (Ok c.in_ok-chosen-in-CondExpand.chosen) c.in_ok-chosen-in-CondExpand.ensures.chosen known ps knows are) in
-    goes_so region ls c.args.spot fs p.todo given new asked work work u v c.splice-in-None.result (λ go. read_then (searched known) here p (chosen_among known ps) (λ x. splice (searched known) go here p (or_none x)) s) (λ go. splice (searched known) go here p no_trees s)
-    (λ go. read_is known here p (chosen_among known ps) None (λ x. splice (searched known) go here p (or_none x)) s chosen)
+    goes_so region ls c.args.spot fs p.todo given new asked work work u v c.splice-in-None.result (λ go. read_then (noting known) here p (chosen_among known ps) (λ x. splice (noting known) go here p (or_none x)) s) (λ go. splice (noting known) go here p no_trees s)
+    (λ go. read_is known here p (chosen_among known ps) None (λ x. splice (noting known) go here p (or_none x)) s chosen)
     (c.splice-in-None.ensures known work region ls s c.args.spot fs asked no_trees p given stands placed tt tt pending notes (none_given (choices_size ps) given few)))
 
 pub returns-in-RecordType : goal.returns-in-RecordType

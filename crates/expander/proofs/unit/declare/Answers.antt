@@ -1,121 +1,97 @@
-use Rattle.std.proofs.Common.{◌<◌, ◌^◌, List, [], Ok, false, sym, subst, arith}
-use Rattle.scheme_model.specs.Measures.{tree_size}
+use Rattle.std.proofs.Common.{◌+◌, ◌≤◌, ◌^◌, [], length, false, true, None, sym, subst}
+use Rattle.std.specs.Prelude.{OnOk}
 use Rattle.scheme_model.specs.Program.{enough_turns}
+use Rattle.scheme_model.specs.Ident.{Ident as Identifier}
+use Rattle.scheme_model.specs.Order.{Pass}
 use Rattle.scheme_model.specs.UnitExpansion.{one_form}
-use Rattle.unit_scopes.specs.Kept.{NotesFor, left_with}
-use Rattle.expander.specs.Passed.{CanPass}
+use Rattle.scheme_model.specs.ScopedExpansion.{FramedIdent, ScopedState}
+use Rattle.unit_scopes.specs.Kept.{NotesFor}
+use Rattle.unit_scopes.specs.Outcomes.{HasRoom}
 use Rattle.unit_scopes.specs.Units.{Sets, set_aside}
-use Rattle.unit_scopes.specs.declared.asked.Asked.{Asked}
 use Rattle.feature_requirements.specs.declared.fault.ExpandFault.TheVariants as fault
-use Rattle.form_parts.specs.declared.items.Pending as code_pending
-use Rattle.form_parts.specs.declared.items.Spot.{Spot}
 use Rattle.unit_scopes.specs.declared.scope.UnitScope.{UnitScope}
-use Rattle.unit_scopes.proofs.CallLaws.{all_known, with_asked, sets_adds, sets_counts, sets_full}
-use Rattle.expander.proofs.DeclareLaws.{asking, one_pending, at_root, can_pass, left_small, left_enough, sets, few_more, sets_lost, sets_fails, sets_none, sets_handed}
+use Rattle.unit_scopes.proofs.CallLaws.{all_known, sets_adds, sets_counts, sets_full}
+use Rattle.noted_steps.proofs.PlainSides.{run_same, run_exact}
+use Rattle.expander.specs.UnitNotes.{HasNoted, part_begun, set_noting}
+use Rattle.expander.proofs.AskedRuns.{noted_knows}
+use Rattle.expander.proofs.PartLaws.{plain_part, sets_from, sets_gone, ended_sets, noted_ends, not_ended, sets_handed_on}
 use Rattle.expander.proofs.unit.declare.Goals as goal
 
--- the unit's own scope
-abbrev root_of : UnitScope → Spot
-root_of u = record { scope = u.root; in_body = false }
+pub go_through-left-requires-clause-can : goal.go_through-left-requires-clause-can
+go_through-left-requires-clause-can c =
+    let u = c.args.units.now in let w = c.args.work.now in let can = c.requires.can in let same = c.begin_notes.ensures.rest in
+    record {
+      layout = can.layout;
+      state = plain_part (can.state.uses can.state.form) can.state;
+      notes = can.notes;
+      stands = c.begin_notes.ensures.begun w can.layout can.state false 0 (λ n. None) [] can.stands (λ h. absurd cc) (λ h. absurd cc);
+      asked = subst (λ (x : UnitScope). NotesFor w can.layout x.asked can.notes) (sym same) can.asked;
+    }
 
-pub pass-passed-requires-clause-can : goal.pass-passed-requires-clause-can
-pass-passed-requires-clause-can c =
-    let u = c.args.units.now in let w = c.args.work.now in let region = c.args.region.now in let a = c.replace-asked.new.dest in
-    let form = c.requires.form in
-    let small : tree_size form.0.0 < 2 ^ 32 = omega (arith, c.size-size.ensures form.0.0 form.0.1) in
-    let todo : code_pending.Pending = record { todo = c.in_ok-forms_at.field-0; aside = c.new.result; uses = c.new-2.result } in
-    subst (λ (x : Asked). CanPass w region (asking u a) (root_of u) 0 todo x) (sym c.replace-asked.ensures.value)
-    (can_pass w region u a todo c.args.form c.in_ok-forms_at.ensures (c.new.ensures.items, c.new-2.ensures.items) form small c.requires.space c.requires.can)
+pub go_through-left-requires-clause-space : goal.go_through-left-requires-clause-space
+go_through-left-requires-clause-space c = subst (HasRoom (2 ^ 43 + 2 ^ 40)) (sym c.begin_notes.ensures.rest) c.requires.space
 
--- before the form was gone through
-pub returns-in_err-forms_at-clause-sets : goal.returns-in_err-forms_at-clause-sets
-returns-in_err-forms_at-clause-sets c = λ known ls s notes t knows stands asked for.
-    let u = c.args.units.now in let w = c.args.work.now in let region = c.args.region.now in
-    sets_handed w w region u u ls c.from_residual.result fault.Memory (set_aside known t notes s) c.from_residual.ensures.1 (sets_none w region u ls s stands)
+-- what was set aside, unless notes were lost
+pub returns-in_err-end_notes-clause-sets : goal.returns-in_err-end_notes-clause-sets
+returns-in_err-end_notes-clause-sets c = λ known ls s notes t knows stands asked for.
+    let u = c.args.units.now in let u1 = c.begin_notes.new.units in let v = c.go_through-left.new.units in let w = c.args.work.now in let new = c.go_through-left.new.work in let region = c.args.region.now in let same = c.begin_notes.ensures.rest in
+    let begun = c.begin_notes.ensures.begun w ls s false 0 (λ n. None) [] stands (λ h. absurd cc) (λ h. absurd cc) in
+    let asked1 = subst (λ (x : UnitScope). NotesFor w ls x.asked notes) (sym same) asked in
+    let h = c.go_through-left.ensures.sets known ls (plain_part (s.uses s.form) s) notes t (noted_knows u u1 known same knows) begun asked1 for in
+    sets_handed_on w new region u v ls c.from_residual.result fault.Memory (set_aside known t notes s) c.from_residual.ensures.1
+    (sets_gone w new region u u1 v same ls c.go_through-left.result (set_noting known t notes (plain_part (s.uses s.form) s)) h)
 
--- the fault of the pass
-pub returns-in_err-passed-clause-sets : goal.returns-in_err-passed-clause-sets
-returns-in_err-passed-clause-sets c = λ known ls s notes t knows stands asked for.
-    let u = c.args.units.now in let w = c.args.work.now in let region = c.args.region.now in let a = c.replace-asked.new.dest in
-    let new = c.pass-passed.new.work in let v = c.pass-passed.new.units in let b = c.pass-passed.new.asked in let e = c.in_err-passed.field-0.0 in
-    let small : tree_size t < 2 ^ 32 = omega (arith, c.size-size.ensures t for) in
-    let todo : code_pending.Pending = record { todo = c.in_ok-forms_at.field-0; aside = c.new.result; uses = c.new-2.result } in
-    let pending = one_pending w region u.unit u.form.number todo c.args.form t notes c.in_ok-forms_at.ensures (c.new.ensures.items, c.new-2.ensures.items) for c.requires.form.1 in
-    let noted = subst (λ (x : Asked). NotesFor w ls x notes) (sym c.replace-asked.ensures.value) asked in
-    let passed = c.in_err-passed.ensures known ls s [] (one_form t notes) enough_turns knows (with_asked w u a ls s stands) (at_root w u a ls s stands) pending noted (left_enough (tree_size t) u.form.budget.uses small) in
-    sets_handed w new region u (asking v b) ls c.from_residual-in_err-passed.result e (set_aside known t notes s) c.from_residual-in_err-passed.ensures.1
-    (sets_fails w new region u v a b ls (root_of u) (left_with (one_form t notes).todo u.form.budget.uses) c.pass-passed.new.pending (set_aside known t notes s) e passed)
-
--- no memory for what was set aside
-pub returns-in_err-items-clause-sets : goal.returns-in_err-items-clause-sets
-returns-in_err-items-clause-sets c = λ known ls s notes t knows stands asked for.
-    let u = c.args.units.now in let w = c.args.work.now in let region = c.args.region.now in let a = c.replace-asked.new.dest in
-    let new = c.pass-passed.new.work in let v = c.pass-passed.new.units in let b = c.pass-passed.new.asked in
-    let small : tree_size t < 2 ^ 32 = omega (arith, c.size-size.ensures t for) in
-    let todo : code_pending.Pending = record { todo = c.in_ok-forms_at.field-0; aside = c.new.result; uses = c.new-2.result } in
-    let pending = one_pending w region u.unit u.form.number todo c.args.form t notes c.in_ok-forms_at.ensures (c.new.ensures.items, c.new-2.ensures.items) for c.requires.form.1 in
-    let noted = subst (λ (x : Asked). NotesFor w ls x notes) (sym c.replace-asked.ensures.value) asked in
-    let passed = c.in_ok-passed.ensures known ls s [] (one_form t notes) enough_turns knows (with_asked w u a ls s stands) (at_root w u a ls s stands) pending noted (left_enough (tree_size t) u.form.budget.uses small) in
-    sets_handed w new region u (asking v b) ls c.from_residual-in_err-items.result fault.Memory (set_aside known t notes s) c.from_residual-in_err-items.ensures.1
-    (sets_lost w new region u v a b ls (root_of u) (left_with (one_form t notes).todo u.form.budget.uses) c.pass-passed.new.pending (set_aside known t notes s) passed)
-
--- what was set aside
 pub returns-clause-sets : goal.returns-clause-sets
 returns-clause-sets c = λ known ls s notes t knows stands asked for.
-    let u = c.args.units.now in let w = c.args.work.now in let region = c.args.region.now in let a = c.replace-asked.new.dest in
-    let new = c.pass-passed.new.work in let v = c.pass-passed.new.units in let b = c.pass-passed.new.asked in
-    let small : tree_size t < 2 ^ 32 = omega (arith, c.size-size.ensures t for) in
-    let todo : code_pending.Pending = record { todo = c.in_ok-forms_at.field-0; aside = c.new.result; uses = c.new-2.result } in
-    let pending = one_pending w region u.unit u.form.number todo c.args.form t notes c.in_ok-forms_at.ensures (c.new.ensures.items, c.new-2.ensures.items) for c.requires.form.1 in
-    let noted = subst (λ (x : Asked). NotesFor w ls x notes) (sym c.replace-asked.ensures.value) asked in
-    let passed = c.in_ok-passed.ensures known ls s [] (one_form t notes) enough_turns knows (with_asked w u a ls s stands) (at_root w u a ls s stands) pending noted (left_enough (tree_size t) u.form.budget.uses small) in
-    sets w new region u v a b ls (root_of u) (left_with (one_form t notes).todo u.form.budget.uses) c.pass-passed.new.pending (set_aside known t notes s) c.in_ok-items.items c.in_ok-items.ensures passed
+    let u = c.args.units.now in let u1 = c.begin_notes.new.units in let v = c.go_through-left.new.units in let w = c.args.work.now in let new = c.go_through-left.new.work in let region = c.args.region.now in let same = c.begin_notes.ensures.rest in
+    let begun = c.begin_notes.ensures.begun w ls s false 0 (λ n. None) [] stands (λ h. absurd cc) (λ h. absurd cc) in
+    let asked1 = subst (λ (x : UnitScope). NotesFor w ls x.asked notes) (sym same) asked in
+    let h = c.go_through-left.ensures.sets known ls (plain_part (s.uses s.form) s) notes t (noted_knows u u1 known same knows) begun asked1 for in
+    subst (λ (p : Pass Identifier FramedIdent × ScopedState). Sets w new region u v ls c.go_through-left.result p) (sym (run_same known enough_turns (one_form t notes) (plain_part (s.uses s.form) s)))
+    (sets_from w new region u u1 v same ls c.go_through-left.result (set_noting known t notes (plain_part (s.uses s.form) s)) h)
+
+pub returns-in_err-end_notes-clause-noted : goal.returns-in_err-end_notes-clause-noted
+returns-in_err-end_notes-clause-noted c = λ known ls s notes t editions ms knows stands asked for can.
+    not_ended c.from_residual.result (HasNoted c.go_through-left.new.work c.go_through-left.new.units.form.trace (set_noting known t notes (part_begun (s.uses s.form) notes editions ms s)).1) c.from_residual.ensures.1
+
+pub returns-clause-noted : goal.returns-clause-noted
+returns-clause-noted c = λ known ls s notes t editions ms knows stands asked for can.
+    let u = c.args.units.now in let u1 = c.begin_notes.new.units in let v = c.go_through-left.new.units in let w = c.args.work.now in let new = c.go_through-left.new.work in let region = c.args.region.now in let same = c.begin_notes.ensures.rest in
+    let start = part_begun (s.uses s.form) notes editions ms s in
+    let begun = c.begin_notes.ensures.begun w ls s true (length notes) editions ms stands (λ h. can.tells) (λ h. can.notes) in
+    let asked1 = subst (λ (x : UnitScope). NotesFor w ls x.asked notes) (sym same) asked in
+    let p = set_noting known t notes start in
+    let h = c.go_through-left.ensures.sets known ls start notes t (noted_knows u u1 known same knows) begun asked1 for in
+    ended_sets w new region u1 v ls (HasNoted new v.form.trace p.1) c.go_through-left.result p h (λ st.
+    let exact = run_exact known enough_turns (one_form t notes) start in
+    noted_ends new v ls p.1 st exact (c.in_ok-end_notes.ensures new ls p.1 st exact))
 
 pub returns-clause-locals : goal.returns-clause-locals
 returns-clause-locals c =
-    let u = c.args.units.now in let w = c.args.work.now in let region = c.args.region.now in let a = c.replace-asked.new.dest in
-    let new = c.pass-passed.new.work in let v = c.pass-passed.new.units in let b = c.pass-passed.new.asked in
-    let can = c.requires.can in let k = all_known u.libraries in let t = c.requires.form.0.0 in let for = c.requires.form.0.1 in
-    let small : tree_size t < 2 ^ 32 = omega (arith, c.size-size.ensures t for) in
-    let todo : code_pending.Pending = record { todo = c.in_ok-forms_at.field-0; aside = c.new.result; uses = c.new-2.result } in
-    let pending = one_pending w region u.unit u.form.number todo c.args.form t can.notes c.in_ok-forms_at.ensures (c.new.ensures.items, c.new-2.ensures.items) for c.requires.form.1 in
-    let noted = subst (λ (x : Asked). NotesFor w can.layout x can.notes) (sym c.replace-asked.ensures.value) can.asked in
-    let passed = c.in_ok-passed.ensures k.0 can.layout can.state [] (one_form t can.notes) enough_turns k.1 (with_asked w u a can.layout can.state can.stands) (at_root w u a can.layout can.state can.stands) pending noted (left_enough (tree_size t) u.form.budget.uses small) in
-    few_more w new region u v a b can.layout (root_of u) (left_with (one_form t can.notes).todo u.form.budget.uses) c.pass-passed.new.pending (set_aside k.0 t can.notes can.state) (left_small (tree_size t) u.form.budget.uses small) passed
+    let v = c.go_through-left.new.units in
+    subst (λ (x : UnitScope). OnOk c.go_through-left.result (v.form.budget.locals ≤ x.form.budget.locals + 2 ^ 40)) c.begin_notes.ensures.rest c.go_through-left.ensures.locals
 
 -- the other clauses follow from what was set aside
-pub returns-in_err-passed-clause-work : goal.returns-in_err-passed-clause-work
-returns-in_err-passed-clause-work c =
+pub returns-in_err-end_notes-clause-work : goal.returns-in_err-end_notes-clause-work
+returns-in_err-end_notes-clause-work c =
     let u = c.args.units.now in let can = c.requires.can in let k = all_known u.libraries in let form = c.requires.form in
-    sets_adds c.args.work.now c.pass-passed.new.work c.args.region.now u (asking c.pass-passed.new.units c.pass-passed.new.asked) can.layout c.from_residual-in_err-passed.result (set_aside k.0 form.0.0 can.notes can.state)
-    (returns-in_err-passed-clause-sets c k.0 can.layout can.state can.notes form.0.0 k.1 can.stands can.asked form.0.1)
-
-pub returns-in_err-passed-clause-counts : goal.returns-in_err-passed-clause-counts
-returns-in_err-passed-clause-counts c =
-    let u = c.args.units.now in let can = c.requires.can in let k = all_known u.libraries in let form = c.requires.form in
-    sets_counts c.args.work.now c.pass-passed.new.work c.args.region.now u (asking c.pass-passed.new.units c.pass-passed.new.asked) can.layout c.from_residual-in_err-passed.result (set_aside k.0 form.0.0 can.notes can.state)
-    (returns-in_err-passed-clause-sets c k.0 can.layout can.state can.notes form.0.0 k.1 can.stands can.asked form.0.1)
-
-pub returns-in_err-passed-clause-full : goal.returns-in_err-passed-clause-full
-returns-in_err-passed-clause-full c =
-    let u = c.args.units.now in let can = c.requires.can in let k = all_known u.libraries in let form = c.requires.form in
-    sets_full c.args.work.now c.pass-passed.new.work c.args.region.now u (asking c.pass-passed.new.units c.pass-passed.new.asked) can.layout c.from_residual-in_err-passed.result (set_aside k.0 form.0.0 can.notes can.state)
-    (returns-in_err-passed-clause-sets c k.0 can.layout can.state can.notes form.0.0 k.1 can.stands can.asked form.0.1)
-
-pub returns-in_err-items-clause-work : goal.returns-in_err-items-clause-work
-returns-in_err-items-clause-work c =
-    let u = c.args.units.now in let can = c.requires.can in let k = all_known u.libraries in let form = c.requires.form in
-    sets_adds c.args.work.now c.pass-passed.new.work c.args.region.now u (asking c.pass-passed.new.units c.pass-passed.new.asked) can.layout c.from_residual-in_err-items.result (set_aside k.0 form.0.0 can.notes can.state)
-    (returns-in_err-items-clause-sets c k.0 can.layout can.state can.notes form.0.0 k.1 can.stands can.asked form.0.1)
+    sets_adds c.args.work.now c.go_through-left.new.work c.args.region.now u c.go_through-left.new.units can.layout c.from_residual.result (set_aside k.0 form.0.0 can.notes can.state)
+    (returns-in_err-end_notes-clause-sets c k.0 can.layout can.state can.notes form.0.0 k.1 can.stands can.asked form.0.1)
 
 pub returns-clause-work : goal.returns-clause-work
 returns-clause-work c =
     let u = c.args.units.now in let can = c.requires.can in let k = all_known u.libraries in let form = c.requires.form in
-    sets_adds c.args.work.now c.pass-passed.new.work c.args.region.now u (asking c.pass-passed.new.units c.pass-passed.new.asked) can.layout (Ok (record { uses = c.pass-passed.new.pending.uses; items = c.in_ok-items.items })) (set_aside k.0 form.0.0 can.notes can.state)
+    sets_adds c.args.work.now c.go_through-left.new.work c.args.region.now u c.go_through-left.new.units can.layout c.go_through-left.result (set_aside k.0 form.0.0 can.notes can.state)
     (returns-clause-sets c k.0 can.layout can.state can.notes form.0.0 k.1 can.stands can.asked form.0.1)
 
 pub returns-clause-counts : goal.returns-clause-counts
 returns-clause-counts c =
     let u = c.args.units.now in let can = c.requires.can in let k = all_known u.libraries in let form = c.requires.form in
-    sets_counts c.args.work.now c.pass-passed.new.work c.args.region.now u (asking c.pass-passed.new.units c.pass-passed.new.asked) can.layout (Ok (record { uses = c.pass-passed.new.pending.uses; items = c.in_ok-items.items })) (set_aside k.0 form.0.0 can.notes can.state)
+    sets_counts c.args.work.now c.go_through-left.new.work c.args.region.now u c.go_through-left.new.units can.layout c.go_through-left.result (set_aside k.0 form.0.0 can.notes can.state)
+    (returns-clause-sets c k.0 can.layout can.state can.notes form.0.0 k.1 can.stands can.asked form.0.1)
+
+pub returns-clause-full : goal.returns-clause-full
+returns-clause-full c =
+    let u = c.args.units.now in let can = c.requires.can in let k = all_known u.libraries in let form = c.requires.form in
+    sets_full c.args.work.now c.go_through-left.new.work c.args.region.now u c.go_through-left.new.units can.layout c.go_through-left.result (set_aside k.0 form.0.0 can.notes can.state)
     (returns-clause-sets c k.0 can.layout can.state can.notes form.0.0 k.1 can.stands can.asked form.0.1)

@@ -3,7 +3,7 @@ use Rattle.std.proofs.Common.{List, ℕ, inl, subst}
 use Rattle.file_fetching.specs.FilesSeen.{files_seen}
 use Rattle.file_fetching.specs.Fetching.{Fetches, max_recording}
 use Rattle.command_output.specs.Prints.{sink_seen}
-use Rattle.scheme_ls.specs.WorkOutcome.{work_seen}
+use Rattle.file_runs.specs.WorkOutcome.{work_seen}
 use Rattle.scheme_ls.proofs.replay.replay.Goals as goal
 
 pub returns-in-Ok-pieces_of : goal.returns-in-Ok-pieces_of

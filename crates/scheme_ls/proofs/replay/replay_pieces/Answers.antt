@@ -4,9 +4,10 @@ use Rattle.ls_outside.specs.Left.{pieces_left}
 use Rattle.ls_outside.specs.SureTold.{sure_left, sure_reads}
 use Rattle.command_output.specs.Prints.{sink_seen}
 use Rattle.command_output.specs.Reads.{source_seen}
-use Rattle.scheme_ls.specs.WorkOutcome.{Replays, work_seen}
+use Rattle.file_runs.specs.WorkOutcome.{work_seen}
+use Rattle.scheme_ls.specs.ReplayOutcome.{Replays}
 use Rattle.command_output.specs.declared.status.Status.{Status}
-use Rattle.scheme_ls.proofs.WorkLaws.{replays}
+use Rattle.scheme_ls.proofs.ReplayLaws.{replays}
 use Rattle.scheme_ls.proofs.replay.replay_pieces.Goals as goal
 
 pub returns : goal.returns

@@ -1,11 +1,11 @@
 use Rattle.std.proofs.Common.{List, [], ◌∷◌, Err, sym, subst}
 use Rattle.lsp_messages.specs.declared.reply.Reply.{Reply}
 use Rattle.session_serving.specs.BodiesOutcome.{BodiesCountAs, BodiesEndAs}
-use Rattle.session_serving.specs.ReplyFrames.{frames_of}
+use Rattle.reply_writing.specs.ReplyFrames.{frames_of}
 use Rattle.command_output.specs.Prints.{sink_seen, Prints, PrintsFront, PrintsPart}
-use Rattle.session_serving.specs.Writing.{WritingEndsAs}
+use Rattle.reply_writing.specs.Writing.{WritingEndsAs}
 use Rattle.session_serving.specs.declared.answering.BodiesEnd.{BodiesEnd}
-use Rattle.session_serving.specs.declared.replies.WriteStop.{WriteStop}
+use Rattle.reply_writing.specs.declared.replies.WriteStop.{WriteStop}
 use Rattle.session_serving.proofs.AnswerLaws.{one_answered, one_some, none_answered}
 use Rattle.session_serving.proofs.CountLaws.{end_counts, one_counted, one_counts_some}
 use Rattle.session_serving.proofs.answering.answer_body.Goals as goal

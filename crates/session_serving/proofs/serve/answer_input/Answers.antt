@@ -2,17 +2,17 @@ use Rattle.std.proofs.Common.{◌≡◌, ℕ, ◌++◌, List, [], take, drop, le
 use Rattle.std.proofs.lemmas.List.{length-take, length-drop}
 use Rattle.session_serving.specs.PieceOutcome.{Serving, serving}
 use Rattle.command_output.specs.Prints.{SinkSeen, sink_seen}
-use Rattle.session_serving.specs.Writing.{WritingEndsAs}
+use Rattle.reply_writing.specs.Writing.{WritingEndsAs}
 use Rattle.command_output.specs.Reads.{source_seen}
-use Rattle.session_serving.specs.ReplyFrames.{frame_of_reply}
-use Rattle.session_serving.specs.SessionOutput.{fault_log}
+use Rattle.reply_writing.specs.ReplyFrames.{frame_of_reply}
+use Rattle.reply_writing.specs.ReplyFrames.{fault_log}
 use Rattle.command_output.specs.Streams.{Streams, streams}
-use Rattle.session_serving.specs.declared.replies.WriteStop.{WriteStop}
+use Rattle.reply_writing.specs.declared.replies.WriteStop.{WriteStop}
 use Rattle.session_serving.proofs.CountLaws.{all_then, all_yet, counts_more, first_then}
 use Rattle.session_serving.proofs.PieceEndsSession.{farewell_cut, farewell_lost, farewell_written, piece_cut, piece_exits, piece_lost}
 use Rattle.session_serving.proofs.QuietLaws.{uncounted_more, uncounted_then, uncounted_yet}
 use Rattle.session_serving.proofs.SessionSoFar.{Read, goes_first, going_more, input_ends, read_fails, read_piece, takes_most}
-use Rattle.session_serving.proofs.Writes.{take_first}
+use Rattle.reply_writing.proofs.Writes.{take_first}
 use Rattle.session_serving.proofs.serve.answer_input.Given.{Over}
 use Rattle.session_serving.proofs.serve.answer_input.Goals as goal
 use Rattle.session_serving.proofs.serve.answer_input.Goals.{After-take, After-say_farewell}

@@ -9,7 +9,7 @@ use Rattle.scheme_model.specs.Shapes.{Clause}
 use Rattle.scheme_model.specs.Cores.{Core, Clauses, Lambda, Binders}
 use Rattle.scheme_model.specs.Steps.{Step, ◌>>=◌, done}
 use Rattle.scheme_model.specs.Expression.{body, expand, procedure, clauses, lambda}
-use Rattle.scheme_model.specs.ScopedExpansion.{Frames, ScopedState}
+use Rattle.scheme_model.specs.ScopedExpansion.{Frames}
 use Rattle.syntax_tree.specs.Looks.{PartsStand}
 use Rattle.syntax_tree.specs.declared.trees.nodes.Tree as number
 use Rattle.core_forms.specs.Parts.{AllMatch as AllParts, IsName}
@@ -22,8 +22,6 @@ use Rattle.core_tree.specs.declared.cores.Core as code_core
 use Rattle.core_tree.specs.declared.cores.Core.TheVariants as cores
 use Rattle.expander.specs.Expanded.{AreKeptAtWork, BodyAtWork, ClauseAtWork, ClauseStands}
 use Rattle.unit_scopes.specs.Kept.{ClauseFor, KeptFor}
-use Rattle.unit_scopes.specs.Outcomes.{Runs}
-use Rattle.unit_scopes.specs.Searched.{searched}
 use Rattle.feature_requirements.specs.declared.fault.ExpandFault.TheVariants as fault
 use Rattle.form_parts.specs.declared.items.Kept as code_kept
 use Rattle.unit_scopes.specs.declared.scope.UnitScope.{UnitScope}
@@ -39,6 +37,8 @@ use Rattle.expander.proofs.RowLaws.{clauses_row, clauses_of, clauses_stand, matc
 use Rattle.expander.proofs.RowRuns.{row_one_more, row_stops, runs_memory, clauses_go_on, clause_at_work, item_as}
 use Rattle.expander.proofs.StepLaws.{runs_err, node_none}
 use Rattle.expander.proofs.cores.+core.Goals as goal
+use Rattle.noted_steps.specs.Noting.{Noting, noting}
+use Rattle.noted_steps.specs.Outcomes.{Runs}
 
 -- ---- a body
 
@@ -55,7 +55,7 @@ body-returns-in_err-below-clause-runs t c = λ ts turns stands enough.
     let few = c.requires.look.stands.form.few_uses in
     let n = some_turns at.depth u.form.budget.uses turns few enough in
     let Q : List Frames → code_core.Core → Core → Type 0 = λ layout. CoreStands a w1.unit w1.form.number in
-    runs_err Q a a c.args.region.now u w1 at.scope c.from_residual.result e (λ known fs. expand (searched known) turns at.depth at.here fs (body ts)) c.from_residual.ensures.1
+    runs_err Q a a c.args.region.now u w1 at.scope c.from_residual.result e (λ known fs. expand (noting known) turns at.depth at.here fs (body ts)) c.from_residual.ensures.1
     (body_turned a a c.args.region.now u w1 at turns n.0 ts n.1 Q (Err e) (body_unbegun a c.args.region.now u w1 at n.0 ts Q e c.in_err-below.ensures))
 
 pub body-pass_body-requires-clause-opened : goal.body-pass_body-requires-clause-opened
@@ -89,7 +89,7 @@ body-returns-in_err-scope-clause-runs t c = λ ts turns stands enough.
     let f = c.requires.forms in
     let small = subst (λ (x : Trees Identifier). trees_size x ≤ 4194304) (parts_once a c.args.forms.now f.0 ts f.1 stands) f.3 in
     let Q : List Frames → code_core.Core → Core → Type 0 = λ layout. CoreStands b w.unit w.form.number in
-    runs_err Q a b c.args.region.now u w at.scope c.from_residual-in_err-scope.result e (λ known fs. expand (searched known) turns at.depth at.here fs (body ts)) c.from_residual-in_err-scope.ensures.1
+    runs_err Q a b c.args.region.now u w at.scope c.from_residual-in_err-scope.result e (λ known fs. expand (noting known) turns at.depth at.here fs (body ts)) c.from_residual-in_err-scope.ensures.1
     (body_turned a b c.args.region.now u w at turns n.0 ts n.1 Q (Err e)
     (body_stops a b c.args.region.now u w1 w at c.in_ok-below.below n.0 ts c.in_ok-below.ensures Q e (c.in_err-scope.ensures.passed ts n.0 stands small n.2)))
 
@@ -129,7 +129,7 @@ body-returns-in_err-expand_kept-clause-runs t c = λ ts turns stands enough.
     let small = subst (λ (x : Trees Identifier). trees_size x ≤ 4194304) (parts_once a c.args.forms.now f.0 ts f.1 stands) f.3 in
     let pass = pass_after a b region w1 w below c.args.forms.now c.in_ok-scope.scope c.in_ok-scope.aside (below_look u w1 at below 1 h a c.requires.look) f c.in_ok-scope.ensures.passed in
     let Q : List Frames → code_core.Core → Core → Type 0 = λ layout. CoreStands d v.unit v.form.number in
-    runs_err Q a d region u v at.scope c.from_residual-in_err-expand_kept.result e (λ known fs. expand (searched known) turns at.depth at.here fs (body ts)) c.from_residual-in_err-expand_kept.ensures.1
+    runs_err Q a d region u v at.scope c.from_residual-in_err-expand_kept.result e (λ known fs. expand (noting known) turns at.depth at.here fs (body ts)) c.from_residual-in_err-expand_kept.ensures.1
     (body_turned a d region u v at turns n.0 ts n.1 Q (Err e)
     (body_fails a b d region u w1 w v at below n.0 ts h c.in_ok-scope.scope c.in_ok-scope.aside (c.in_ok-scope.ensures.passed ts n.0 stands small n.2) Q e
     (λ is match. c.in_err-expand_kept.ensures.runs is n.0 (subst (λ (l : List code_kept.Kept). AllMatch (KeptFor b region w.unit w.form.number) l is) (sym c.deref.ensures.value) match)
@@ -190,7 +190,7 @@ procedure-returns-in_err-scope-clause-runs t c = λ m turns for enough.
     let v = c.bind_names.new.self in
     let at = c.args.at in
     let Q : List Frames → code_clause.Clause → Binders × Core → Type 0 = λ layout. ClauseStands a v.unit v.form.number in
-    let f : Known → Frames → Step ScopedState (Binders × Core) = λ known fs. procedure (expand (searched known) turns) (searched known) at.depth at.here fs m in
+    let f : Known → Frames → Step Noting (Binders × Core) = λ known fs. procedure (expand (noting known) turns) (noting known) at.depth at.here fs m in
     runs_err Q a a c.args.region.now c.args.units.now v at.scope c.from_residual.result fault.Memory f c.from_residual.ensures.1 (runs_nothing Q a c.args.region.now c.args.units.now v at.scope f)
 
 pub procedure-body-requires : goal.procedure-body-requires
@@ -228,7 +228,7 @@ procedure-returns-in_err-body-clause-runs t c = λ m turns for enough.
     let e = c.in_err-body.field-0.0 in
     let Q : List Frames → code_clause.Clause → Binders × Core → Type 0 = λ layout. ClauseStands d v.unit v.form.number in
     let runs = c.in_err-body.ensures.runs m.body turns (subst (λ (l : List number.Tree). PartsStand a l m.body) (sym c.deref-2.ensures.value) for.0.body) (enough_later at.depth u.form.budget.uses w.form.budget.uses turns after.same.uses enough) in
-    runs_err Q a d region u v at.scope c.from_residual-in_err-body.result e (λ known fs. procedure (expand (searched known) turns) (searched known) at.depth at.here fs m) c.from_residual-in_err-body.ensures.1
+    runs_err Q a d region u v at.scope c.from_residual-in_err-body.result e (λ known fs. procedure (expand (noting known) turns) (noting known) at.depth at.here fs m) c.from_residual-in_err-body.ensures.1
     (λ known ls s fs knows stands there. procedure_fails known turns at.depth at.here a d region u w v ls s at.scope fs xs c.args.clause.now.formals.dotted m c.in_ok-scope.scope c.in_ok-scope.binders knows c.told_apart.ensures.idents c.sound.ensures names for.0.formals.rest room stands there h Q e runs)
 
 pub procedure-returns-in_err-new-clause-runs : goal.procedure-returns-in_err-new-clause-runs
@@ -248,9 +248,9 @@ procedure-returns-in_err-new-clause-runs t c = λ m turns for enough.
     let after = binds_after a region u w at.scope xs m.formals.names c.in_ok-scope.scope c.in_ok-scope.binders.items c.told_apart.ensures.idents c.sound.ensures names room h c.requires.look in
     let P : List Frames → code_core.Core → Core → Type 0 = λ layout. CoreStands d v.unit v.form.number in
     let Q : List Frames → code_clause.Clause → Binders × Core → Type 0 = λ layout. ClauseStands d v.unit v.form.number in
-    let f : Known → Frames → Step ScopedState Core = λ known fs. expand (searched known) turns at.depth at.here fs (body m.body) in
+    let f : Known → Frames → Step Noting Core = λ known fs. expand (noting known) turns at.depth at.here fs (body m.body) in
     let runs = c.in_ok-body.ensures.runs m.body turns (subst (λ (l : List number.Tree). PartsStand a l m.body) (sym c.deref-2.ensures.value) for.0.body) (enough_later at.depth u.form.budget.uses w.form.budget.uses turns after.same.uses enough) in
-    runs_err Q a d region u v at.scope c.from_residual-in_err-new.result fault.Memory (λ known fs. procedure (expand (searched known) turns) (searched known) at.depth at.here fs m) c.from_residual-in_err-new.ensures.1
+    runs_err Q a d region u v at.scope c.from_residual-in_err-new.result fault.Memory (λ known fs. procedure (expand (noting known) turns) (noting known) at.depth at.here fs m) c.from_residual-in_err-new.ensures.1
     (λ known ls s fs knows stands there. procedure_fails known turns at.depth at.here a d region u w v ls s at.scope fs xs c.args.clause.now.formals.dotted m c.in_ok-scope.scope c.in_ok-scope.binders knows c.told_apart.ensures.idents c.sound.ensures names for.0.formals.rest room stands there h Q fault.Memory
     (runs_memory P P a d region w v c.in_ok-scope.scope c.in_ok-body.body f f runs))
 
@@ -271,7 +271,7 @@ procedure-returns-clause-runs t c = λ m turns for enough.
     let after = binds_after a region u w at.scope xs m.formals.names c.in_ok-scope.scope c.in_ok-scope.binders.items c.told_apart.ensures.idents c.sound.ensures names room h c.requires.look in
     let runs = c.in_ok-body.ensures.runs m.body turns (subst (λ (l : List number.Tree). PartsStand a l m.body) (sym c.deref-2.ensures.value) for.0.body) (enough_later at.depth u.form.budget.uses w.form.budget.uses turns after.same.uses enough) in
     let y = c.in_ok-new.field-0 in
-    let boxed = subst (λ (x : code_core.Core). Runs (λ (layout : List Frames). CoreStands d v.unit v.form.number) a d region w v c.in_ok-scope.scope (Ok x) (λ known fs. expand (searched known) turns at.depth at.here fs (body m.body))) (sym c.in_ok-new.ensures.ok) runs in
+    let boxed = subst (λ (x : code_core.Core). Runs (λ (layout : List Frames). CoreStands d v.unit v.form.number) a d region w v c.in_ok-scope.scope (Ok x) (λ known fs. expand (noting known) turns at.depth at.here fs (body m.body))) (sym c.in_ok-new.ensures.ok) runs in
     λ known ls s fs knows stands there. procedure_ends known turns at.depth at.here a d region u w v ls s at.scope fs xs c.args.clause.now.formals.dotted m c.in_ok-scope.scope c.in_ok-scope.binders knows c.told_apart.ensures.idents c.sound.ensures names for.0.formals.rest room stands there h
     (code_clause.roll-Clause (record { binders = c.in_ok-scope.binders; dotted = c.args.clause.now.formals.dotted; body = y })) y refl boxed
 
@@ -297,7 +297,7 @@ procedures-returns-in_err-all-clause-runs t c = λ cs turns match enough.
     let u = c.args.units.now in
     let at = c.args.at in
     let Q : List Frames → Vec code_clause.Clause Global → Clauses → Type 0 = λ layout xs. ClausesStand a u.unit u.form.number xs.items in
-    let f : Known → Frames → Step ScopedState Clauses = λ known fs. clauses (expand (searched known) turns) (searched known) at.depth at.here fs cs in
+    let f : Known → Frames → Step Noting Clauses = λ known fs. clauses (expand (noting known) turns) (noting known) at.depth at.here fs cs in
     runs_err Q a a c.args.region.now u u at.scope c.from_residual.result fault.Memory f c.from_residual.ensures.1 (runs_nothing Q a c.args.region.now u u at.scope f)
 
 pub procedures-loop-clause-init : goal.procedures-loop-clause-init
@@ -305,7 +305,7 @@ procedures-loop-clause-init t c = record {
   after = after_itself c.args.work.now c.args.region.now c.args.units.now c.args.at.scope c.requires.look;
   spends = spends_itself c.args.units.now;
   runs = λ cs turns match enough.
-      runs_none (λ known fs. procedure (expand (searched known) turns) (searched known) c.args.at.depth c.args.at.here fs) (ClauseStands c.args.work.now c.args.units.now.unit c.args.units.now.form.number) c.args.work.now c.args.region.now c.args.units.now c.args.at.scope
+      runs_none (λ known fs. procedure (expand (noting known) turns) (noting known) c.args.at.depth c.args.at.here fs) (ClauseStands c.args.work.now c.args.units.now.unit c.args.units.now.form.number) c.args.work.now c.args.region.now c.args.units.now c.args.at.scope
       c.in_ok-all.all.items c.in_ok-all.ensures.items;
 }
 
@@ -329,8 +329,8 @@ procedures-returns-in_err-next-clause-runs t c = λ cs turns match enough.
     let e = c.in_err-next.field-0.0 in
     let h = c.loop-clause.invariant in
     let later = enough_later at.depth u.form.budget.uses w.form.budget.uses turns h.after.same.uses enough in
-    let f : Known → Frames → Clause Identifier → Step ScopedState (Binders × Core) = λ known fs. procedure (expand (searched known) turns) (searched known) at.depth at.here fs in
-    runs_failed f clauses_of (λ known fs. clauses (expand (searched known) turns) (searched known) at.depth at.here fs cs) cs (λ known fs s. clauses_row (expand (searched known) turns) (searched known) at.depth at.here fs cs s) a d region u v at.scope
+    let f : Known → Frames → Clause Identifier → Step Noting (Binders × Core) = λ known fs. procedure (expand (noting known) turns) (noting known) at.depth at.here fs in
+    runs_failed f clauses_of (λ known fs. clauses (expand (noting known) turns) (noting known) at.depth at.here fs cs) cs (λ known fs s. clauses_row (expand (noting known) turns) (noting known) at.depth at.here fs cs s) a d region u v at.scope
     (λ (layout : List Frames). AllMatch (ClauseStands d v.unit v.form.number)) (λ (layout : List Frames) (xs : Vec code_clause.Clause Global). ClausesStand d v.unit v.form.number xs.items) c.from_residual-in_err-next.result e c.from_residual-in_err-next.ensures.1
     (row_stops f (ClauseFor a region) (ClauseStands b w.unit w.form.number) a b d region u w v at.scope c.loop-clause.all.items c.loop-clause.clause-index c.args.shapes.now cs c.clause-item.result match c.loop-clause-test.true (h.runs cs turns match enough)
     (λ (layout : List Frames). ClauseStands d v.unit v.form.number) (λ (layout : List Frames). AllMatch (ClauseStands d v.unit v.form.number)) e (λ form stands. c.in_err-next.ensures.runs form turns (clause_on a b h.after.work.trees h.after.work.names 0 0 region c.clause-item.result form (item_as (λ (x : ClauseShape). ClauseFor a region x form) c.loop-clause.clause-index c.args.shapes.now c.clause-item.result c.clause-item.is stands)) later))
@@ -347,8 +347,8 @@ procedures-returns-in_err-push-clause-runs t c = λ cs turns match enough.
     let at = c.args.at in
     let h = c.loop-clause.invariant in
     let later = enough_later at.depth u.form.budget.uses w.form.budget.uses turns h.after.same.uses enough in
-    let f : Known → Frames → Clause Identifier → Step ScopedState (Binders × Core) = λ known fs. procedure (expand (searched known) turns) (searched known) at.depth at.here fs in
-    runs_failed f clauses_of (λ known fs. clauses (expand (searched known) turns) (searched known) at.depth at.here fs cs) cs (λ known fs s. clauses_row (expand (searched known) turns) (searched known) at.depth at.here fs cs s) a d region u v at.scope
+    let f : Known → Frames → Clause Identifier → Step Noting (Binders × Core) = λ known fs. procedure (expand (noting known) turns) (noting known) at.depth at.here fs in
+    runs_failed f clauses_of (λ known fs. clauses (expand (noting known) turns) (noting known) at.depth at.here fs cs) cs (λ known fs s. clauses_row (expand (noting known) turns) (noting known) at.depth at.here fs cs s) a d region u v at.scope
     (λ (layout : List Frames). AllMatch (ClauseStands d v.unit v.form.number)) (λ (layout : List Frames) (xs : Vec code_clause.Clause Global). ClausesStand d v.unit v.form.number xs.items) c.from_residual-in_err-push.result fault.Memory c.from_residual-in_err-push.ensures.1
     (row_stops f (ClauseFor a region) (ClauseStands b w.unit w.form.number) a b d region u w v at.scope c.loop-clause.all.items c.loop-clause.clause-index c.args.shapes.now cs c.clause-item.result match c.loop-clause-test.true (h.runs cs turns match enough)
     (λ (layout : List Frames). ClauseStands d v.unit v.form.number) (λ (layout : List Frames). AllMatch (ClauseStands d v.unit v.form.number)) fault.Memory
@@ -373,7 +373,7 @@ procedures-loop-clause-preserved t c =
       spends = spends_on u w v h.spends c.in_ok-next.ensures.locals;
       runs = λ cs turns match enough.
           let later = enough_later at.depth u.form.budget.uses w.form.budget.uses turns h.after.same.uses enough in
-          row_one_more (λ known fs. procedure (expand (searched known) turns) (searched known) at.depth at.here fs) (ClauseFor a region) (ClauseStands b w.unit w.form.number) (ClauseStands d v.unit v.form.number) (clauses_go_on b d region w v after.work after.same) a b d region u w v at.scope
+          row_one_more (λ known fs. procedure (expand (noting known) turns) (noting known) at.depth at.here fs) (ClauseFor a region) (ClauseStands b w.unit w.form.number) (ClauseStands d v.unit v.form.number) (clauses_go_on b d region w v after.work after.same) a b d region u w v at.scope
           c.loop-clause.all.items c.loop-clause.clause-index c.args.shapes.now cs c.clause-item.result match c.loop-clause-test.true (h.runs cs turns match enough) c.push.new.self.items c.in_ok-next.next c.in_ok-push.ensures.items
           (λ form stands. c.in_ok-next.ensures.runs form turns (clause_on a b h.after.work.trees h.after.work.names 0 0 region c.clause-item.result form (item_as (λ (x : ClauseShape). ClauseFor a region x form) c.loop-clause.clause-index c.args.shapes.now c.clause-item.result c.clause-item.is stands)) later);
     }
@@ -386,8 +386,8 @@ procedures-returns-clause-runs t c = λ cs turns match enough.
     let u = c.args.units.now in
     let w = c.loop-clause.units in
     let at = c.args.at in
-    let f : Known → Frames → Clause Identifier → Step ScopedState (Binders × Core) = λ known fs. procedure (expand (searched known) turns) (searched known) at.depth at.here fs in
-    runs_told f clauses_of (λ known fs. clauses (expand (searched known) turns) (searched known) at.depth at.here fs cs) cs (λ known fs s. clauses_row (expand (searched known) turns) (searched known) at.depth at.here fs cs s) a b c.args.region.now u w at.scope
+    let f : Known → Frames → Clause Identifier → Step Noting (Binders × Core) = λ known fs. procedure (expand (noting known) turns) (noting known) at.depth at.here fs in
+    runs_told f clauses_of (λ known fs. clauses (expand (noting known) turns) (noting known) at.depth at.here fs cs) cs (λ known fs s. clauses_row (expand (noting known) turns) (noting known) at.depth at.here fs cs s) a b c.args.region.now u w at.scope
     (ClauseStands b w.unit w.form.number) (λ (xs : Vec code_clause.Clause Global). ClausesStand b w.unit w.form.number xs.items) c.loop-clause.all.items c.loop-clause.all c.loop-clause.clause-index
     (match_all (ClauseFor a region) c.loop-clause.clause-index c.args.shapes.now cs match c.loop-clause-test.false) (λ ms held. clauses_stand b w.unit w.form.number c.loop-clause.all.items ms held) (c.loop-clause.invariant.runs cs turns match enough)
 
@@ -406,8 +406,8 @@ lambda-returns-in_err-below-clause-runs t c = λ m turns for enough.
     let at = c.args.at in
     let e = c.in_err-below.field-0.0 in
     let Q : List Frames → code_core.Core → Core → Type 0 = λ layout. CoreStands a v.unit v.form.number in
-    runs_err Q a a c.args.region.now c.args.units.now v at.scope c.from_residual.result e (λ known fs. lambda (expand (searched known) turns) (searched known) at.depth at.here fs m) c.from_residual.ensures.1
-    (node_none Q a c.args.region.now c.args.units.now v at 1 e (λ known fs below t1. procedure (expand (searched known) turns) (searched known) below at.here fs m t1 >>= λ q. done (Lambda q.0 q.1)) c.in_err-below.ensures)
+    runs_err Q a a c.args.region.now c.args.units.now v at.scope c.from_residual.result e (λ known fs. lambda (expand (noting known) turns) (noting known) at.depth at.here fs m) c.from_residual.ensures.1
+    (node_none Q a c.args.region.now c.args.units.now v at 1 e (λ known fs below t1. procedure (expand (noting known) turns) (noting known) below at.here fs m t1 >>= λ q. done (Lambda q.0 q.1)) c.in_err-below.ensures)
 
 pub lambda-procedure-requires : goal.lambda-procedure-requires
 lambda-procedure-requires t c =
@@ -433,7 +433,7 @@ lambda-returns-in_err-procedure-clause-runs t c = λ m turns for enough.
     let h = c.in_ok-below.ensures in
     let e = c.in_err-procedure.field-0.0 in
     let Q : List Frames → code_core.Core → Core → Type 0 = λ layout. CoreStands d v.unit v.form.number in
-    runs_err Q a d region u v at.scope c.from_residual-in_err-procedure.result e (λ known fs. lambda (expand (searched known) turns) (searched known) at.depth at.here fs m) c.from_residual-in_err-procedure.ensures.1
+    runs_err Q a d region u v at.scope c.from_residual-in_err-procedure.result e (λ known fs. lambda (expand (noting known) turns) (noting known) at.depth at.here fs m) c.from_residual-in_err-procedure.ensures.1
     (lambda_fails a d region u w v at below h turns m Q e (c.in_err-procedure.ensures.runs m turns for (below_enough u w at below 1 h turns enough)))
 
 pub lambda-returns-clause-runs : goal.lambda-returns-clause-runs

@@ -7,7 +7,7 @@ use Rattle.scheme_model.specs.Requirements.{Known}
 use Rattle.scheme_model.specs.Cores.{Core, Cores, Call, Body, Part, Parts, Expression as expression_part}
 use Rattle.scheme_model.specs.Steps.{Step, ◌>>=◌, done}
 use Rattle.scheme_model.specs.Expression.{whole, expand, each_of, sequence, expressions, each}
-use Rattle.scheme_model.specs.ScopedExpansion.{Frames, ScopedState}
+use Rattle.scheme_model.specs.ScopedExpansion.{Frames}
 use Rattle.syntax_tree.specs.Works.{StandsFor}
 use Rattle.syntax_tree.specs.declared.trees.nodes.Tree as number
 use Rattle.core_tree.specs.Names.{AllMatch}
@@ -17,8 +17,6 @@ use Rattle.core_tree.specs.declared.cores.Core.TheVariants as cores
 use Rattle.core_tree.specs.declared.cores.CorePart as code_part
 use Rattle.core_tree.specs.declared.cores.CorePart.TheVariants as core_parts
 use Rattle.expander.specs.Expanded.{AreAtWork}
-use Rattle.unit_scopes.specs.Outcomes.{CanLook}
-use Rattle.unit_scopes.specs.Searched.{searched}
 use Rattle.expander.specs.declared.expressions.At as code_at
 use Rattle.feature_requirements.specs.declared.fault.ExpandFault.TheVariants as fault
 use Rattle.expander.proofs.AfterLaws.{opened_on, room_same, room_on, spends_same, spends_itself, spends_on, enough_later}
@@ -32,6 +30,8 @@ use Rattle.expander.proofs.RowLaws.{as_part, each_row, expressions_row, cores_of
 use Rattle.expander.proofs.RowRuns.{row_one_more, row_stops, runs_memory, cores_go_on, parts_go_on, tree_at_work}
 use Rattle.expander.proofs.StepLaws.{runs_err, runs_fails, runs_mapped, node_none}
 use Rattle.expander.proofs.cores.+core.Goals as goal
+use Rattle.noted_steps.specs.Noting.{Noting, noting}
+use Rattle.noted_steps.specs.Kept.{CanLook}
 
 -- ---- an expression
 
@@ -45,7 +45,7 @@ expand-returns-in_err-here-clause-runs t c = λ form turns stands enough.
     let at = c.args.at in
     let e = c.in_err-here.field-0.0 in
     let Q : List Frames → code_core.Core → Core → Type 0 = λ layout. CoreStands b w.unit w.form.number in
-    runs_err Q a b region u w at.scope c.from_residual.result e (λ known fs. expand (searched known) turns at.depth at.here fs (whole form)) c.from_residual.ensures.1
+    runs_err Q a b region u w at.scope c.from_residual.result e (λ known fs. expand (noting known) turns at.depth at.here fs (whole form)) c.from_residual.ensures.1
     (expand_fails a b region u w at c.args.form c.requires.form.1 form turns stands enough Q e c.in_err-here.ensures.ready)
 
 pub expand-returns-in-Core-clause-runs : goal.expand-returns-in-Core-clause-runs
@@ -74,9 +74,9 @@ expand-returns-in_err-below-in-Call-clause-runs t c = λ form turns stands enoug
     let placed = c.in_place-at.result in
     let e = c.in_err-below-in-Call.field-0.0 in
     let Q : List Frames → code_core.Core → Core → Type 0 = λ layout. CoreStands b v.unit v.form.number in
-    runs_err Q a b region u v at.scope c.from_residual-in_err-below-in-Call.result e (λ known fs. expand (searched known) turns at.depth at.here fs (whole form)) c.from_residual-in_err-below-in-Call.ensures.1
+    runs_err Q a b region u v at.scope c.from_residual-in_err-below-in-Call.result e (λ known fs. expand (noting known) turns at.depth at.here fs (whole form)) c.from_residual-in_err-below-in-Call.ensures.1
     (expand_call a b region u w at c.args.form c.requires.form.1 form turns stands enough Q b v c.in_ok-here.here placed c.in_place-at.ensures (Err e) c.in_ok-here.ready c.in-Call.parts c.in-Call.is c.in_ok-here.ensures.ready
-    (λ left ts parts less. node_none Q b region w v placed 1 e (λ known fs below t1. each (λ x. expand (searched known) left below placed.here fs (whole x)) ts t1 >>= λ cs. done (Call cs)) c.in_err-below-in-Call.ensures))
+    (λ left ts parts less. node_none Q b region w v placed 1 e (λ known fs below t1. each (λ x. expand (noting known) left below placed.here fs (whole x)) ts t1 >>= λ cs. done (Call cs)) c.in_err-below-in-Call.ensures))
 
 pub expand-expand_all-requires : goal.expand-expand_all-requires
 expand-expand_all-requires t c =
@@ -113,7 +113,7 @@ expand-returns-in_err-expand_all-in-Call-clause-runs t c = λ form turns stands 
     let h = c.in_ok-below-in-Call.ensures in
     let e = c.in_err-expand_all-in-Call.field-0.0 in
     let Q : List Frames → code_core.Core → Core → Type 0 = λ layout. CoreStands d v.unit v.form.number in
-    runs_err Q a d region u v at.scope c.from_residual-in_err-expand_all-in-Call.result e (λ known fs. expand (searched known) turns at.depth at.here fs (whole form)) c.from_residual-in_err-expand_all-in-Call.ensures.1
+    runs_err Q a d region u v at.scope c.from_residual-in_err-expand_all-in-Call.result e (λ known fs. expand (noting known) turns at.depth at.here fs (whole form)) c.from_residual-in_err-expand_all-in-Call.ensures.1
     (expand_call a b region u w at c.args.form c.requires.form.1 form turns stands enough Q d v c.in_ok-here.here placed c.in_place-at.ensures (Err e) c.in_ok-here.ready c.in-Call.parts c.in-Call.is c.in_ok-here.ensures.ready
     (λ left ts parts less. trees_node_fails b d region w w1 v placed below 1 left h ts Q e Call
     (c.in_err-expand_all-in-Call.ensures.runs (trees_in ts) left (subst (λ (l : List number.Tree). AllMatch (StandsFor b) l (trees_in ts)) (sym c.deref.ensures.value) (trees_match b c.in-Call.parts.items ts parts)) (below_enough w w1 placed below 1 h left less))))
@@ -178,7 +178,7 @@ expand-returns-in_err-expand_shape-in-Shape-clause-runs t c = λ form turns stan
     let at = c.args.at in
     let e = c.in_err-expand_shape-in-Shape.field-0.0 in
     let Q : List Frames → code_core.Core → Core → Type 0 = λ layout. CoreStands d v.unit v.form.number in
-    runs_err Q a d region u v at.scope c.from_residual-in_err-expand_shape-in-Shape.result e (λ known fs. expand (searched known) turns at.depth at.here fs (whole form)) c.from_residual-in_err-expand_shape-in-Shape.ensures.1
+    runs_err Q a d region u v at.scope c.from_residual-in_err-expand_shape-in-Shape.result e (λ known fs. expand (noting known) turns at.depth at.here fs (whole form)) c.from_residual-in_err-expand_shape-in-Shape.ensures.1
     (expand_form a b region u w at c.args.form c.requires.form.1 form turns stands enough Q d v c.in_ok-here.here c.in_place-at.result c.in_place-at.ensures (Err e) c.in_ok-here.ready c.in-Shape.core c.in-Shape.shape c.in-Shape.is c.in_ok-here.ensures.ready
     (λ k m left keyword for fits rest less. c.in_err-expand_shape-in-Shape.ensures.runs k m left keyword for fits rest less))
 
@@ -209,7 +209,7 @@ expand_all-returns-in_err-cores-clause-runs t c = λ ts turns match enough.
     let u = c.args.units.now in
     let at = c.args.at in
     let Q : List Frames → Vec code_core.Core Global → Cores → Type 0 = λ layout cs. CoresStand a u.unit u.form.number cs.items in
-    let f : Known → Frames → Step ScopedState Cores = λ known fs. each_of (λ form. expand (searched known) turns at.depth at.here fs (whole form)) ts in
+    let f : Known → Frames → Step Noting Cores = λ known fs. each_of (λ form. expand (noting known) turns at.depth at.here fs (whole form)) ts in
     runs_err Q a a c.args.region.now u u at.scope c.from_residual.result fault.Memory f c.from_residual.ensures.1 (runs_nothing Q a c.args.region.now u u at.scope f)
 
 pub expand_all-loop-part-init : goal.expand_all-loop-part-init
@@ -217,7 +217,7 @@ expand_all-loop-part-init t c = record {
   after = after_itself c.args.work.now c.args.region.now c.args.units.now c.args.at.scope c.requires.look;
   spends = spends_itself c.args.units.now;
   runs = λ ts turns match enough.
-      runs_none (λ known fs form. expand (searched known) turns c.args.at.depth c.args.at.here fs (whole form)) (CoreStands c.args.work.now c.args.units.now.unit c.args.units.now.form.number) c.args.work.now c.args.region.now c.args.units.now c.args.at.scope
+      runs_none (λ known fs form. expand (noting known) turns c.args.at.depth c.args.at.here fs (whole form)) (CoreStands c.args.work.now c.args.units.now.unit c.args.units.now.form.number) c.args.work.now c.args.region.now c.args.units.now c.args.at.scope
       c.in_ok-cores.cores.items c.in_ok-cores.ensures.items;
 }
 
@@ -242,7 +242,7 @@ expand_all-returns-in_err-core-clause-runs t c = λ ts turns match enough.
     let e = c.in_err-core.field-0.0 in
     let h = c.loop-part.invariant in
     let later = enough_later at.depth u.form.budget.uses w.form.budget.uses turns h.after.same.uses enough in
-    let f : Known → Frames → Tree Identifier → Step ScopedState Core = λ known fs form. expand (searched known) turns at.depth at.here fs (whole form) in
+    let f : Known → Frames → Tree Identifier → Step Noting Core = λ known fs form. expand (noting known) turns at.depth at.here fs (whole form) in
     runs_failed f cores_of (λ known fs. each_of (f known fs) ts) ts (λ known fs s. each_row (f known fs) ts s) a d region u v at.scope
     (λ (layout : List Frames). AllMatch (CoreStands d v.unit v.form.number)) (λ (layout : List Frames) (cs : Vec code_core.Core Global). CoresStand d v.unit v.form.number cs.items) c.from_residual-in_err-core.result e c.from_residual-in_err-core.ensures.1
     (row_stops f (StandsFor a) (CoreStands b w.unit w.form.number) a b d region u w v at.scope c.loop-part.cores.items c.loop-part.part-index c.args.parts.now ts no_tree match c.loop-part-test.true (h.runs ts turns match enough)
@@ -260,7 +260,7 @@ expand_all-returns-in_err-push-clause-runs t c = λ ts turns match enough.
     let at = c.args.at in
     let h = c.loop-part.invariant in
     let later = enough_later at.depth u.form.budget.uses w.form.budget.uses turns h.after.same.uses enough in
-    let f : Known → Frames → Tree Identifier → Step ScopedState Core = λ known fs form. expand (searched known) turns at.depth at.here fs (whole form) in
+    let f : Known → Frames → Tree Identifier → Step Noting Core = λ known fs form. expand (noting known) turns at.depth at.here fs (whole form) in
     runs_failed f cores_of (λ known fs. each_of (f known fs) ts) ts (λ known fs s. each_row (f known fs) ts s) a d region u v at.scope
     (λ (layout : List Frames). AllMatch (CoreStands d v.unit v.form.number)) (λ (layout : List Frames) (cs : Vec code_core.Core Global). CoresStand d v.unit v.form.number cs.items) c.from_residual-in_err-push.result fault.Memory c.from_residual-in_err-push.ensures.1
     (row_stops f (StandsFor a) (CoreStands b w.unit w.form.number) a b d region u w v at.scope c.loop-part.cores.items c.loop-part.part-index c.args.parts.now ts no_tree match c.loop-part-test.true (h.runs ts turns match enough)
@@ -286,7 +286,7 @@ expand_all-loop-part-preserved t c =
       spends = spends_on u w v h.spends c.in_ok-core.ensures.locals;
       runs = λ ts turns match enough.
           let later = enough_later at.depth u.form.budget.uses w.form.budget.uses turns h.after.same.uses enough in
-          row_one_more (λ known fs form. expand (searched known) turns at.depth at.here fs (whole form)) (StandsFor a) (CoreStands b w.unit w.form.number) (CoreStands d v.unit v.form.number) (cores_go_on b d region w v after.work after.same) a b d region u w v at.scope
+          row_one_more (λ known fs form. expand (noting known) turns at.depth at.here fs (whole form)) (StandsFor a) (CoreStands b w.unit w.form.number) (CoreStands d v.unit v.form.number) (cores_go_on b d region w v after.work after.same) a b d region u w v at.scope
           c.loop-part.cores.items c.loop-part.part-index c.args.parts.now ts no_tree match c.loop-part-test.true (h.runs ts turns match enough) c.push.new.self.items c.in_ok-core.core c.in_ok-push.ensures.items
           (λ form stands. c.in_ok-core.ensures.runs form turns (h.after.work.trees.trees _ form stands) later);
     }
@@ -298,7 +298,7 @@ expand_all-returns-clause-runs t c = λ ts turns match enough.
     let u = c.args.units.now in
     let w = c.loop-part.units in
     let at = c.args.at in
-    let f : Known → Frames → Tree Identifier → Step ScopedState Core = λ known fs form. expand (searched known) turns at.depth at.here fs (whole form) in
+    let f : Known → Frames → Tree Identifier → Step Noting Core = λ known fs form. expand (noting known) turns at.depth at.here fs (whole form) in
     runs_told f cores_of (λ known fs. each_of (f known fs) ts) ts (λ known fs s. each_row (f known fs) ts s) a b c.args.region.now u w at.scope
     (CoreStands b w.unit w.form.number) (λ (cs : Vec code_core.Core Global). CoresStand b w.unit w.form.number cs.items) c.loop-part.cores.items c.loop-part.cores c.loop-part.part-index
     (match_all (StandsFor a) c.loop-part.part-index c.args.parts.now ts match c.loop-part-test.false) (λ ms held. cores_stand b w.unit w.form.number c.loop-part.cores.items ms held) (c.loop-part.invariant.runs ts turns match enough)
@@ -318,8 +318,8 @@ sequence-returns-in_err-below-clause-runs t c = λ ts turns stands enough.
     let at = c.args.at in
     let e = c.in_err-below.field-0.0 in
     let Q : List Frames → code_core.Core → Core → Type 0 = λ layout. CoreStands a v.unit v.form.number in
-    runs_err Q a a c.args.region.now c.args.units.now v at.scope c.from_residual.result e (λ known fs. sequence (expand (searched known) turns) (searched known) at.depth at.here fs ts) c.from_residual.ensures.1
-    (node_none Q a c.args.region.now c.args.units.now v at 1 e (λ known fs below t1. expressions (λ u. expand (searched known) turns below at.here fs (whole u)) ts t1 >>= λ ps. done (Body ps)) c.in_err-below.ensures)
+    runs_err Q a a c.args.region.now c.args.units.now v at.scope c.from_residual.result e (λ known fs. sequence (expand (noting known) turns) (noting known) at.depth at.here fs ts) c.from_residual.ensures.1
+    (node_none Q a c.args.region.now c.args.units.now v at 1 e (λ known fs below t1. expressions (λ u. expand (noting known) turns below at.here fs (whole u)) ts t1 >>= λ ps. done (Body ps)) c.in_err-below.ensures)
 
 pub sequence-returns-in_err-parts-clause-runs : goal.sequence-returns-in_err-parts-clause-runs
 sequence-returns-in_err-parts-clause-runs t c = λ ts turns stands enough.
@@ -328,7 +328,7 @@ sequence-returns-in_err-parts-clause-runs t c = λ ts turns stands enough.
     let v = c.below.new.units in
     let at = c.args.at in
     let Q : List Frames → code_core.Core → Core → Type 0 = λ layout. CoreStands a v.unit v.form.number in
-    let f : Known → Frames → Step ScopedState Core = λ known fs. sequence (expand (searched known) turns) (searched known) at.depth at.here fs ts in
+    let f : Known → Frames → Step Noting Core = λ known fs. sequence (expand (noting known) turns) (noting known) at.depth at.here fs ts in
     runs_err Q a a c.args.region.now u v at.scope c.from_residual-in_err-parts.result fault.Memory f c.from_residual-in_err-parts.ensures.1 (runs_nothing Q a c.args.region.now u v at.scope f)
 
 pub sequence-loop-form-init : goal.sequence-loop-form-init
@@ -339,7 +339,7 @@ sequence-loop-form-init t c =
     record {
       after = after_itself a c.args.region.now w below.scope (below_look c.args.units.now w c.args.at below 1 c.in_ok-below.ensures a c.requires.look);
       spends = spends_itself w;
-      runs = λ ts turns match enough. runs_none (λ known fs. as_part (λ u. expand (searched known) turns below.depth below.here fs (whole u))) (PartStands a w.unit w.form.number) a c.args.region.now w below.scope c.in_ok-parts.parts.items c.in_ok-parts.ensures.items;
+      runs = λ ts turns match enough. runs_none (λ known fs. as_part (λ u. expand (noting known) turns below.depth below.here fs (whole u))) (PartStands a w.unit w.form.number) a c.args.region.now w below.scope c.in_ok-parts.parts.items c.in_ok-parts.ensures.items;
     }
 
 pub sequence-expand-requires : goal.sequence-expand-requires
@@ -373,12 +373,12 @@ sequence-returns-in_err-core-clause-runs t c = λ ts turns stands enough.
     let match = trees_match a c.args.forms.now ts stands in
     let now = below_enough u w at below 1 hb turns enough in
     let later = enough_later below.depth w.form.budget.uses w1.form.budget.uses turns h.after.same.uses now in
-    let g : Known → Frames → Tree Identifier → Step ScopedState Core = λ known fs form. expand (searched known) turns below.depth below.here fs (whole form) in
-    let f : Known → Frames → Tree Identifier → Step ScopedState Part = λ known fs. as_part (g known fs) in
+    let g : Known → Frames → Tree Identifier → Step Noting Core = λ known fs form. expand (noting known) turns below.depth below.here fs (whole form) in
+    let f : Known → Frames → Tree Identifier → Step Noting Part = λ known fs. as_part (g known fs) in
     let P : List Frames → code_core.Core → Core → Type 0 = λ layout. CoreStands d v.unit v.form.number in
     let S : List Frames → List code_part.CorePart → List Part → Type 0 = λ layout. AllMatch (PartStands d v.unit v.form.number) in
     let Z : List Frames → Vec code_part.CorePart Global → Parts → Type 0 = λ layout ps. PartsOfCores d v.unit v.form.number ps.items in
-    runs_err P a d region u v at.scope c.from_residual-in_err-core.result e (λ known fs. sequence (expand (searched known) turns) (searched known) at.depth at.here fs ts) c.from_residual-in_err-core.ensures.1
+    runs_err P a d region u v at.scope c.from_residual-in_err-core.result e (λ known fs. sequence (expand (noting known) turns) (noting known) at.depth at.here fs ts) c.from_residual-in_err-core.ensures.1
     (sequence_fails a d region u w v at below hb turns ts P e
     (runs_failed f parts_of (λ known fs. expressions (g known fs) ts) es (λ known fs s. expressions_row (g known fs) ts s) a d region w v below.scope S Z (Err e) e refl
     (row_stops f (StandsFor a) (PartStands b w1.unit w1.form.number) a b d region w w1 v below.scope c.loop-form.parts.items c.loop-form.form-index c.args.forms.now es no_tree match c.loop-form-test.true (h.runs es turns match now)
@@ -403,12 +403,12 @@ sequence-returns-in_err-push-clause-runs t c = λ ts turns stands enough.
     let match = trees_match a c.args.forms.now ts stands in
     let now = below_enough u w at below 1 hb turns enough in
     let later = enough_later below.depth w.form.budget.uses w1.form.budget.uses turns h.after.same.uses now in
-    let g : Known → Frames → Tree Identifier → Step ScopedState Core = λ known fs form. expand (searched known) turns below.depth below.here fs (whole form) in
-    let f : Known → Frames → Tree Identifier → Step ScopedState Part = λ known fs. as_part (g known fs) in
+    let g : Known → Frames → Tree Identifier → Step Noting Core = λ known fs form. expand (noting known) turns below.depth below.here fs (whole form) in
+    let f : Known → Frames → Tree Identifier → Step Noting Part = λ known fs. as_part (g known fs) in
     let P : List Frames → code_core.Core → Core → Type 0 = λ layout. CoreStands d v.unit v.form.number in
     let S : List Frames → List code_part.CorePart → List Part → Type 0 = λ layout. AllMatch (PartStands d v.unit v.form.number) in
     let Z : List Frames → Vec code_part.CorePart Global → Parts → Type 0 = λ layout ps. PartsOfCores d v.unit v.form.number ps.items in
-    runs_err P a d region u v at.scope c.from_residual-in_err-push.result fault.Memory (λ known fs. sequence (expand (searched known) turns) (searched known) at.depth at.here fs ts) c.from_residual-in_err-push.ensures.1
+    runs_err P a d region u v at.scope c.from_residual-in_err-push.result fault.Memory (λ known fs. sequence (expand (noting known) turns) (noting known) at.depth at.here fs ts) c.from_residual-in_err-push.ensures.1
     (sequence_fails a d region u w v at below hb turns ts P fault.Memory
     (runs_failed f parts_of (λ known fs. expressions (g known fs) ts) es (λ known fs s. expressions_row (g known fs) ts s) a d region w v below.scope S Z (Err fault.Memory) fault.Memory refl
     (row_stops f (StandsFor a) (PartStands b w1.unit w1.form.number) a b d region w w1 v below.scope c.loop-form.parts.items c.loop-form.form-index c.args.forms.now es no_tree match c.loop-form-test.true (h.runs es turns match now)
@@ -433,7 +433,7 @@ sequence-loop-form-preserved t c =
       spends = spends_on w w1 v h.spends c.in_ok-core.ensures.locals;
       runs = λ ts turns match enough.
           let later = enough_later below.depth w.form.budget.uses w1.form.budget.uses turns h.after.same.uses enough in
-          let g : Known → Frames → Tree Identifier → Step ScopedState Core = λ known fs form. expand (searched known) turns below.depth below.here fs (whole form) in
+          let g : Known → Frames → Tree Identifier → Step Noting Core = λ known fs form. expand (noting known) turns below.depth below.here fs (whole form) in
           row_one_more (λ known fs. as_part (g known fs)) (StandsFor a) (PartStands b w1.unit w1.form.number) (PartStands d v.unit v.form.number) (parts_go_on b d region w1 v after.work after.same) a b d region w w1 v below.scope
           c.loop-form.parts.items c.loop-form.form-index c.args.forms.now ts no_tree match c.loop-form-test.true (h.runs ts turns match enough) c.push.new.self.items (core_parts.Expression c.in_ok-core.core) c.in_ok-push.ensures.items
           (λ form stands. runs_mapped (λ (layout : List Frames). CoreStands d v.unit v.form.number) (λ (layout : List Frames). PartStands d v.unit v.form.number) b d region w1 v below.scope (λ known fs. g known fs form) c.in_ok-core.core
@@ -455,7 +455,7 @@ sequence-returns-clause-runs t c = λ ts turns stands enough.
     let match = trees_match a c.args.forms.now ts stands in
     let now = below_enough u w at below 1 hb turns enough in
     let ps = c.loop-form.parts in
-    let g : Known → Frames → Tree Identifier → Step ScopedState Core = λ known fs form. expand (searched known) turns below.depth below.here fs (whole form) in
+    let g : Known → Frames → Tree Identifier → Step Noting Core = λ known fs form. expand (noting known) turns below.depth below.here fs (whole form) in
     sequence_runs a b region u w w1 at below hb turns ts ps
     (runs_told (λ known fs. as_part (g known fs)) parts_of (λ known fs. expressions (g known fs) ts) es (λ known fs s. expressions_row (g known fs) ts s) a b region w w1 below.scope
     (PartStands b w1.unit w1.form.number) (λ (qs : Vec code_part.CorePart Global). PartsOfCores b w1.unit w1.form.number qs.items) ps.items ps c.loop-form.form-index

@@ -4,11 +4,10 @@ use Rattle.std.specs.List.{AllByRecursion}
 use denote.Enum.Bare.{true_same, false_same}
 use Rattle.scheme_model.specs.Measures.{tree_size}
 use Rattle.scheme_model.specs.Requirements.{Known}
-use Rattle.scheme_model.specs.Cores.{Core, If, CaseLambda, Lambda, Set}
-use Rattle.scheme_model.specs.Steps.{Step, ◌>>=◌, done}
-use Rattle.scheme_model.specs.Order.{target_of}
-use Rattle.scheme_model.specs.Expression.{assignment, whole, expand, node}
-use Rattle.scheme_model.specs.ScopedExpansion.{Frames, ScopedState}
+use Rattle.scheme_model.specs.Cores.{Core}
+use Rattle.scheme_model.specs.Steps.{Step}
+use Rattle.scheme_model.specs.Expression.{expand}
+use Rattle.scheme_model.specs.ScopedExpansion.{Frames}
 use Rattle.syntax_tree.specs.Looks.{PartsStand}
 use Rattle.syntax_tree.specs.Works.{StandsFor}
 use Rattle.syntax_tree.specs.declared.trees.Work.{Work}
@@ -33,18 +32,19 @@ use Rattle.expander.specs.Expanded.{AreAtWork, BodyAtWork, ClauseAtWork, Clauses
 use Rattle.feature_requirements.specs.Judged.{AreChoosable}
 use Rattle.unit_scopes.specs.Kept.{ClauseFor}
 use Rattle.form_parts.specs.Marked.{IsQuasi}
-use Rattle.unit_scopes.specs.Outcomes.{IsAtWork, Runs}
+use Rattle.unit_scopes.specs.Outcomes.{IsAtWork}
 use Rattle.expander.specs.Passed.{ShapeFits}
-use Rattle.unit_scopes.specs.Searched.{searched}
 use Rattle.feature_requirements.specs.declared.fault.ExpandFault.{ExpandFault}
 use Rattle.expander.proofs.AfterLaws.{all_known, spends_on}
 use Rattle.expander.proofs.BelowLaws.{below_look, below_room, below_spends, below_enough}
 use Rattle.expander.proofs.ExpandLaws.{each_after}
-use Rattle.expander.proofs.FormRuns.{tested_runs, untested_runs, chosen_runs, chosen_fails, quasi_runs, quasi_fails, quasi_unbegun, chosen_here, misplaced_runs}
+use Rattle.expander.proofs.FormRuns.{chosen_runs, chosen_fails, quasi_runs, quasi_fails, quasi_unbegun, chosen_here, misplaced_runs}
 use Rattle.expander.proofs.ShapeParts.{as_quasi, as_lambda, as_case_lambda, as_if, as_set, as_local, clauses_for, parts_match, trees_of, trees_stand, misplaced_is, local_is}
 use Rattle.expander.proofs.ShapeKinds.{as_sequence, as_choices}
 use Rattle.expander.proofs.StepLaws.{runs_err, runs_same}
 use Rattle.expander.proofs.cores.+core.Goals as goal
+use Rattle.noted_steps.specs.Noting.{Noting, noting}
+use Rattle.noted_steps.specs.Outcomes.{Runs}
 
 -- ---- core forms by their shapes
 
@@ -98,8 +98,8 @@ expand_shape-conditional-requires t c =
       (c.requires.opened, (c.requires.look, (subst (AreAtWork a region) (sym c.deref-in-If.ensures.value) (as_if a (λ x. ShapeFits x → AreAtWork a region c.in-If.parts.items) c.in-If.parts s.0 (subst (λ (x : code_shape.CoreShape). ShapeFor a x s.0) c.in-If.is s.1) (λ ts stand fit. (ts, stand, (subst (ShapeNamed a region) c.in-If.is c.requires.shape.2))) s.3), c.requires.room))),
     )
 
-pub expand_shape-assign-requires : goal.expand_shape-assign-requires
-expand_shape-assign-requires t c =
+pub expand_shape-set-requires : goal.expand_shape-set-requires
+expand_shape-set-requires t c =
     let a = c.args.work.now in
     let region = c.args.region.now in
     let s = c.requires.shape in
@@ -119,15 +119,6 @@ expand_shape-sequence-requires t c =
       (c.requires.opened, (c.requires.look, (subst (AreAtWork a region) (sym c.deref-in-Begin.ensures.value) (as_sequence a (λ x. ShapeFits x → AreAtWork a region c.in-Begin.forms.items) c.in-Begin.forms s.0 (subst (λ (x : code_shape.CoreShape). ShapeFor a x s.0) c.in-Begin.is s.1) (λ ts stand fit. (ts, stand, (subst (ShapeNamed a region) c.in-Begin.is c.requires.shape.2))) s.3), c.requires.room))),
     )
 
-pub expand_shape-test_variable-requires-clause-look : goal.expand_shape-test_variable-requires-clause-look
-expand_shape-test_variable-requires-clause-look t c = c.requires.look
-
-pub expand_shape-test_variable-requires-clause-name : goal.expand_shape-test_variable-requires-clause-name
-expand_shape-test_variable-requires-clause-name t c =
-    let a = c.args.work.now in
-    let s = c.requires.shape in
-    as_set a (λ x. ShapeFits x → HasNumber a c.in-Set.name) c.in-Set.name c.in-Set.value s.0 (subst (λ (x : code_shape.CoreShape). ShapeFor a x s.0) c.in-Set.is s.1) (λ n tree name stands fit. (n, name)) s.3
-
 pub expand_shape-returns-in_err-below-in-Quasi-clause-runs : goal.expand_shape-returns-in_err-below-in-Quasi-clause-runs
 expand_shape-returns-in_err-below-in-Quasi-clause-runs t c = λ k m turns keyword for fits left enough.
     let a = c.args.work.now in
@@ -137,7 +128,7 @@ expand_shape-returns-in_err-below-in-Quasi-clause-runs t c = λ k m turns keywor
     let v = c.below.new.units in
     let at = c.args.at in
     let Q : List Frames → code_core.Core → Core → Type 0 = λ layout. CoreStands d v.unit v.form.number in
-    let f : Shape → Known → Frames → Step ScopedState Core = λ x known fs. core_step (expand (searched known) turns) (searched known) at.depth at.here fs k x in
+    let f : Shape → Known → Frames → Step Noting Core = λ x known fs. core_step (expand (noting known) turns) (noting known) at.depth at.here fs k x in
     runs_err Q a d region u v at.scope c.from_residual.result c.in_err-below-in-Quasi.field-0.0 (f m) c.from_residual.ensures.1
     (as_quasi a (λ x. ShapeFits x → Runs Q a d region u v at.scope (Err c.in_err-below-in-Quasi.field-0.0) (f x)) c.in-Quasi.datum c.in-Quasi.parts c.in-Quasi.places m (subst (λ (x : code_shape.CoreShape). ShapeFor a x m) c.in-Quasi.is for) (λ tree p stands holes there fit. quasi_unbegun a region u v at c.outside.result turns p (c.outside.ensures fit.0 tree p stands (subst (λ (l : List number.Tree). AllParts (StandsFor a) l p.holes) (sym c.deref.ensures.value) holes) fit.1) Q c.in_err-below-in-Quasi.field-0.0 c.in_err-below-in-Quasi.ensures) fits)
 
@@ -150,7 +141,7 @@ expand_shape-returns-in_err-parts-in-Quasi-clause-runs t c = λ k m turns keywor
     let v = c.expand_all.new.units in
     let at = c.args.at in
     let Q : List Frames → code_core.Core → Core → Type 0 = λ layout. CoreStands d v.unit v.form.number in
-    let f : Shape → Known → Frames → Step ScopedState Core = λ x known fs. core_step (expand (searched known) turns) (searched known) at.depth at.here fs k x in
+    let f : Shape → Known → Frames → Step Noting Core = λ x known fs. core_step (expand (noting known) turns) (noting known) at.depth at.here fs k x in
     let w = c.below.new.units in
     let below = c.in_ok-below-in-Quasi.below in
     let h = c.in_ok-below-in-Quasi.ensures in
@@ -167,7 +158,7 @@ expand_shape-returns-in-Quasi-clause-runs t c = λ k m turns keyword for fits le
     let v = c.expand_all.new.units in
     let at = c.args.at in
     let Q : List Frames → code_core.Core → Core → Type 0 = λ layout. CoreStands d v.unit v.form.number in
-    let f : Shape → Known → Frames → Step ScopedState Core = λ x known fs. core_step (expand (searched known) turns) (searched known) at.depth at.here fs k x in
+    let f : Shape → Known → Frames → Step Noting Core = λ x known fs. core_step (expand (noting known) turns) (noting known) at.depth at.here fs k x in
     let w = c.below.new.units in
     let below = c.in_ok-below-in-Quasi.below in
     let h = c.in_ok-below-in-Quasi.ensures in
@@ -183,7 +174,7 @@ expand_shape-returns-in-Lambda-clause-runs t c = λ k m turns keyword for fits l
     let v = c.lambda.new.units in
     let at = c.args.at in
     let Q : List Frames → code_core.Core → Core → Type 0 = λ layout. CoreStands d v.unit v.form.number in
-    let f : Shape → Known → Frames → Step ScopedState Core = λ x known fs. core_step (expand (searched known) turns) (searched known) at.depth at.here fs k x in
+    let f : Shape → Known → Frames → Step Noting Core = λ x known fs. core_step (expand (noting known) turns) (noting known) at.depth at.here fs k x in
     as_lambda a (λ x. ShapeFits x → Runs Q a d region u v at.scope c.lambda.result (f x)) c.in-Lambda.clause m (subst (λ (x : code_shape.CoreShape). ShapeFor a x m) c.in-Lambda.is for) (λ e is fit. c.lambda.ensures.runs e turns (is, (subst (ShapeNamed a region) c.in-Lambda.is c.requires.shape.2), fit) enough) fits
 
 pub expand_shape-returns-in-CaseLambda-clause-runs : goal.expand_shape-returns-in-CaseLambda-clause-runs
@@ -195,7 +186,7 @@ expand_shape-returns-in-CaseLambda-clause-runs t c = λ k m turns keyword for fi
     let v = c.case_lambda.new.units in
     let at = c.args.at in
     let Q : List Frames → code_core.Core → Core → Type 0 = λ layout. CoreStands d v.unit v.form.number in
-    let f : Shape → Known → Frames → Step ScopedState Core = λ x known fs. core_step (expand (searched known) turns) (searched known) at.depth at.here fs k x in
+    let f : Shape → Known → Frames → Step Noting Core = λ x known fs. core_step (expand (noting known) turns) (noting known) at.depth at.here fs k x in
     as_case_lambda a (λ x. ShapeFits x → Runs Q a d region u v at.scope c.case_lambda.result (f x)) c.in-CaseLambda.clauses m (subst (λ (x : code_shape.CoreShape). ShapeFor a x m) c.in-CaseLambda.is for) (λ ds are fit. c.case_lambda.ensures.runs ds turns (subst (λ (l : List ClauseShape). AllMatch (ClauseFor a region) l ds) (sym c.deref-in-CaseLambda.ensures.value) (clauses_for a region c.in-CaseLambda.clauses.items ds are (subst (ShapeNamed a region) c.in-CaseLambda.is c.requires.shape.2) fit)) enough) fits
 
 pub expand_shape-returns-in-If-clause-runs : goal.expand_shape-returns-in-If-clause-runs
@@ -207,33 +198,20 @@ expand_shape-returns-in-If-clause-runs t c = λ k m turns keyword for fits left 
     let v = c.conditional.new.units in
     let at = c.args.at in
     let Q : List Frames → code_core.Core → Core → Type 0 = λ layout. CoreStands d v.unit v.form.number in
-    let f : Shape → Known → Frames → Step ScopedState Core = λ x known fs. core_step (expand (searched known) turns) (searched known) at.depth at.here fs k x in
+    let f : Shape → Known → Frames → Step Noting Core = λ x known fs. core_step (expand (noting known) turns) (noting known) at.depth at.here fs k x in
     as_if a (λ x. ShapeFits x → Runs Q a d region u v at.scope c.conditional.result (f x)) c.in-If.parts m (subst (λ (x : code_shape.CoreShape). ShapeFor a x m) c.in-If.is for) (λ ts stand fit. c.conditional.ensures.runs ts turns (subst (λ (l : List number.Tree). PartsStand a l ts) (sym c.deref-in-If.ensures.value) stand) enough) fits
-
-pub expand_shape-returns-in_err-test_variable-in-Set-clause-runs : goal.expand_shape-returns-in_err-test_variable-in-Set-clause-runs
-expand_shape-returns-in_err-test_variable-in-Set-clause-runs t c = λ k m turns keyword for fits left enough.
-    let a = c.args.work.now in
-    let d = c.args.work.now in
-    let region = c.args.region.now in
-    let u = c.args.units.now in
-    let v = c.args.units.now in
-    let at = c.args.at in
-    let Q : List Frames → code_core.Core → Core → Type 0 = λ layout. CoreStands d v.unit v.form.number in
-    let f : Shape → Known → Frames → Step ScopedState Core = λ x known fs. core_step (expand (searched known) turns) (searched known) at.depth at.here fs k x in
-    runs_err Q a d region u v at.scope c.from_residual-in_err-test_variable-in-Set.result c.in_err-test_variable-in-Set.field-0.0 (f m) c.from_residual-in_err-test_variable-in-Set.ensures.1
-    (as_set a (λ x. ShapeFits x → Runs Q a d region u v at.scope (Err c.in_err-test_variable-in-Set.field-0.0) (f x)) c.in-Set.name c.in-Set.value m (subst (λ (x : code_shape.CoreShape). ShapeFor a x m) c.in-Set.is for) (λ n tree name stands fit. untested_runs a a region u u at c.in-Set.name n name (CoreStands a u.unit u.form.number) (λ known fs. node (searched known) at.here 1 at.depth (λ below t1. expand (searched known) turns below at.here fs (whole tree) t1 >>= λ x. done (Set (target_of (searched known) fs t1 n.name n.occ) x))) c.in_err-test_variable-in-Set.field-0.0 c.in_err-test_variable-in-Set.ensures) fits)
 
 pub expand_shape-returns-in-Set-clause-runs : goal.expand_shape-returns-in-Set-clause-runs
 expand_shape-returns-in-Set-clause-runs t c = λ k m turns keyword for fits left enough.
     let a = c.args.work.now in
-    let d = c.assign.new.work in
+    let d = c.set.new.work in
     let region = c.args.region.now in
     let u = c.args.units.now in
-    let v = c.assign.new.units in
+    let v = c.set.new.units in
     let at = c.args.at in
     let Q : List Frames → code_core.Core → Core → Type 0 = λ layout. CoreStands d v.unit v.form.number in
-    let f : Shape → Known → Frames → Step ScopedState Core = λ x known fs. core_step (expand (searched known) turns) (searched known) at.depth at.here fs k x in
-    as_set a (λ x. ShapeFits x → Runs Q a d region u v at.scope c.assign.result (f x)) c.in-Set.name c.in-Set.value m (subst (λ (x : code_shape.CoreShape). ShapeFor a x m) c.in-Set.is for) (λ n tree name stands fit. tested_runs a d region u v at c.in-Set.name n name Q tt (λ known fs. assignment (searched known) at.depth at.here fs n (λ below. expand (searched known) turns below at.here fs (whole tree))) c.assign.result c.in_ok-test_variable-in-Set.ensures (c.assign.ensures.runs n tree turns name stands enough)) fits
+    let f : Shape → Known → Frames → Step Noting Core = λ x known fs. core_step (expand (noting known) turns) (noting known) at.depth at.here fs k x in
+    as_set a (λ x. ShapeFits x → Runs Q a d region u v at.scope c.set.result (f x)) c.in-Set.name c.in-Set.value m (subst (λ (x : code_shape.CoreShape). ShapeFor a x m) c.in-Set.is for) (λ n tree name stands fit. c.set.ensures.runs n tree turns name stands enough) fits
 
 pub expand_shape-returns-in-Begin-clause-runs : goal.expand_shape-returns-in-Begin-clause-runs
 expand_shape-returns-in-Begin-clause-runs t c = λ k m turns keyword for fits left enough.
@@ -244,7 +222,7 @@ expand_shape-returns-in-Begin-clause-runs t c = λ k m turns keyword for fits le
     let v = c.sequence.new.units in
     let at = c.args.at in
     let Q : List Frames → code_core.Core → Core → Type 0 = λ layout. CoreStands d v.unit v.form.number in
-    let f : Shape → Known → Frames → Step ScopedState Core = λ x known fs. core_step (expand (searched known) turns) (searched known) at.depth at.here fs k x in
+    let f : Shape → Known → Frames → Step Noting Core = λ x known fs. core_step (expand (noting known) turns) (noting known) at.depth at.here fs k x in
     as_sequence a (λ x. ShapeFits x → Runs Q a d region u v at.scope c.sequence.result (f x)) c.in-Begin.forms m (subst (λ (x : code_shape.CoreShape). ShapeFor a x m) c.in-Begin.is for) (λ ts stand fit. c.sequence.ensures.runs ts turns (subst (λ (l : List number.Tree). PartsStand a l ts) (sym c.deref-in-Begin.ensures.value) stand) enough) fits
 
 pub expand_shape-returns-in-Quasi-clause-locals : goal.expand_shape-returns-in-Quasi-clause-locals
@@ -260,7 +238,7 @@ pub expand_shape-returns-in-If-clause-locals : goal.expand_shape-returns-in-If-c
 expand_shape-returns-in-If-clause-locals t c = c.conditional.ensures.locals
 
 pub expand_shape-returns-in-Set-clause-locals : goal.expand_shape-returns-in-Set-clause-locals
-expand_shape-returns-in-Set-clause-locals t c = c.assign.ensures.locals
+expand_shape-returns-in-Set-clause-locals t c = c.set.ensures.locals
 
 pub expand_shape-returns-in-Begin-clause-locals : goal.expand_shape-returns-in-Begin-clause-locals
 expand_shape-returns-in-Begin-clause-locals t c = c.sequence.ensures.locals
@@ -289,7 +267,7 @@ expand_shape-returns-in_err-forms-in-CondExpand-clause-runs t c = λ k m turns k
     let xs = c.deref-in-CondExpand.result.now in
     let e = c.in_err-forms-in-CondExpand.field-0.0 in
     let Q : List Frames → code_core.Core → Core → Type 0 = λ layout. CoreStands a u.unit u.form.number in
-    let f : Shape → Known → Frames → Step ScopedState Core = λ x known fs. core_step (expand (searched known) turns) (searched known) at.depth at.here fs k x in
+    let f : Shape → Known → Frames → Step Noting Core = λ x known fs. core_step (expand (noting known) turns) (noting known) at.depth at.here fs k x in
     runs_err Q a a region u u at.scope c.from_residual-in_err-forms-in-CondExpand.result e (f m) c.from_residual-in_err-forms-in-CondExpand.ensures.1
     (as_choices a (λ x. ShapeFits x → Runs Q a a region u u at.scope (Err e) (f x)) c.in-CondExpand.choices m (subst (λ (x : code_shape.CoreShape). ShapeFor a x m) c.in-CondExpand.is for)
     (λ ps are fit.
@@ -329,7 +307,7 @@ expand_shape-returns-in-CondExpand-clause-runs t c = λ k m turns keyword for fi
     let forms = c.in_ok-forms-in-CondExpand.forms in
     let r = c.sequence-in-CondExpand.result in
     let Q : List Frames → code_core.Core → Core → Type 0 = λ layout. CoreStands d v.unit v.form.number in
-    let f : Shape → Known → Frames → Step ScopedState Core = λ x known fs. core_step (expand (searched known) turns) (searched known) at.depth at.here fs k x in
+    let f : Shape → Known → Frames → Step Noting Core = λ x known fs. core_step (expand (noting known) turns) (noting known) at.depth at.here fs k x in
     as_choices a (λ y. ShapeFits y → Runs Q a d region u v at.scope r (f y)) c.in-CondExpand.choices m (subst (λ (x : code_shape.CoreShape). ShapeFor a x m) c.in-CondExpand.is for)
     (λ ps are fit.
     let match = subst (λ (l : List Choice). AllParts (IsChoice a) l ps) (sym c.deref-in-CondExpand.ensures.value) are in
@@ -363,10 +341,10 @@ expand_shape-returns-in-LetSyntax-clause-runs t c = λ k m turns keyword for fit
     let again = c.eq-recursive.result in
     let r = c.local_macros.result in
     let Q : List Frames → code_core.Core → Core → Type 0 = λ layout. CoreStands d v.unit v.form.number in
-    let f : Shape → Known → Frames → Step ScopedState Core = λ x known fs. core_step (expand (searched known) turns) (searched known) at.depth at.here fs k x in
+    let f : Shape → Known → Frames → Step Noting Core = λ x known fs. core_step (expand (noting known) turns) (noting known) at.depth at.here fs k x in
     as_local a (λ y. ShapeFits y → Runs Q a d region u v at.scope r (f y)) c.in-LetSyntax.macros c.in-LetSyntax.body m (subst (λ (x : code_shape.CoreShape). ShapeFor a x m) c.in-LetSyntax.is for)
-    (λ l macros stand fit. runs_same Q a d region u v at.scope r (f (Local l)) (λ known fs. macros_step again (expand (searched known) turns) (searched known) at.depth at.here fs l)
-    (λ known fs s. local_is (expand (searched known) turns) (searched known) at.depth at.here fs l s c.args.core k again keyword (λ is. c.eq-recursive.ensures ∙ true_same keyword_type c.args.core word.LetrecSyntax is) (λ not. c.eq-recursive.ensures ∙ false_same keyword_type tt c.args.core word.LetrecSyntax not))
+    (λ l macros stand fit. runs_same Q a d region u v at.scope r (f (Local l)) (λ known fs. macros_step again (expand (noting known) turns) (noting known) at.depth at.here fs l)
+    (λ known fs s. local_is (expand (noting known) turns) (noting known) at.depth at.here fs l s c.args.core k again keyword (λ is. c.eq-recursive.ensures ∙ true_same keyword_type c.args.core word.LetrecSyntax is) (λ not. c.eq-recursive.ensures ∙ false_same keyword_type tt c.args.core word.LetrecSyntax not))
     (c.local_macros.ensures.runs l turns (subst (λ (xs : List LocalMacro). AreMacros a xs l.names l.rules) (sym c.deref-in-LetSyntax.ensures.value) macros) (subst (λ (xs : List number.Tree). PartsStand a xs l.body) (sym c.deref-in-LetSyntax-2.ensures.value) stand) enough)) fits
 
 pub expand_shape-returns-clause-runs : goal.expand_shape-returns-clause-runs
@@ -377,4 +355,4 @@ expand_shape-returns-clause-runs t c = λ k m turns keyword for fits left enough
     let n = c.in_default in
     let Q : List Frames → code_core.Core → Core → Type 0 = λ layout. CoreStands a u.unit u.form.number in
     let placed = misplaced_is a c.args.shape m for left n.not-Quasi n.not-Lambda n.not-CaseLambda n.not-If n.not-Set n.not-Begin n.not-LetSyntax n.not-CondExpand in
-    subst (λ (x : ExpandFault). Runs Q a a c.args.region.now u u at.scope (Err x) (λ known fs. core_step (expand (searched known) turns) (searched known) at.depth at.here fs k m)) (sym c.fails.ensures) (misplaced_runs a c.args.region.now u at turns k Q m placed)
+    subst (λ (x : ExpandFault). Runs Q a a c.args.region.now u u at.scope (Err x) (λ known fs. core_step (expand (noting known) turns) (noting known) at.depth at.here fs k m)) (sym c.fails.ensures) (misplaced_runs a c.args.region.now u at turns k Q m placed)

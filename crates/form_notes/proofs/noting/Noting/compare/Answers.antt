@@ -5,9 +5,9 @@ use Rattle.scheme_model.specs.Questions.{Compares, Says}
 use Rattle.syntax_tree.specs.Macros.{IsIdent}
 use Rattle.question_laws.specs.Noted.{before_uses, defines_within}
 use Rattle.form_notes.specs.Noted.{began, compared}
-use Rattle.form_notes.specs.Standing.{IsQuestion}
+use Rattle.form_notes.specs.Standing.{IsQuestion, IsAsked, stood}
 use Rattle.form_notes.specs.declared.notes.Question as code_question
-use Rattle.form_notes.proofs.NoteLaws.{adds, asked_as, one_note, some_comparison}
+use Rattle.form_notes.proofs.NoteLaws.{adds, part_at, asked_as, one_note, some_comparison}
 use Rattle.form_notes.proofs.noting.Noting.compare.Goals as goal
 
 pub returns : goal.returns
@@ -16,7 +16,7 @@ returns c = record {
       let names = c.args.symbols.now in
       let old = c.args.self.now in
       let held = same_meaning m n in
-      adds names r old c.push.new.self ms (compared r l i m n ++ ms) (record { behind = c.behind-behind.result; question = c.comparison.result }) c.push.ensures h (λ o.
+      adds names r old c.push.new.self ms (compared r l i m n ++ ms) (record { behind = c.behind-behind.result; question = c.comparison.result }) c.push.ensures (ap stood c.comparison.ensures) h (λ o.
       let part = defines_within r.own l || defines_within r.own i in
       let d : c.defines_either-part.result ≡ part = c.defines_either-part.ensures r l i h.since o is at in
       let x = asked_as r part l in
@@ -35,5 +35,6 @@ returns c = record {
         ),
         some_comparison r ms l i m n (sym c.if-is_local.false ∙ c.is_local.ensures names r.unit r.form m first) (sym c.if-is_local-2.false ∙ c.is_local-2.ensures names r.unit r.form n second)
             (sym c.if-compares_alone.false ∙ c.compares_alone.ensures r l i h.since o is at),
+        subst (λ (q : code_question.Question). IsAsked q (length r.own) c.behind-behind.result) (sym c.comparison.ensures) (part_at (c.defines_either-part.result) c.behind-behind.result (length r.own) (c.behind-behind.ensures names r o)),
       ));
 }

@@ -3,9 +3,9 @@ use Rattle.scheme_model.specs.Questions.{LooksUp, Means}
 use Rattle.syntax_tree.specs.Macros.{IsIdent}
 use Rattle.question_laws.specs.Noted.{before_uses, defines_within}
 use Rattle.form_notes.specs.Noted.{began, looked_up}
-use Rattle.form_notes.specs.Standing.{IsQuestion}
+use Rattle.form_notes.specs.Standing.{IsQuestion, IsAsked, stood}
 use Rattle.form_notes.specs.declared.notes.Question as code_question
-use Rattle.form_notes.proofs.NoteLaws.{adds, asked_as, one_note, some_lookup}
+use Rattle.form_notes.proofs.NoteLaws.{adds, part_at, asked_as, one_note, some_lookup}
 use Rattle.form_notes.proofs.noting.Noting.look_up.Goals as goal
 
 pub returns : goal.returns
@@ -14,7 +14,7 @@ returns c = record {
       let names = c.args.symbols.now in
       let k = c.args.keyword in
       let old = c.args.self.now in
-      adds names r old c.push.new.self ms (looked_up r i m k ++ ms) (record { behind = c.behind-behind.result; question = c.lookup.result }) c.push.ensures h (λ o.
+      adds names r old c.push.new.self ms (looked_up r i m k ++ ms) (record { behind = c.behind-behind.result; question = c.lookup.result }) c.push.ensures (ap stood c.lookup.ensures) h (λ o.
       let part = defines_within r.own i in
       let d : c.defines_within-part.result ≡ part = c.defines_within-part.ensures r i h.since o is in
       let l = asked_as r part i in (
@@ -25,5 +25,6 @@ returns c = record {
               (l, m, refl, refl, subst (λ b. IsIdent names c.asked_as-asked.result (cond b i (before_uses (began r) i))) d (c.asked_as-asked.ensures r i h.since is), means),
         ),
         some_lookup r ms i m k (sym c.if-is_local.false ∙ c.is_local.ensures names r.unit r.form m means) (sym c.if-answers_alone.false ∙ c.answers_alone.ensures r i h.since o is),
+        subst (λ (q : code_question.Question). IsAsked q (length r.own) c.behind-behind.result) (sym c.lookup.ensures) (part_at (c.defines_within-part.result) c.behind-behind.result (length r.own) (c.behind-behind.ensures names r o)),
       ));
 }

@@ -1,4 +1,4 @@
-use Rattle.std.proofs.Common.{refl, ◌++◌}
+use Rattle.std.proofs.Common.{refl, inl, ◌++◌}
 use Rattle.scheme_model.specs.Questions.{Requires, Says}
 use Rattle.form_notes.specs.Noted.{required}
 use Rattle.form_notes.specs.declared.notes.Question.TheVariants as questions
@@ -9,6 +9,6 @@ pub returns : goal.returns
 returns c = record {
   noted = λ names r ms l h is.
       let b = c.args.answer in
-      adds names r c.args.self.now c.push.new.self ms (required l b ++ ms) (record { behind = 0; question = questions.Library c.args.name b }) c.push.ensures h (λ o.
-      (record { behind = 0; question = Requires l; answer = Says b }, (refl, (l, refl, refl, is)), refl));
+      adds names r c.args.self.now c.push.new.self ms (required l b ++ ms) (record { behind = 0; question = questions.Library c.args.name b }) c.push.ensures refl h (λ o.
+      (record { behind = 0; question = Requires l; answer = Says b }, (refl, (l, refl, refl, is)), refl, inl refl));
 }

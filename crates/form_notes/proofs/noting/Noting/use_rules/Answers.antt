@@ -1,4 +1,4 @@
-use Rattle.std.proofs.Common.{refl, sym, ◌∙◌, ◌++◌}
+use Rattle.std.proofs.Common.{refl, inl, sym, ◌∙◌, ◌++◌}
 use Rattle.scheme_model.specs.Questions.{UsesRules, Expands}
 use Rattle.form_notes.specs.Noted.{rules_used}
 use Rattle.form_notes.specs.declared.notes.Question.TheVariants as questions
@@ -9,9 +9,10 @@ pub returns-then-not-is_own_meaning : goal.returns-then-not-is_own_meaning
 returns-then-not-is_own_meaning c = record {
   noted = λ names r ms m h means.
       let t = r.editions c.args.edition in
-      adds names r c.args.self.now c.push.new.self ms (rules_used r m t ++ ms) (record { behind = 0; question = questions.Rules c.args.meaning c.args.edition }) c.push.ensures h (λ o. (
+      adds names r c.args.self.now c.push.new.self ms (rules_used r m t ++ ms) (record { behind = 0; question = questions.Rules c.args.meaning c.args.edition }) c.push.ensures refl h (λ o. (
         record { behind = 0; question = UsesRules m; answer = Expands t },
         (refl, (m, refl, refl, means)),
         some_rules r ms m t (sym c.if-not-is_own_meaning.true ∙ c.is_own_meaning.ensures names r m h.since o means),
+        inl refl,
       ));
 }

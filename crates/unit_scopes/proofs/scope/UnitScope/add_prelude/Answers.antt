@@ -45,7 +45,7 @@ pub returns-in-Standard-clause-added : goal.returns-in-Standard-clause-added
 returns-in-Standard-clause-added c = λ s x r stands is spelt none rules checked unplaced.
     let old = c.args.work.now in let new : Work = numbered old c.ident.new.self in let names = c.in_ok-ident.ensures.keeps in let u = c.args.self.now in
     let trees = same_trees old new refl names in let apart = c.told_apart.ensures.idents in let told = c.told_apart.ensures.symbols in let ident = c.in_ok-ident.ident in
-    let k : Macro = record { scope = u.root; rules = c.args.rules; leaves = c.in_ok-leaves.leaves } in
+    let k : Macro = record { scope = u.root; rules = c.args.rules; leaves = c.in_ok-leaves.leaves; edition = 0 } in
     let t : Transformer Frames Identifier = record { env = []; rules = r } in
     let at = name_is old.symbols new.symbols ident c.args.name x c.in_ok-ident.ensures.ok spelt in
     let macro = macro_on old new trees names apart told ([] ∷ []) k t (record { scope = stands.rests.root; checked = (r, rules, checked); rules = rules; leaves = c.in_ok-leaves.ensures r rules unplaced }) in
@@ -73,7 +73,7 @@ pub returns-in-Free-clause-added : goal.returns-in-Free-clause-added
 returns-in-Free-clause-added c = λ s x r stands is spelt none rules checked unplaced.
     let old = c.args.work.now in let new : Work = numbered old c.ident.new.self in let names = c.in_ok-ident.ensures.keeps in let u = c.args.self.now in
     let trees = same_trees old new refl names in let apart = c.told_apart.ensures.idents in let told = c.told_apart.ensures.symbols in let ident = c.in_ok-ident.ident in
-    let k : Macro = record { scope = u.root; rules = c.args.rules; leaves = c.in_ok-leaves.leaves } in
+    let k : Macro = record { scope = u.root; rules = c.args.rules; leaves = c.in_ok-leaves.leaves; edition = 0 } in
     let t : Transformer Frames Identifier = record { env = []; rules = r } in
     let at = name_is old.symbols new.symbols ident c.args.name x c.in_ok-ident.ensures.ok spelt in
     let macro = macro_on old new trees names apart told ([] ∷ []) k t (record { scope = stands.rests.root; checked = (r, rules, checked); rules = rules; leaves = c.in_ok-leaves.ensures r rules unplaced }) in

@@ -151,3 +151,27 @@ returns-in_err-literals-clause-scopes c = c.instance.ensures.scopes ∙ c.begin_
 
 pub returns-clause-scopes : goal.returns-clause-scopes
 returns-clause-scopes c = c.instance.ensures.scopes ∙ c.begin_use.ensures.scopes
+
+pub returns-in_err-number-clause-trace : goal.returns-in_err-number-clause-trace
+returns-in_err-number-clause-trace c = c.begin_use.ensures.trace
+
+pub returns-in_err-tree-clause-trace : goal.returns-in_err-tree-clause-trace
+returns-in_err-tree-clause-trace c = c.instance.ensures.trace ∙ c.begin_use.ensures.trace
+
+pub returns-in_err-literals-clause-trace : goal.returns-in_err-literals-clause-trace
+returns-in_err-literals-clause-trace c = c.instance.ensures.trace ∙ c.begin_use.ensures.trace
+
+pub returns-clause-trace : goal.returns-clause-trace
+returns-clause-trace c = c.instance.ensures.trace ∙ c.begin_use.ensures.trace
+
+pub returns-in_err-number-clause-macros : goal.returns-in_err-number-clause-macros
+returns-in_err-number-clause-macros c = c.begin_use.ensures.macros
+
+pub returns-in_err-tree-clause-macros : goal.returns-in_err-tree-clause-macros
+returns-in_err-tree-clause-macros c = c.instance.ensures.macros ∙ c.begin_use.ensures.macros
+
+pub returns-in_err-literals-clause-macros : goal.returns-in_err-literals-clause-macros
+returns-in_err-literals-clause-macros c = c.instance.ensures.macros ∙ c.begin_use.ensures.macros
+
+pub returns-clause-macros : goal.returns-clause-macros
+returns-clause-macros c = c.instance.ensures.macros ∙ c.begin_use.ensures.macros

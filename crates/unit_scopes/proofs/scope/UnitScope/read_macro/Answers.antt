@@ -24,7 +24,7 @@ returns-in_err-count-clause-read c = λ known region ls s fs t r stands at for p
 pub returns-in_ok-leaves-in-Ok-clause-read : goal.returns-in_ok-leaves-in-Ok-clause-read
 returns-in_ok-leaves-in-Ok-clause-read c = λ known region ls s fs t r stands at for parts.
     let w = c.args.work.now in let u = c.args.self.now in let v = c.count.new.self in let here = c.args.here in
-    let k : Macro = record { scope = c.args.scope; rules = c.in-Ok.checked; leaves = c.in_ok-leaves-in-Ok.leaves } in
+    let k : Macro = record { scope = c.args.scope; rules = c.in-Ok.checked; leaves = c.in_ok-leaves-in-Ok.leaves; edition = 0 } in
     let counted = counted_rules known w region u v ls s here t r c.size.result (c.size.ensures t for) stands c.in_ok-count.ensures in
     let h = c.in-Ok.ensures t for in
     rules_end known here t r s w region u v ls parts counted.0 counted.1 (λ k rs. IsMacro w ls k (record { env = fs; rules = rs })) k h.0 h.1

@@ -10,6 +10,7 @@ use Rattle.unit_scopes.specs.Opened.{BindsImport}
 use Rattle.unit_scopes.specs.State.{is_program}
 use Rattle.unit_scopes.specs.declared.scope.Imported.{Imported}
 use Rattle.unit_scopes.specs.declared.scope.UnitScope.{UnitScope}
+use Rattle.unit_scopes.proofs.ForgottenLaws.{unit_owns}
 use Rattle.unit_scopes.proofs.FreshLaws.{unit_fresh}
 use Rattle.unit_scopes.proofs.ImportLaws.{Importing, importing_none, importing_more, other_root, unit_started}
 use Rattle.unit_scopes.proofs.scope.UnitScope.start_unit.Goals as goal
@@ -67,3 +68,9 @@ returns-clause-others c = λ v other new.
 
 pub returns-clause-fresh : goal.returns-clause-fresh
 returns-clause-fresh c = λ ls s imported units. unit_fresh c.args.work.now c.args.self.now c.args.unit (is_program c.args.kind) c.sound.ensures c.requires.new ls s imported units
+
+pub returns-clause-own : goal.returns-clause-own
+returns-clause-own c = λ all.
+    let l = c.loop-imported in
+    let w : UnitScope = record l.self { macros = record l.self.macros { locals = c.new-3.result }; unit = c.args.unit; kind = c.args.kind; root = c.in_ok-root.root; defined = c.new.result; asked = c.new-2.result } in
+    unit_owns c.args.self.now c.args.unit c.sound.ensures c.requires.new w l.invariant.roots l.invariant.scopes c.in_ok-root.ensures.ok all

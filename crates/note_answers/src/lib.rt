@@ -1,0 +1,6 @@
+//! Whether what a form asked has its answers still (R7RS 4.3, 5.3).
+#![tactic(auto)]
+
+mod answers;
+
+pub use answers::{has_answer, still_good};
