@@ -52,8 +52,8 @@ blank_is b unit form s d none fresh =
 no_budget : Budget
 no_budget = record { uses = 0; nodes = 0; locals = 0 }
 
-no_trace : Trace
-no_trace = record { definitions = []; keywords = []; uses = [] }
+no_trace : Trace → Trace
+no_trace trace = record trace { definitions = []; keywords = []; uses = [] }
 
 none_matched : {X Y : Type 0} (P : X → Y → Type 0) (ys : List Y) → AllMatch P [] ys → ys ≡ []
 none_matched P [] h = refl
@@ -78,11 +78,11 @@ module _ (b c : Bench) (trees : KeepsTrees b.work c.work) (names : KeepsNames b.
       space = h.space;
     }
 
-    fresh_on : (m : ℕ) → (m ≡ form → ⊥) → IsFresh s m → IsFresh t m
+    fresh_on : Trace → (m : ℕ) → (m ≡ form → ⊥) → IsFresh s m → IsFresh t m
     unfolding no_budget no_trace
-    fresh_on m apart fresh =
+    fresh_on trace m apart fresh =
         let less = stay.counts m apart in
-        let k = others_count form s t stay b.work c.work m no_budget no_trace apart names (none_count b.work s m no_budget no_trace fresh refl refl refl refl refl refl) in
+        let k = others_count form s t stay b.work c.work m no_budget (no_trace trace) apart names (none_count b.work s m no_budget (no_trace trace) fresh refl refl refl refl refl refl) in
         record {
           locals = less.locals ∙ fresh.locals;
           uses = less.uses ∙ fresh.uses;
@@ -92,11 +92,11 @@ module _ (b c : Bench) (trees : KeepsTrees b.work c.work) (names : KeepsNames b.
           definitions = none_matched (IsNumbered c.work.symbols m) (numbered_in t.unit m t.table) k.definitions;
         }
 
-    pub others_left : s.unit ≡ unit → LeavesOthers b c unit form s t
-    others_left own = record {
+    pub others_left : Trace → s.unit ≡ unit → LeavesOthers b c unit form s t
+    others_left trace own = record {
       number = stay.unit ∙ own;
       kept = others_kept;
-      fresh = fresh_on;
+      fresh = fresh_on trace;
       in_order = λ behind high order. order_stays form s t stay 0 behind (omega arith) high order;
     }
 
@@ -122,7 +122,7 @@ module _ (b c : Bench) (trees : KeepsTrees b.work c.work) (names : KeepsNames b.
           tops = tops;
           space = space;
         };
-        others = others_left b c trees names same s.unit form s p.1 stay refl;
+        others = others_left b c trees names same s.unit form s p.1 stay trace refl;
       }
 
   pub passes_at : (us : Vec code_waiting.WaitingUse Global) (xs : List code_item.Item) (e : FormFault) → Declares b.work c.work b.region b.scope c.scope before after ls form trace (Err (fault.At e)) p →
@@ -138,7 +138,7 @@ module _ (b c : Bench) (trees : KeepsTrees b.work c.work) (names : KeepsNames b.
           tops = tops;
           space = tt;
         };
-        others = others_left b c trees names same s.unit form s p.1 stay refl;
+        others = others_left b c trees names same s.unit form s p.1 stay trace refl;
       }
 
 -- ---- a form that is gone through once its tree was added
