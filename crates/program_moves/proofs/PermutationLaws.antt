@@ -3,7 +3,7 @@ use Rattle.std.proofs.Common.{◌≡◌, ◌≢◌, ℕ, ◌+◌, ◌<◌, ◌�
 use Rattle.std.proofs.lemmas.Bool.{cases_eq, cases_lt}
 use Rattle.std.proofs.lemmas.List.{get_or-set_same, get_or-set_other}
 use Rattle.moves.specs.Numbers.{moved, IsPermutation}
-use Rattle.moves.proofs.TableLaws.{moved_past}
+use Rattle.moves.proofs.TableLaws.{moved_past, moved_read}
 use Rattle.program_moves.specs.Permutations.{AreInverse}
 
 -- what is read after a write
@@ -125,6 +125,30 @@ module _ (new old : List ℕ) (h : AreInverse new old) (from to : ℕ) (from_wit
     back = λ n lt. back_at n (omega (arith, lt, new_length));
     there = λ n lt. there_at n (omega (arith, lt, new_length));
   }
+
+-- the same of values that are read
+module _ (new old : List ℕ) (h : AreInverse new old) (from to place other : ℕ) (from_within : from < length new) (to_within : to < length new) (place_is : place ≡ get_or new from place) (other_is : other ≡ get_or old to other) where
+  at_place : moved new from ≡ place
+  at_place = moved_read new from place from_within ∙ sym place_is
+
+  at_other : moved old to ≡ other
+  at_other = moved_read old to other (omega (arith, to_within, h.lengths)) ∙ sym other_is
+
+  pub read_place : place < length new
+  read_place = subst (λ (n : ℕ). n < length new) at_place (h.new_within from from_within)
+
+  pub read_other : other < length new
+  read_other = subst (λ (n : ℕ). n < length new) at_other (h.old_within to to_within)
+
+  pub read_inverse : AreInverse (set (set new other place) from to) (set (set old place other) to from)
+  read_inverse =
+      subst (λ (o : ℕ). AreInverse (set (set new o place) from to) (set (set old place o) to from)) at_other
+      (subst (λ (q : ℕ). AreInverse (set (set new (moved old to) q) from to) (set (set old q (moved old to)) to from)) at_place (inverse_after new old h from to from_within to_within))
+
+  pub read_others : (n : ℕ) → n ≢ from → moved new n ≢ to → moved (set (set new other place) from to) n ≡ moved new n
+  read_others n ne sent_there =
+      subst (λ (o : ℕ). moved (set (set new o place) from to) n ≡ moved new n) at_other
+      (subst (λ (q : ℕ). moved (set (set new (moved old to) q) from to) n ≡ moved new n) at_place (others new old h from to from_within to_within n ne sent_there))
 
 -- no two numbers become one
 pub permutes : (new old : List ℕ) → AreInverse new old → IsPermutation new

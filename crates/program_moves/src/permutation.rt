@@ -9,8 +9,8 @@ use std::alloc::Global;
 /// For each number its new one, and for each new number the old one.
 #[derive(Drop)]
 pub(crate) struct Permutation {
-    pub new: Vec<u32>,
-    pub old: Vec<u32>,
+    pub forth: Vec<u32>,
+    pub back: Vec<u32>,
 }
 
 /// The numbers below a length, in order.
@@ -28,30 +28,30 @@ fn counted(alloc: Global, len: u32) -> Mem<Vec<u32>>
 impl Permutation {
     /// Each number below a length is sent to itself.
     pub(crate) fn same(alloc: Global, len: u32) -> Mem<Permutation>
-        ensures inverse { IfOk result (λ p. AreInverse p.new.items p.old.items) }
-        ensures length { IfOk result (λ p. length p.new.items ≡ len) }
-        ensures same { IfOk result (λ p. (n : ℕ) → moved p.new.items n ≡ n) }
+        ensures inverse { IfOk result (λ p. AreInverse p.forth.items p.back.items) }
+        ensures length { IfOk result (λ p. length p.forth.items ≡ len) }
+        ensures same { IfOk result (λ p. (n : ℕ) → moved p.forth.items n ≡ n) }
     {
-        let new = counted(alloc, len)?;
-        let old = counted(alloc, len)?;
-        Ok(Permutation { new, old })
+        let forth = counted(alloc, len)?;
+        let back = counted(alloc, len)?;
+        Ok(Permutation { forth, back })
     }
 
     /// Sends a number to another. What was sent there is sent to where the number was sent before, and all else stays.
     pub(crate) fn send(&mut self, from: u32, to: u32)
-        requires inverse { AreInverse self.old.new.items self.old.old.items }
-        requires from { from < length self.old.new.items }
-        requires to { to < length self.old.new.items }
-        ensures inverse { AreInverse self.new.new.items self.new.old.items }
-        ensures length { length self.new.new.items ≡ length self.old.new.items }
-        ensures sent { moved self.new.new.items from ≡ to }
-        ensures others { (n : ℕ) → n ≢ from → moved self.old.new.items n ≢ to → moved self.new.new.items n ≡ moved self.old.new.items n }
+        requires inverse { AreInverse self.old.forth.items self.old.back.items }
+        requires from { from < length self.old.forth.items }
+        requires to { to < length self.old.forth.items }
+        ensures inverse { AreInverse self.new.forth.items self.new.back.items }
+        ensures length { length self.new.forth.items ≡ length self.old.forth.items }
+        ensures sent { moved self.new.forth.items from ≡ to }
+        ensures others { (n : ℕ) → n ≢ from → moved self.old.forth.items n ≢ to → moved self.new.forth.items n ≡ moved self.old.forth.items n }
     {
-        let place = self.new[from as usize];
-        let other = self.old[to as usize];
-        self.new[other as usize] = place;
-        self.old[place as usize] = other;
-        self.new[from as usize] = to;
-        self.old[to as usize] = from;
+        let place = self.forth[from as usize];
+        let other = self.back[to as usize];
+        self.forth[other as usize] = place;
+        self.back[place as usize] = other;
+        self.forth[from as usize] = to;
+        self.back[to as usize] = from;
     }
 }

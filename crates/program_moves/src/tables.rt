@@ -25,13 +25,13 @@ pub struct Home {
 
 /// Sends the numbers below a count behind a size, each by as much.
 fn send_behind(numbers: &mut Permutation, count: u32, size: u32)
-    requires inverse { AreInverse numbers.old.new.items numbers.old.old.items }
-    requires within { count + size ≤ length numbers.old.new.items }
-    requires same { (n : ℕ) → moved numbers.old.new.items n ≡ n }
-    ensures inverse { AreInverse numbers.new.new.items numbers.new.old.items }
-    ensures length { length numbers.new.new.items ≡ length numbers.old.new.items }
-    ensures sent { (n : ℕ) → n < count → moved numbers.new.new.items n ≡ size + n }
-    ensures between { (n : ℕ) → count ≤ n → n < size → moved numbers.new.new.items n ≡ n }
+    requires inverse { AreInverse numbers.old.forth.items numbers.old.back.items }
+    requires within { count + size ≤ length numbers.old.forth.items }
+    requires same { (n : ℕ) → moved numbers.old.forth.items n ≡ n }
+    ensures inverse { AreInverse numbers.new.forth.items numbers.new.back.items }
+    ensures length { length numbers.new.forth.items ≡ length numbers.old.forth.items }
+    ensures sent { (n : ℕ) → n < count → moved numbers.new.forth.items n ≡ size + n }
+    ensures between { (n : ℕ) → count ≤ n → n < size → moved numbers.new.forth.items n ≡ n }
 {
     for number in 0..count {
         numbers.send(number, size + number);
@@ -40,14 +40,14 @@ fn send_behind(numbers: &mut Permutation, count: u32, size: u32)
 
 /// Sends so many numbers, from one on, to those from another on.
 fn send_run(numbers: &mut Permutation, from: u32, to: u32, count: u32)
-    requires inverse { AreInverse numbers.old.new.items numbers.old.old.items }
-    requires from { from + count ≤ length numbers.old.new.items }
-    requires to { to + count ≤ length numbers.old.new.items }
-    ensures inverse { AreInverse numbers.new.new.items numbers.new.old.items }
-    ensures length { length numbers.new.new.items ≡ length numbers.old.new.items }
-    ensures sent { (i : ℕ) → i < count → moved numbers.new.new.items (from + i) ≡ to + i }
-    ensures others { (n : ℕ) → Outside from count n → Outside to count (moved numbers.old.new.items n) →
-        moved numbers.new.new.items n ≡ moved numbers.old.new.items n }
+    requires inverse { AreInverse numbers.old.forth.items numbers.old.back.items }
+    requires from { from + count ≤ length numbers.old.forth.items }
+    requires to { to + count ≤ length numbers.old.forth.items }
+    ensures inverse { AreInverse numbers.new.forth.items numbers.new.back.items }
+    ensures length { length numbers.new.forth.items ≡ length numbers.old.forth.items }
+    ensures sent { (i : ℕ) → i < count → moved numbers.new.forth.items (from + i) ≡ to + i }
+    ensures others { (n : ℕ) → Outside from count n → Outside to count (moved numbers.old.forth.items n) →
+        moved numbers.new.forth.items n ≡ moved numbers.old.forth.items n }
 {
     for place in 0..count {
         numbers.send(from + place, to + place);
@@ -68,7 +68,7 @@ fn form_numbers(alloc: Global, pair: &UnitPair) -> Mem<Vec<u32>>
     send_behind(&mut numbers, before, after);
     send_run(&mut numbers, 0, 0, front);
     send_run(&mut numbers, before - end, after - end, end);
-    Ok(numbers.new)
+    Ok(numbers.forth)
 }
 
 /// Whether included forms are at home in a unit.
@@ -115,14 +115,14 @@ fn forms_of(alloc: Global, pairs: &[UnitPair], homes: &[Home], unit: u32) -> Mem
 
 /// Sends each unit that goes on to its number after.
 fn send_pairs(numbers: &mut Permutation, pairs: &[UnitPair])
-    requires inverse { AreInverse numbers.old.new.items numbers.old.old.items }
-    requires length { prelude_unit < length numbers.old.new.items }
+    requires inverse { AreInverse numbers.old.forth.items numbers.old.back.items }
+    requires length { prelude_unit < length numbers.old.forth.items }
     requires pairs { ArePaired pairs.now }
-    requires behind { (u : ℕ) → u < prelude_unit → moved numbers.old.new.items u ≡ prelude_unit + 1 + u }
-    requires prelude { moved numbers.old.new.items prelude_unit ≡ prelude_unit }
-    ensures inverse { AreInverse numbers.new.new.items numbers.new.old.items }
-    ensures length { length numbers.new.new.items ≡ length numbers.old.new.items }
-    ensures sent { (u : ℕ) → u ≤ prelude_unit → moved numbers.new.new.items u ≡ (renumbering_of pairs.now).unit u }
+    requires behind { (u : ℕ) → u < prelude_unit → moved numbers.old.forth.items u ≡ prelude_unit + 1 + u }
+    requires prelude { moved numbers.old.forth.items prelude_unit ≡ prelude_unit }
+    ensures inverse { AreInverse numbers.new.forth.items numbers.new.back.items }
+    ensures length { length numbers.new.forth.items ≡ length numbers.old.forth.items }
+    ensures sent { (u : ℕ) → u ≤ prelude_unit → moved numbers.new.forth.items u ≡ (renumbering_of pairs.now).unit u }
 {
     for place in 0..pairs.len() {
         let pair = pairs[place];
@@ -132,14 +132,14 @@ fn send_pairs(numbers: &mut Permutation, pairs: &[UnitPair])
 
 /// Sends each home to its number after.
 fn send_homes(numbers: &mut Permutation, pairs: &[UnitPair], homes: &[Home])
-    requires inverse { AreInverse numbers.old.new.items numbers.old.old.items }
-    requires length { prelude_unit < length numbers.old.new.items }
+    requires inverse { AreInverse numbers.old.forth.items numbers.old.back.items }
+    requires length { prelude_unit < length numbers.old.forth.items }
     requires homes { AreHomes pairs.now homes.now }
-    requires sent { (u : ℕ) → u ≤ prelude_unit → moved numbers.old.new.items u ≡ (renumbering_of pairs.now).unit u }
-    ensures inverse { AreInverse numbers.new.new.items numbers.new.old.items }
-    ensures length { length numbers.new.new.items ≡ length numbers.old.new.items }
-    ensures homes { (i : ℕ) (h : Home) → slice_get homes.now i ≡ Some h → moved numbers.new.new.items h.before ≡ h.after }
-    ensures others { (u : ℕ) → u ≤ prelude_unit → sent.is_home homes.now u ≡ false → moved numbers.new.new.items u ≡ (renumbering_of pairs.now).unit u }
+    requires sent { (u : ℕ) → u ≤ prelude_unit → moved numbers.old.forth.items u ≡ (renumbering_of pairs.now).unit u }
+    ensures inverse { AreInverse numbers.new.forth.items numbers.new.back.items }
+    ensures length { length numbers.new.forth.items ≡ length numbers.old.forth.items }
+    ensures homes { (i : ℕ) (h : Home) → slice_get homes.now i ≡ Some h → moved numbers.new.forth.items h.before ≡ h.after }
+    ensures others { (u : ℕ) → u ≤ prelude_unit → sent.is_home homes.now u ≡ false → moved numbers.new.forth.items u ≡ (renumbering_of pairs.now).unit u }
 {
     for place in 0..homes.len() {
         let home = homes[place];
@@ -161,7 +161,7 @@ fn unit_numbers(alloc: Global, pairs: &[UnitPair], homes: &[Home]) -> Mem<Vec<u3
     send_behind(&mut numbers, UNITS, UNITS + 1);
     send_pairs(&mut numbers, pairs);
     send_homes(&mut numbers, pairs, homes);
-    Ok(numbers.new)
+    Ok(numbers.forth)
 }
 
 /// The numbers that units and forms get. Units that go on and their forms get the numbers of their pairs, homes those of theirs, and

@@ -7,7 +7,7 @@ use Rattle.program_moves.proofs.tables.send_pairs.Given as goal
 
 abbrev pub invariant-loop-place : goal.invariant-loop-place
 invariant-loop-place l = record {
-  inverse : AreInverse l.numbers.now.new.items l.numbers.now.old.items;
-  length : length l.numbers.now.new.items ≡ length l.numbers.old.new.items;
-  sent : (u : ℕ) → u ≤ prelude_unit → moved l.numbers.now.new.items u ≡ (renumbering_of (take l.place l.pairs)).unit u;
+  inverse : AreInverse l.numbers.forth.items l.numbers.back.items;
+  length : length l.numbers.forth.items ≡ length l.initial.numbers.forth.items;
+  sent : (u : ℕ) → u ≤ prelude_unit → moved l.numbers.forth.items u ≡ (renumbering_of (take l.place l.pairs)).unit u;
 }

@@ -6,8 +6,8 @@ use Rattle.program_moves.proofs.tables.send_run.Given as goal
 
 abbrev pub invariant-loop-place : goal.invariant-loop-place
 invariant-loop-place l = record {
-  inverse : AreInverse l.numbers.now.new.items l.numbers.now.old.items;
-  length : length l.numbers.now.new.items ≡ length l.numbers.old.new.items;
-  sent : (i : ℕ) → i < l.place → moved l.numbers.now.new.items (l.from + i) ≡ l.to + i;
-  others : (n : ℕ) → Outside l.from l.place n → Outside l.to l.place (moved l.numbers.old.new.items n) → moved l.numbers.now.new.items n ≡ moved l.numbers.old.new.items n;
+  inverse : AreInverse l.numbers.forth.items l.numbers.back.items;
+  length : length l.numbers.forth.items ≡ length l.initial.numbers.forth.items;
+  sent : (i : ℕ) → i < l.place → moved l.numbers.forth.items (l.from + i) ≡ l.to + i;
+  others : (n : ℕ) → Outside l.from l.place n → Outside l.to l.place (moved l.initial.numbers.forth.items n) → moved l.numbers.forth.items n ≡ moved l.initial.numbers.forth.items n;
 }
