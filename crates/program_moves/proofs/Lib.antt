@@ -1,0 +1,2 @@
+pub mod PermutationLaws  -- Numbers that change places
+pub mod PairLaws  -- What pairs tell of units and forms
