@@ -1,10 +1,10 @@
 -- The unit whose turn it is may forget what is local, and the bench goes on behind it with what is outside of all forms.
-use Rattle.std.proofs.Common.{◌≡◌, ℕ, List, [], map, true, Option, refl, sym, ap, ◌∙◌, subst}
+use Rattle.std.proofs.Common.{◌≡◌, ℕ, List, [], map, length, true, Option, refl, sym, ap, ◌∙◌, subst}
 use Rattle.scheme_model.specs.Entries.{Entry}
 use Rattle.scheme_model.specs.Requirements.{Known}
 use Rattle.scheme_model.specs.UnitExpansion.{Formed}
 use Rattle.scheme_model.specs.IncludedUnits.{Placed}
-use Rattle.scheme_model.specs.Program.{Prepared, SetResult, UnitResult, prepare, is_ready, enough_turns, unit_entries, with_entries}
+use Rattle.scheme_model.specs.Program.{Prepared, SetResult, UnitResult, prepared, prepare, is_ready, enough_turns, unit_entries, with_entries}
 use Rattle.scheme_model.specs.ScopedExpansion.{ScopedState}
 use Rattle.scheme_model.specs.ScopedProgram.{ScopedProgress, scoped_start_of, scoped_start_after, scoped_unit_over, scoped_work, scoped_before, after_unit}
 use Rattle.scheme_model.specs.Substitution.{Entries}
@@ -18,6 +18,8 @@ use Rattle.expansion_laws.proofs.SearchedPrograms.{unit_law}
 use Rattle.form_expansion.specs.Forms.{StandsAt, MayForget}
 use Rattle.form_expansion.specs.declared.forms.Bench.{Bench}
 use Rattle.program_expansion.specs.UnitResults.{GoesOn, IsTurnOf, expanded_after}
+use Rattle.document_units.specs.Turned.{scoped_at}
+use Rattle.program_expansion.proofs.TurnCited.{TurnOf}
 use Rattle.program_expansion.proofs.UnitGoes.{searched_goes}
 
 module _ (all : List Placed) (known : Known) (p : Prepared) (h : ScopedProgress) where
@@ -39,6 +41,9 @@ module _ (all : List Placed) (known : Known) (p : Prepared) (h : ScopedProgress)
   may_forget g turn o =
       subst (λ (k : ScopedProgress). is_ready all ps k.results p ≡ true → IsProgressOutside k h → MayForget known p (scoped_start_after all p k) (began k.results)) turn.reached
       (λ ready o. reached_forgets turn.count ready o) turn.ready o
+
+pub turn_is : (all : List Placed) (known : Known) (x : List ℕ) (n : ℕ) (turn : TurnOf all known x n) → IsTurnOf all known (scoped_at all known x) (prepared all n turn.unit)
+turn_is all known x n turn = record { count = length x; reached = turn.reached; ready = turn.ready }
 
 -- ---- behind the unit
 
