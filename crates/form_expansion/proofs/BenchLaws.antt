@@ -1,5 +1,5 @@
 -- What calls leave of a bench adds up, and units stand in a work that has grown.
-use Rattle.std.proofs.Common.{◌≡◌, ℕ, ◌+◌, ◌≤◌, List, take, Some, refl, sym, ap, ◌∙◌, subst}
+use Rattle.std.proofs.Common.{◌≡◌, ℕ, ◌+◌, ◌≤◌, List, take, refl, sym, ap, ◌∙◌, subst}
 use Rattle.std.specs.BTreeSet.{contains_text}
 use Rattle.std.specs.FinMap as map
 use Rattle.std.specs.Ordering.{nat_cmp}

@@ -2,7 +2,6 @@
 use Rattle.std.proofs.Common.{◌≡◌, ℕ, zero, suc, ◌+◌, List, [], ◌∷◌, ◌++◌, map, take, drop, reverse, length, slice_get, true, false, Option, Some, None, Result, Ok, refl, sym, ap, ◌∙◌, subst, inl, inr, arith, true≢false}
 use Rattle.std.specs.Prelude.{nat_lt}
 use Rattle.std.proofs.lemmas.List.{append_assoc, append-nil, length_push}
-use Rattle.scheme_model.specs.Ident.{Ident as Identifier}
 use Rattle.scheme_model.specs.Order.{Counted, Note}
 use Rattle.scheme_model.specs.Cores.{Parts, no_parts}
 use Rattle.scheme_model.specs.Steps.{Broken}

@@ -9,9 +9,8 @@ use Rattle.scheme_model.specs.Program.{Prepared, forms_at_work}
 use Rattle.scheme_model.specs.ScopedProgram.{forms_over}
 use Rattle.scheme_model.specs.UnitExpansion.{Formed, ◌then◌, max_total, nodes_in}
 use Rattle.scheme_model.specs.CountedExpansion.{counted}
-use Rattle.scheme_model.specs.FormsAlike.{bare_state}
 use Rattle.scheme_model.specs.Substitution.{Table}
-use Rattle.kept_forms.specs.KeptForms.{FormOrKept, LeftOrKept, form_of, numbers_of as kept_numbers}
+use Rattle.kept_forms.specs.KeptForms.{LeftOrKept, form_of}
 use Rattle.forgotten_locals.specs.Outside.{IsOutsideOf}
 use Rattle.forgotten_locals.specs.Ways.{firsts_by, seconds_by, unit_by}
 use Rattle.note_laws.specs.Searching.{none_kept, forms_anew}
@@ -21,7 +20,7 @@ use Rattle.macro_uses.specs.MacroUses.{total_of}
 use Rattle.macro_uses.specs.ScopedUses.{form_numbers}
 use Rattle.core_tree.specs.Units.{FormsStand, AreDefinitions, definitions_from, defined_by}
 use Rattle.core_tree.specs.declared.units.UnitForm as code_form
-use Rattle.unit_scopes.specs.Searched.{searched, searched_unit_over}
+use Rattle.unit_scopes.specs.Searched.{searched_unit_over}
 use Rattle.form_expansion.specs.Ends.{numbers_of, Rise}
 use Rattle.form_expansion.specs.Forms.{StandsOutside, StandsAt, MayForget, AreUnfolded, Unfolds, Passes, Finishes, CanFinishAll, used_by, numbers_left}
 use Rattle.form_expansion.specs.declared.forms.Bench.{Bench}

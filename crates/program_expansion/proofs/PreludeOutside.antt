@@ -1,13 +1,12 @@
 -- In the prelude nothing is local, and its macros stand outside of all frames.
-use Rattle.std.proofs.Common.{◌≡◌, ℕ, zero, suc, ◌<◌, List, [], ◌∷◌, map, length, slice_get, Bool, true, false, cond, Some, refl, sym, ap, ◌∙◌, subst, arith}
+use Rattle.std.proofs.Common.{◌≡◌, ℕ, ◌<◌, List, [], ◌∷◌, map, length, Bool, true, false, cond, Some, refl, sym, ap, ◌∙◌, subst, arith}
 use Rattle.std.specs.FinMap as finite
-use Rattle.std.specs.Ordering.{nat_cmp}
 use Rattle.std.proofs.lemmas.Option.{slice_get_within}
 use Rattle.scheme_model.specs.Prelude.{PreludeMacro, prelude}
-use Rattle.scheme_model.specs.Program.{is_standard, prelude_meaning}
+use Rattle.scheme_model.specs.Program.{is_standard}
 use Rattle.scheme_model.specs.Meaning.{Meaning}
 use Rattle.scheme_model.specs.Order.{Note}
-use Rattle.scheme_model.specs.ScopedExpansion.{Frames, FramedIdent, ScopedMacro, ScopedState}
+use Rattle.scheme_model.specs.ScopedExpansion.{FramedIdent, ScopedMacro, ScopedState}
 use Rattle.scheme_model.specs.ScopedProgram.{scoped_before}
 use Rattle.scheme_model.specs.FormsAlike.{bare_kept}
 use Rattle.form_laws.specs.Begins.{Each}

@@ -1,5 +1,5 @@
 -- The unit whose turn it is may forget what is local, and the bench goes on behind it with what is outside of all forms.
-use Rattle.std.proofs.Common.{◌≡◌, ℕ, List, [], map, length, true, Option, refl, sym, ap, ◌∙◌, subst}
+use Rattle.std.proofs.Common.{◌≡◌, ℕ, List, length, true, Option, refl, sym, ap, ◌∙◌, subst}
 use Rattle.scheme_model.specs.Entries.{Entry}
 use Rattle.scheme_model.specs.Requirements.{Known}
 use Rattle.scheme_model.specs.UnitExpansion.{Formed}
@@ -13,7 +13,6 @@ use Rattle.forgotten_locals.specs.Ways.{unit_by}
 use Rattle.forgotten_locals.specs.Programs.{IsProgressOutside}
 use Rattle.note_laws.specs.Searching.{searching, forms_anew}
 use Rattle.note_laws.proofs.SearchedLaws.{searching_forgets}
-use Rattle.unit_scopes.specs.Searched.{searched_unit_over}
 use Rattle.expansion_laws.proofs.SearchedPrograms.{unit_law}
 use Rattle.form_expansion.specs.Forms.{StandsAt, MayForget}
 use Rattle.form_expansion.specs.declared.forms.Bench.{Bench}

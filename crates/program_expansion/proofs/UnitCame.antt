@@ -11,7 +11,7 @@ use Rattle.scheme_model.specs.UnitExpansion.{Formed}
 use Rattle.scheme_model.specs.ScopedExpansion.{Frames, FramedIdent, ScopedState}
 use Rattle.scheme_model.specs.IncludedUnits.{Placed}
 use Rattle.scheme_model.specs.Program.{Prepared, SetResult, TooLarge, entry_meaning, with_entries, is_program, unit_result}
-use Rattle.scheme_model.specs.ScopedProgram.{ScopedProgress, scoped_start_of, after_unit}
+use Rattle.scheme_model.specs.ScopedProgram.{ScopedProgress, scoped_start_of}
 use Rattle.macro_uses.specs.MacroUses.{total_of}
 use Rattle.macro_uses.specs.ScopedUses.{form_numbers}
 use Rattle.syntax_tree.specs.Names.{Names, KeepsNames, AreToldApart}

@@ -1,9 +1,4 @@
 -- The form is finished, and what is local to it is forgotten.
-use Rattle.std.proofs.Common.{◌≡◌, ℕ, List, take, ◌+◌, refl, sym, ap, ◌∙◌, subst}
-use Rattle.scheme_model.specs.Order.{Note}
-use Rattle.scheme_model.specs.ScopedExpansion.{Frames, FramedIdent, ScopedState}
-use Rattle.form_expansion.specs.Forms.{StandsOutside}
-use Rattle.form_expansion.specs.declared.forms.Bench.{Bench}
 use Rattle.form_expansion.proofs.BenchLaws.{forgets_by, forgotten_same, stays_forgotten, stays_on}
 use Rattle.form_expansion.proofs.FormsFinish.{ends_outside}
 use Rattle.form_expansion.proofs.forms.finish_form.Goals as goal
