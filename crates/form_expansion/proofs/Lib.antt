@@ -1,7 +1,7 @@
 pub mod Live  -- Live nodes are no fewer in a work that keeps its trees
-pub mod BenchLaws  -- What calls leave of a bench adds up, and units stand in a work that has grown
 pub mod UnitForms  -- The forms of a unit by their numbers
 pub mod FormAtWork  -- While an item is expanded its form stays at work, and work may turn to another form at any time between
+pub mod BenchLaws  -- What calls leave of a bench adds up, and units stand in a work that has grown
 pub mod FormSteps  -- What a step of one form leaves of the others, and what the form itself has then
 pub mod DeclaredForms  -- What forms set aside stands, one form more at a time, and through steps of other forms
 mod RefusedLaws  -- Forms of which those that include a text are refused stand for those of the definition
