@@ -3,11 +3,14 @@ use Rattle.std.proofs.Common.{◌≡◌, ℕ, ◌<◌, List, [], ◌∷◌, map,
 use Rattle.std.specs.FinMap as finite
 use Rattle.std.proofs.lemmas.Option.{slice_get_within}
 use Rattle.scheme_model.specs.Prelude.{PreludeMacro, prelude}
-use Rattle.scheme_model.specs.Program.{is_standard}
-use Rattle.scheme_model.specs.Meaning.{Meaning}
+use Rattle.scheme_model.specs.Program.{is_standard, prelude_meaning, prelude_unit}
+use Rattle.scheme_model.specs.Ident.{Written}
+use Rattle.scheme_model.specs.Meaning.{Meaning, Global, Standard}
+use Rattle.scheme_model.specs.RulesShape.{rules_parts}
+use Rattle.scheme_model.specs.Trees.{proper}
 use Rattle.scheme_model.specs.Order.{Note}
 use Rattle.scheme_model.specs.ScopedExpansion.{FramedIdent, ScopedMacro, ScopedState}
-use Rattle.scheme_model.specs.ScopedProgram.{scoped_before}
+use Rattle.scheme_model.specs.ScopedProgram.{prelude_rules, scoped_before}
 use Rattle.scheme_model.specs.FormsAlike.{bare_kept}
 use Rattle.form_laws.specs.Begins.{Each}
 use Rattle.forgotten_locals.specs.Outside.{is_outside, macros_outside, IsOutside}
@@ -28,12 +31,17 @@ is_free : (b : Bool) (x y : Meaning) → is_outside x ≡ true → is_outside y 
 is_free true x y h k = h
 is_free false x y h k = k
 
+abbrev macro_of : PreludeMacro → ScopedMacro
+macro_of m = record { meaning = prelude_meaning m.name; frames = []; rules = prelude_rules (rules_parts m.parts proper) }
+
 abbrev macros_of : List PreludeMacro → List ScopedMacro
 macros_of ms = (prelude_state ms).macros
 
 none_local : (ms : List PreludeMacro) → macros_outside (macros_of ms) ≡ macros_of ms
 none_local [] = refl
-none_local (m ∷ ms) = ap (λ (b : Bool). cond b (_ ∷ macros_outside (macros_of ms)) (macros_outside (macros_of ms))) (is_free (is_standard m.name) _ _ refl refl) ∙ ap (λ (ks : List ScopedMacro). _ ∷ ks) (none_local ms)
+none_local (m ∷ ms) =
+    ap (λ (b : Bool). cond b (macro_of m ∷ macros_outside (macros_of ms)) (macros_outside (macros_of ms))) (is_free (is_standard m.name) (Standard m.name) (Global prelude_unit (Written prelude_unit m.name)) refl refl)
+    ∙ ap (λ (ks : List ScopedMacro). macro_of m ∷ ks) (none_local ms)
 
 all_at_root : (ms : List PreludeMacro) → Each (λ (k : ScopedMacro). k.frames ≡ []) (macros_of ms)
 all_at_root [] = tt
