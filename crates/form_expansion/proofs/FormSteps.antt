@@ -1,14 +1,19 @@
 -- What a step of one form leaves of the others, and what the form itself has then.
-use Rattle.std.proofs.Common.{◌≡◌, ℕ, ◌+◌, ◌*◌, ◌^◌, ◌≤◌, List, [], ◌∷◌, false, Option, Some, None, Ok, Err, Vec, Global, refl, sym, ◌∙◌, subst, arith}
+use Rattle.std.proofs.Common.{◌≡◌, ℕ, ◌+◌, ◌*◌, ◌^◌, ◌≤◌, List, [], ◌∷◌, take, false, Option, Some, None, Ok, Err, Vec, Global, refl, sym, ◌∙◌, subst, arith}
 use Rattle.scheme_model.specs.Ident.{Ident as Identifier}
 use Rattle.scheme_model.specs.Order.{Left, Pass}
 use Rattle.scheme_model.specs.ScopedExpansion.{Frames, FramedIdent, ScopedState}
 use Rattle.syntax_tree.specs.Names.{KeepsNames}
 use Rattle.syntax_tree.specs.Works.{KeepsTrees}
+use Rattle.syntax_tree.specs.declared.trees.Work.{Work}
 use Rattle.syntax_tree.specs.declared.trees.table.Region.{Region}
 use Rattle.core_tree.specs.Names.{AllMatch}
 use Rattle.core_tree.specs.declared.traces.FormFault.{FormFault}
 use Rattle.core_tree.specs.declared.traces.Trace.{Trace}
+use Rattle.forgotten_locals.specs.Outside.{outside, forgotten}
+use Rattle.root_laws.specs.AtRoot.{AllAtRoot}
+use Rattle.root_laws.proofs.RootStates.{outside_root}
+use Rattle.unit_scopes.specs.Forgotten.{AreAtRoot}
 use Rattle.unit_scopes.specs.Others.{OthersStay}
 use Rattle.unit_scopes.specs.State.{IsNumbered, numbered_in}
 use Rattle.unit_scopes.specs.Stepped.{IsFresh}
@@ -20,13 +25,15 @@ use Rattle.form_parts.specs.declared.items.Item as code_item
 use Rattle.form_parts.specs.declared.items.Left as code_left
 use Rattle.form_parts.specs.declared.items.WaitingUse as code_waiting
 use Rattle.unit_scopes.specs.declared.scope.Budget.{Budget}
+use Rattle.unit_scopes.specs.declared.scope.UnitScope.{UnitScope}
 use Rattle.expansion_laws.proofs.OtherForms.{others_itself}
 use Rattle.expansion_laws.proofs.OtherCounts.{others_count, order_stays}
 use Rattle.unit_scopes.proofs.FreshLaws.{none_count, none_has_space}
 use Rattle.expansion_laws.proofs.PartsStay.{fault_on, items_on, uses_on}
-use Rattle.form_expansion.specs.Forms.{Passing, IsUntouched, IsSetAside, HasSpaceLeft, IsDeclared, KeepsOthers, LeavesOthers, PassesTo}
+use Rattle.form_expansion.specs.Forms.{Passing, IsUntouched, IsSetAside, HasSpaceLeft, IsDeclared, KeepsOthers, LeavesOthers, PassesTo, PassesOutside}
 use Rattle.form_expansion.specs.declared.forms.Bench.{Bench}
 use Rattle.form_expansion.specs.declared.forms.Declared as code
+use Rattle.form_expansion.proofs.BenchLaws.{Forgets, stands_outside}
 
 -- ---- a form that isn't expanded
 
@@ -159,3 +166,44 @@ passes_from b m c trees names same unit form s own p d h =
         in_order = x.others.in_order;
       };
     }
+
+-- ---- what is local is forgotten behind it
+
+-- what forms counted, met and defined is no less there
+module _ (work : Work) (region : Region) (unit : ℕ) (s : ScopedState) where
+  pub declared_outside : (m : ℕ) (d : code.Declared) (r : Passing) → IsDeclared work region unit m s d r → IsDeclared work region unit m (outside s) d r
+  declared_outside m d r h =
+      let c = h.counts in record {
+        counts = record {
+          number = c.number;
+          locals = c.locals;
+          uses = c.uses;
+          nodes = c.nodes;
+          few_uses = c.few_uses;
+          few_nodes = c.few_nodes;
+          few_locals = c.few_locals;
+          definitions = c.definitions;
+          keywords = c.keywords;
+          met = c.met;
+        };
+        set_aside = h.set_aside;
+        tops = h.tops;
+        space = h.space;
+      }
+
+fresh_outside : (s : ScopedState) (m : ℕ) → IsFresh s m → IsFresh (outside s) m
+fresh_outside s m h = record { locals = h.locals; uses = h.uses; nodes = h.nodes; keywords = h.keywords; met = h.met; definitions = h.definitions }
+
+pub passes_outside : (b c : Bench) (u : UnitScope) → Forgets c u → (unit form : ℕ) (s : ScopedState) (p : Pass Identifier FramedIdent × ScopedState) (d : code.Declared) → PassesTo b c unit form s p d → AllAtRoot p.1 → AreAtRoot p.0.notes →
+    PassesOutside b (record c { scope = u }) unit form s (forgotten p) d
+passes_outside b c u f unit form s p d h macros notes = record {
+  layout = take (c.scope.root + 1) h.layout;
+  stands = stands_outside c u f h.layout p.1 p.0.notes h.stands (outside_root p.1 macros) notes;
+  form_is = declared_outside c.work c.region unit p.1 form d p.0.left h.form_is;
+  others = record {
+    number = h.others.number;
+    kept = λ m e r apart is. declared_outside c.work c.region unit p.1 m e r (h.others.kept m e r apart is);
+    fresh = λ m apart is. fresh_outside p.1 m (h.others.fresh m apart is);
+    in_order = h.others.in_order;
+  };
+}

@@ -1,5 +1,5 @@
 -- What a form set aside is expanded, once its macro uses are met: item by item, until all is or work on the unit ends.
-use Rattle.std.proofs.Common.{◌≡◌, ℕ, zero, suc, ◌+◌, ◌≤◌, ◌<◌, List, [], ◌∷◌, ◌++◌, map, drop, reverse, length, get_or, slice_get, true, false, Option, Some, None, Result, Ok, Err, refl, sym, ap, ◌∙◌, subst, arith, true≢false}
+use Rattle.std.proofs.Common.{◌≡◌, ℕ, zero, suc, ◌+◌, ◌≤◌, ◌<◌, List, [], ◌∷◌, ◌++◌, map, take, drop, reverse, length, get_or, slice_get, true, false, Option, Some, None, Result, Ok, Err, refl, sym, ap, ◌∙◌, subst, arith, true≢false}
 use Rattle.std.specs.Prelude.{nat_lt}
 use Rattle.std.specs.Option.{is_some}
 use Rattle.std.proofs.lemmas.Bool.{le-ltb}
@@ -13,7 +13,7 @@ use Rattle.scheme_model.specs.Expression.{expand, item_part}
 use Rattle.scheme_model.specs.Program.{enough_turns}
 use Rattle.scheme_model.specs.UnitExpansion.{max_depth, max_total, nodes_in, with_part, items_parts}
 use Rattle.scheme_model.specs.Requirements.{Known}
-use Rattle.scheme_model.specs.ScopedExpansion.{Frames, FramedIdent, ScopedState}
+use Rattle.scheme_model.specs.ScopedExpansion.{Frames, FramedIdent, ScopedMacro, ScopedState}
 use Rattle.syntax_tree.specs.Names.{KeepsNames}
 use Rattle.syntax_tree.specs.Works.{IsOpened, KeepsTrees, SameRegions, AddsIn, live_count}
 use Rattle.syntax_tree.specs.declared.trees.Work.{Work}
@@ -29,6 +29,12 @@ use Rattle.core_tree.specs.declared.traces.Trace.{Trace}
 use Rattle.core_tree.specs.declared.units.ExpandedItem.{ExpandedItem}
 use Rattle.core_tree.specs.declared.units.UnitForm as code_form
 use Rattle.feature_requirements.specs.Judged.{Knows}
+use Rattle.form_laws.specs.Begins.{Each}
+use Rattle.forgotten_locals.specs.Outside.{macros_outside, outside, forgotten}
+use Rattle.root_laws.specs.AtRoot.{AllAtRoot}
+use Rattle.root_laws.proofs.OutsideItems.{met_macros, item_outside}
+use Rattle.root_laws.proofs.RootStates.{nothing_local, outside_root}
+use Rattle.unit_scopes.specs.Forgotten.{AreAtRoot}
 use Rattle.unit_scopes.specs.Searched.{searched}
 use Rattle.unit_scopes.specs.State.{IsNumbered, numbered_in}
 use Rattle.unit_scopes.specs.Stepped.{turned}
@@ -46,12 +52,12 @@ use Rattle.unit_scopes.proofs.OutcomeLaws.{grows_itself}
 use Rattle.expansion_laws.proofs.ItemTables.{expanded_table, met_table}
 use Rattle.expansion_laws.proofs.OtherForms.{expanded_stays, met_stays}
 use Rattle.expansion_laws.proofs.TopForms.{expanded_binds}
-use Rattle.form_expansion.specs.Forms.{Passing, IsUntouched, IsSetAside, IsDeclared, KeepsOthers, HaveCounted, expanding, FinishesTo, FinishesForm, CanFinish, Stays, known_by}
+use Rattle.form_expansion.specs.Forms.{StandsOutside, Passing, IsUntouched, IsSetAside, IsDeclared, KeepsOthers, HaveCounted, expanding, FinishesTo, FinishesForm, EndsForm, CanFinish, Stays, known_by}
 use Rattle.form_expansion.specs.declared.forms.Bench.{Bench}
 use Rattle.form_expansion.specs.declared.forms.Declared as code
-use Rattle.form_expansion.proofs.BenchLaws.{stays_by, stays_on}
+use Rattle.form_expansion.proofs.BenchLaws.{Forgets, same_root, stands_outside, stays_by, stays_on}
 use Rattle.form_expansion.proofs.FormAtWork.{item_form, met_form, same_turned, unit_turned}
-use Rattle.form_expansion.proofs.FormSteps.{others_kept}
+use Rattle.form_expansion.proofs.FormSteps.{others_kept, declared_outside}
 use Rattle.form_expansion.proofs.Live.{live_on}
 use Rattle.core_tree.proofs.Matched.{matched_at}
 use Rattle.form_expansion.proofs.UnitForms.{same_counted, step_counted}
@@ -163,12 +169,14 @@ pub record Finishing (old new : Bench) (known : Known) (unit form : ℕ) (l : Le
   pub state : ScopedState
   pub notes : List (Note FramedIdent)
   pub stands : UnitStands new.work new.scope layout state notes
+  pub at_root : AreAtRoot notes
   pub counts : CountsFor new.work state form budget trace
   pub number : state.unit ≡ unit
   pub at_work : state.form ≡ form
   pub kept : KeepsOthers old new unit form s state
   pub uses : (m : ℕ) → (m ≡ form → ⊥) → state.uses m ≡ s.uses m
   pub table : state.table ≡ s.table
+  pub macros : macros_outside state.macros ≡ macros_outside s.macros
   pub parts : List Part
   pub stand : PartsStand new.work unit form (map (λ (i : ExpandedItem). i.part) items) (as_parts parts)
   pub tops : PartsBind false (as_parts parts)
@@ -181,7 +189,7 @@ abbrev pub with_scope : Bench → UnitScope → Bench
 with_scope b u = record b { scope = u }
 
 module _ (b : Bench) (u : UnitScope) (known : Known) (unit form : ℕ) (ls : List Frames) (s : ScopedState) (notes : List (Note FramedIdent)) (d : code.Declared) (l : Left Identifier) (own : s.unit ≡ unit) (h : IsDeclared b.work b.region unit form s d (Ok l)) (trace : Trace)
-    (stands : UnitStands b.work u ls (uses_met known form l.uses s) notes) (counts : CountsFor b.work (uses_met known form l.uses s) form d.budget trace) where
+    (stands : UnitStands b.work u ls (uses_met known form l.uses s) notes) (at_root : AreAtRoot notes) (counts : CountsFor b.work (uses_met known form l.uses s) form d.budget trace) where
   abbrev met : ScopedState
   met = uses_met known form l.uses s
 
@@ -204,12 +212,14 @@ module _ (b : Bench) (u : UnitScope) (known : Known) (unit form : ℕ) (ls : Lis
         state = met;
         notes = notes;
         stands = stands;
+        at_root = at_root;
         counts = counts;
         number = stay.unit ∙ own;
         at_work = met_form form known l.uses s;
         kept = others_kept b (with_scope b u) g.trees g.names refl unit form s met stay;
         uses = λ m apart. (stay.counts m apart).uses;
         table = met_table known form l.uses s;
+        macros = ap macros_outside (met_macros known form l.uses s);
         parts = [];
         stand = tt;
         tops = tt;
@@ -222,20 +232,18 @@ module _ (b : Bench) (u : UnitScope) (known : Known) (unit form : ℕ) (ls : Lis
 
 -- ---- a form that was broken before
 
-pub broken_before : (b : Bench) (known : Known) (unit form : ℕ) (ls : List Frames) (s : ScopedState) (notes : List (Note FramedIdent)) (d : code.Declared) (r : Passing) (total : ℕ) (e : FormFault) (k : code_form.UnitForm) → UnitStands b.work b.scope ls s notes → s.unit ≡ unit →
+pub broken_before : (b : Bench) (known : Known) (unit form : ℕ) (ls : List Frames) (s : ScopedState) (notes : List (Note FramedIdent)) (d : code.Declared) (r : Passing) (total : ℕ) (e : FormFault) (k : code_form.UnitForm) → StandsOutside b ls s notes → s.unit ≡ unit →
     IsDeclared b.work b.region unit form s d r → total ≤ max_total → d.fault ≡ Some e → k.fault ≡ Some e → k.trace.definitions ≡ d.trace.definitions → (steps : ℕ) → FinishesForm b b known unit form r s total total steps steps k
 broken_before b known unit form ls s notes d (Ok l) total e k stands own h few was fault told steps = absurd (subst (λ (f : Option FormFault). IsSetAside b.work b.region unit form d f (Ok l)) was h.set_aside)
 broken_before b known unit form ls s notes d (Err x) total e k stands own h few was fault told steps =
     record {
       finishes = record {
-        layout = ls;
         state = turned form s;
-        notes = notes;
-        stands = unit_turned b.work b.scope ls s form notes stands;
         number = own;
         kept = λ m c q apart is. declared_turned b.work b.region unit m form s c q is;
         uses = λ m apart. refl;
         table = refl;
+        macros = refl;
         result = Err x;
         met = (searched known).counted (turned form s);
         result_is = (e, fault, subst (λ (f : Option FormFault). IsSetAside b.work b.region unit form d f (Err x)) was h.set_aside);
@@ -243,12 +251,16 @@ broken_before b known unit form ls s notes d (Err x) total e k stands own h few 
             subst (λ (bs : List code_binder.Binder). AllMatch (IsNumbered b.work.symbols form) (reverse bs) (numbered_in unit form s.table)) (sym told)
             (subst (λ (u : ℕ). AllMatch (IsNumbered b.work.symbols form) (reverse d.trace.definitions) (numbered_in u form s.table)) own h.counts.definitions);
       };
+      layout = ls;
+      notes = notes;
+      stands = unit_turned b.work b.scope ls s form notes stands.stands;
+      at_root = stands.notes;
       goes = λ fs c. record { counted = turned_counted known form s fs ∙ c.counted; over = λ many. not_over total few many; whole = λ still. (Err x, refl, refl) };
       counted = refl;
       steps = refl;
     }
 
-pub broken_first : (b : Bench) (known : Known) (unit form : ℕ) (ls : List Frames) (s : ScopedState) (notes : List (Note FramedIdent)) (d : code.Declared) (r : Passing) (total : ℕ) (k : code_form.UnitForm) → UnitStands b.work b.scope ls s notes → s.unit ≡ unit →
+pub broken_first : (b : Bench) (known : Known) (unit form : ℕ) (ls : List Frames) (s : ScopedState) (notes : List (Note FramedIdent)) (d : code.Declared) (r : Passing) (total : ℕ) (k : code_form.UnitForm) → StandsOutside b ls s notes → s.unit ≡ unit →
     IsDeclared b.work b.region unit form s d r → total ≤ max_total → is_some d.fault ≡ true → k.fault ≡ d.fault → k.trace.definitions ≡ d.trace.definitions → (steps : ℕ) → FinishesForm b b known unit form r s total total steps steps k
 broken_first b known unit form ls s notes d r total k stands own h few is fault told steps = by d.fault refl is
   where
@@ -303,6 +315,9 @@ module _ (known : Known) (old b c : Bench) (unit form : ℕ) (l : Left Identifie
       step_table : step.1.table ≡ s.table
       step_table = expanded_table known form i h.state ∙ h.table
 
+      step_macros : macros_outside step.1.macros ≡ macros_outside s.macros
+      step_macros = item_outside known form i h.state ∙ h.macros
+
       -- the unit has counted so many nodes with it
       module _ (more : ℕ) (nodes : more + before_it.nodes ≡ total + after.nodes) (counts : CountsFor c.work step.1 form after next) (fs : List ℕ) (have : HaveCounted known fs form s start) where
         step_counts : nodes_in (searched known) fs step.1 ≡ more
@@ -352,12 +367,14 @@ module _ (known : Known) (old b c : Bench) (unit form : ℕ) (l : Left Identifie
             state = step.1;
             notes = h.notes;
             stands = goes.stands;
+            at_root = h.at_root;
             counts = goes.counts;
             number = step_unit;
             at_work = item_form form known i h.state;
             kept = step_kept;
             uses = step_uses;
             table = step_table;
+            macros = step_macros;
             parts = h.parts ++ e.0 ∷ [];
             stand =
                 subst (λ (xs : List code_part.CorePart). PartsStand c.work unit form xs (as_parts (h.parts ++ e.0 ∷ []))) (sym (map-append (λ (y : ExpandedItem). y.part) items (x ∷ [])))
@@ -377,14 +394,12 @@ module _ (known : Known) (old b c : Bench) (unit form : ℕ) (l : Left Identifie
           let goes = x.2 in
           record {
             finishes = record {
-              layout = goes.layout;
               state = step.1;
-              notes = h.notes;
-              stands = goes.stands;
               number = step_unit;
               kept = step_kept;
               uses = step_uses;
               table = step_table;
+              macros = step_macros;
               result = Err x.0;
               met = (searched known).counted step.1;
               result_is = (e, told, x.3);
@@ -392,6 +407,10 @@ module _ (known : Known) (old b c : Bench) (unit form : ℕ) (l : Left Identifie
                   subst (λ (bs : List code_binder.Binder). AllMatch (IsNumbered c.work.symbols form) (reverse bs) (numbered_in unit form step.1.table)) (sym defines)
                   (subst (λ (u : ℕ). AllMatch (IsNumbered c.work.symbols form) (reverse next.definitions) (numbered_in u form step.1.table)) step_unit goes.counts.definitions);
             };
+            layout = goes.layout;
+            notes = h.notes;
+            stands = goes.stands;
+            at_root = h.at_root;
             goes = λ fs have. record {
               counted = step_counts more nodes goes.counts fs have;
               over = λ many. step_over more nodes goes.counts fs have (Err x.0) x.1 many;
@@ -409,14 +428,12 @@ module _ (old b : Bench) (known : Known) (unit form : ℕ) (l : Left Identifier)
   finished_so =
       let t = h.state in
       record {
-        layout = h.layout;
         state = t;
-        notes = h.notes;
-        stands = h.stands;
         number = h.number;
         kept = h.kept;
         uses = h.uses;
         table = h.table;
+        macros = h.macros;
         result = Ok (as_parts h.parts);
         met = (searched known).counted (turned form t);
         result_is = record {
@@ -434,6 +451,10 @@ module _ (old b : Bench) (known : Known) (unit form : ℕ) (l : Left Identifier)
   unfolding finished_so
   form_finished all from to steps = record {
     finishes = finished_so;
+    layout = h.layout;
+    notes = h.notes;
+    stands = h.stands;
+    at_root = h.at_root;
     goes = λ fs have.
         let g = h.goes fs have in record {
           counted = g.counted;
@@ -446,6 +467,46 @@ module _ (old b : Bench) (known : Known) (unit form : ℕ) (l : Left Identifier)
         };
     counted = ap (λ (t : ScopedState). (searched known).counted t) (same_turned h.state form h.at_work);
     steps = steps ∙ ap (λ n. from + n) h.counts.uses;
+  }
+
+-- ---- what is local to it is forgotten
+
+module _ (old b : Bench) (u : UnitScope) (forgets : Forgets b u) (known : Known) (unit form : ℕ) (r : Passing) (s : ScopedState) (macros : AllAtRoot s) (before_it after from to : ℕ) (c : code_form.UnitForm) (h : FinishesForm old b known unit form r s before_it after from to c) where
+  abbrev then_ : ScopedState
+  then_ = h.finishes.state
+
+  outside_to : FinishesTo old (record b { scope = u }) unit form s c
+  outside_to =
+      let f = h.finishes in record {
+        state = outside then_;
+        number = f.number;
+        kept = λ m d q apart is. declared_outside b.work b.region unit then_ m d q (f.kept m d q apart is);
+        uses = f.uses;
+        table = f.table;
+        macros = ap (λ (t : ScopedState). t.macros) (nothing_local then_) ∙ f.macros;
+        result = f.result;
+        met = f.met;
+        result_is = f.result_is;
+        definitions = f.definitions;
+      }
+
+  pub ends_outside : EndsForm old (record b { scope = u }) known unit form r s before_it after from to c
+  unfolding outside_to
+  ends_outside = record {
+    finishes = outside_to;
+    layout = take (b.scope.root + 1) h.layout;
+    notes = h.notes;
+    stands =
+        stands_outside b u forgets h.layout then_ h.notes h.stands
+        (subst (λ (ks : List ScopedMacro). Each (λ (k : ScopedMacro). k.frames ≡ []) ks) (sym h.finishes.macros) (outside_root s macros)) h.at_root;
+    goes = λ fs have.
+        let g = h.goes fs have in record {
+          counted = same_counted (searched known) then_ (outside then_) (λ m. refl) fs ∙ g.counted;
+          over = λ many. ap (λ (q : Option (Result Parts Broken) × ScopedState). forgotten q) (g.over many);
+          whole = λ still. let w = g.whole still in (w.0, ap (λ (q : Option (Result Parts Broken) × ScopedState). forgotten q) w.1, w.2);
+        };
+    counted = h.counted;
+    steps = h.steps;
   }
 
 -- ---- the loop over a form's items
@@ -463,13 +524,18 @@ item_at (x ∷ xs) (suc k) d low = item_at xs k d (omega (arith, low))
 
 -- what came of the form so far, from each state that it may have begun in
 abbrev pub Continues : (old b : Bench) (unit form : ℕ) → code.Declared → (k start total : ℕ) → Budget → Trace → List ExpandedItem → Type 0
-Continues old b unit form d k start total budget trace items = (known : Known) (ls : List Frames) (s : ScopedState) (notes : List (Note FramedIdent)) (l : Left Identifier) → Knows old.scope.libraries known → UnitStands old.work old.scope ls s notes → s.unit ≡ unit →
+Continues old b unit form d k start total budget trace items = (known : Known) (ls : List Frames) (s : ScopedState) (notes : List (Note FramedIdent)) (l : Left Identifier) → Knows old.scope.libraries known → StandsOutside old ls s notes → s.unit ≡ unit →
     IsDeclared old.work old.region unit form s d (Ok l) → Finishing old b known unit form l s k start total budget trace items
 
 -- what comes of the form, from each state that it may begin in
 abbrev pub Finished : (old b : Bench) (unit form : ℕ) → code.Declared → (start total : ℕ) → (from to : ℕ) → code_form.UnitForm → Type 0
-Finished old b unit form d start total from to k = (known : Known) (ls : List Frames) (s : ScopedState) (notes : List (Note FramedIdent)) (r : Passing) → Knows old.scope.libraries known → UnitStands old.work old.scope ls s notes → s.unit ≡ unit →
+Finished old b unit form d start total from to k = (known : Known) (ls : List Frames) (s : ScopedState) (notes : List (Note FramedIdent)) (r : Passing) → Knows old.scope.libraries known → StandsOutside old ls s notes → s.unit ≡ unit →
     IsDeclared old.work old.region unit form s d r → FinishesForm old b known unit form r s start total from to k
+
+-- and where what is local to it is forgotten then
+abbrev pub Ended : (old b : Bench) (unit form : ℕ) → code.Declared → (start total : ℕ) → (from to : ℕ) → code_form.UnitForm → Type 0
+Ended old b unit form d start total from to k = (known : Known) (ls : List Frames) (s : ScopedState) (notes : List (Note FramedIdent)) (r : Passing) → Knows old.scope.libraries known → StandsOutside old ls s notes → s.unit ≡ unit →
+    IsDeclared old.work old.region unit form s d r → EndsForm old b known unit form r s start total from to k
 
 -- the call that meets the form's uses
 abbrev pub Meets : (b : Bench) (u : UnitScope) (form : ℕ) (budget : Budget) (trace next : Trace) → List code_waiting.WaitingUse → Type 0
@@ -489,17 +555,17 @@ module _ (b : Bench) (unit form : ℕ) (d : code.Declared) (none : d.fault ≡ N
 
   -- what the call demands
   pub can_meet : CanFinish b unit form d → CanDeclare b.work b.scope form d.budget d.trace
-  can_meet can = record { layout = can.layout; state = can.state; notes = can.notes; stands = can.stands; counts = can.form_is.counts }
+  can_meet can = record { layout = can.layout; state = can.state; notes = can.notes; stands = can.stands.stands; counts = can.form_is.counts }
 
   pub uses_wait : CanFinish b unit form d → (us : List (WaitingUse Identifier)) × AllMatch (WaitsFor b.work b.scope.unit form) d.uses.items us
-  uses_wait can = let l = left_of b.work b.region unit form can.state d can.result can.form_is none in (l.0.uses, waits_here can.layout can.state can.notes l.0 can.stands can.number l.1)
+  uses_wait can = let l = left_of b.work b.region unit form can.state d can.result can.form_is none in (l.0.uses, waits_here can.layout can.state can.notes l.0 can.stands.stands can.number l.1)
 
   module _ (u : UnitScope) (next : Trace) (call : Meets b u form d.budget d.trace next d.uses.items) where
     -- its uses are met, and no item is expanded
     pub uses_continue : (total : ℕ) → total ≤ max_total → Continues b (with_scope b u) unit form d 0 total total d.budget next []
     uses_continue total few known ls s notes l knows stands own h =
-        let m = call known ls s notes l.uses stands h.counts (waits_here ls s notes l stands own h) in
-        nothing_finished b u known unit form ls s notes d l own h next m.0 m.1 total few
+        let m = call known ls s notes l.uses stands.stands h.counts (waits_here ls s notes l stands.stands own h) in
+        nothing_finished b u known unit form ls s notes d l own h next m.0 stands.notes m.1 total few
 
     -- a form that isn't expanded has met nothing by now either
     pub still_blank : IsUntouched d → CanFinish b unit form d → IsBlankTrace next
@@ -507,7 +573,7 @@ module _ (b : Bench) (unit form : ℕ) (d : code.Declared) (none : d.fault ≡ N
         let s = can.state in
         let names = b.work.symbols in
         let was = can.form_is.counts in
-        let now = (call (known_by b.scope.libraries) can.layout s can.notes [] can.stands was (subst (λ (xs : List code_waiting.WaitingUse). AllMatch (WaitsFor b.work b.scope.unit form) xs []) (sym un.waiting) tt)).1 in
+        let now = (call (known_by b.scope.libraries) can.layout s can.notes [] can.stands.stands was (subst (λ (xs : List code_waiting.WaitingUse). AllMatch (WaitsFor b.work b.scope.unit form) xs []) (sym un.waiting) tt)).1 in
         record {
           definitions =
               none_reversed next.definitions
@@ -519,7 +585,7 @@ module _ (b : Bench) (unit form : ℕ) (d : code.Declared) (none : d.fault ≡ N
 pub uses_stay : (b : Bench) (u : UnitScope) → IsOpened b.work b.region → u ≡ record b.scope { form = u.form } → Stays b (with_scope b u)
 uses_stay b u opened is =
     let g = grows_itself b.work b.region in
-    stays_by b (with_scope b u) opened refl g.trees g.names g.added g.regions (ap (λ (v : UnitScope). v.env.roots) is) (ap (λ (v : UnitScope). v.libraries) is)
+    stays_by b (with_scope b u) opened refl g.trees g.names g.added g.regions (ap (λ (v : UnitScope). v.env.roots) is) (ap (λ (v : UnitScope). v.root) is) (ap (λ (v : UnitScope). v.libraries) is)
 
 module _ (old b : Bench) (unit form : ℕ) (d : code.Declared) (none : d.fault ≡ None) (stay : Stays old b) (k start total : ℕ) (before_it : Budget) (trace : Trace) (items : List ExpandedItem) (so : Continues old b unit form d k start total before_it trace items)
     (xs : List code_item.Item) (whole : xs ≡ d.aside) (x : code_item.Item) (low : k < length xs) (is : x ≡ get_or xs k x) where
@@ -566,19 +632,23 @@ module _ (old b : Bench) (unit form : ℕ) (d : code.Declared) (none : d.fault �
       abbrev left : (l : Left Identifier) × IsDeclared old.work old.region unit form can.state d (Ok l)
       left = left_of old.work old.region unit form can.state d can.result can.form_is none
 
+      step_root : (f : Finishing old b all_known unit form left.0 can.state k start total before_it trace items) (i : Item Identifier) (ms : List Frames) → UnitStands c.work c.scope ms (expanded all_known form i f.state).1 f.notes → c.scope.env.roots ≡ b.scope.env.roots →
+          c.scope.root ≡ b.scope.root
+      step_root f i ms after roots = same_root b.work c.work b.scope c.scope f.layout ms f.state (expanded all_known form i f.state).1 f.notes f.notes f.stands after (expanded_stays form all_known i f.state).unit roots
+
       pub ok_stays : (y : ExpandedItem) → Step b c form before_it after trace next x (Ok y) → Stays old c
       ok_stays y call =
           let f = so all_known can.layout can.state can.notes left.0 all_there can.stands can.number left.1 in
           let i = item_is all_known can.state left.0 left.1 f in
           let goes = (call all_known f.layout f.state f.notes i.item (stay.libraries all_known all_there) f.stands f.counts i.stands).2 in
-          stays_on old b c stay (stays_by b c stay.opened same trees names added regions goes.units goes.libraries)
+          stays_on old b c stay (stays_by b c stay.opened same trees names added regions goes.units (step_root f i.item goes.layout goes.stands goes.units) goes.libraries)
 
       pub at_stays : (e : FormFault) → Step b c form before_it after trace next x (Err (fault.At e)) → Stays old c × (before_it.nodes ≤ after.nodes)
       at_stays e call =
           let f = so all_known can.layout can.state can.notes left.0 all_there can.stands can.number left.1 in
           let i = item_is all_known can.state left.0 left.1 f in
           let gone = call all_known f.layout f.state f.notes i.item (stay.libraries all_known all_there) f.stands f.counts i.stands in (
-            stays_on old b c stay (stays_by b c stay.opened same trees names added regions gone.2.units gone.2.libraries),
+            stays_on old b c stay (stays_by b c stay.opened same trees names added regions gone.2.units (step_root f i.item gone.2.layout gone.2.stands gone.2.units) gone.2.libraries),
             counts_more all_known old b c unit form left.0 can.state k start total before_it after trace next items f i.item trees e gone,
           )
 

@@ -1,17 +1,17 @@
 -- What forms set aside is expanded, one form more at a time.
-use Rattle.std.proofs.Common.{◌≡◌, ℕ, zero, suc, ◌+◌, List, [], ◌∷◌, ◌++◌, map, drop, reverse, length, slice_get, true, false, Option, Some, None, Result, Ok, refl, sym, ap, ◌∙◌, subst, inl, inr, arith, true≢false}
+use Rattle.std.proofs.Common.{◌≡◌, ℕ, zero, suc, ◌+◌, List, [], ◌∷◌, ◌++◌, map, take, drop, reverse, length, slice_get, true, false, Option, Some, None, Result, Ok, refl, sym, ap, ◌∙◌, subst, inl, inr, arith, true≢false}
 use Rattle.std.specs.Prelude.{nat_lt}
 use Rattle.std.proofs.lemmas.List.{append_assoc, append-nil, length_push}
-use Rattle.scheme_model.specs.Ident.{Ident as Identifier}
-use Rattle.scheme_model.specs.Order.{Counted}
+use Rattle.scheme_model.specs.Order.{Counted, Note}
 use Rattle.scheme_model.specs.Cores.{Parts, no_parts}
 use Rattle.scheme_model.specs.Steps.{Broken}
-use Rattle.scheme_model.specs.Program.{enough_turns}
 use Rattle.scheme_model.specs.Substitution.{Defined, Table}
-use Rattle.scheme_model.specs.Expression.{expand}
-use Rattle.scheme_model.specs.UnitExpansion.{Formed, LeftOf, max_total, nodes_in, finished}
+use Rattle.scheme_model.specs.UnitExpansion.{Formed, max_total, nodes_in}
 use Rattle.scheme_model.specs.Requirements.{Known}
-use Rattle.scheme_model.specs.ScopedExpansion.{ScopedState}
+use Rattle.scheme_model.specs.ScopedExpansion.{Frames, FramedIdent, ScopedState}
+use Rattle.kept_forms.specs.KeptForms.{LeftOrKept}
+use Rattle.forgotten_locals.specs.Outside.{forgotten}
+use Rattle.forgotten_locals.specs.Ways.{seconds_by}
 use Rattle.macro_uses.specs.MacroUses.{total_of}
 use Rattle.syntax_tree.specs.Names.{Names, KeepsNames}
 use Rattle.syntax_tree.specs.Works.{KeepsTrees}
@@ -28,20 +28,21 @@ use Rattle.feature_requirements.specs.Judged.{Knows}
 use Rattle.unit_scopes.specs.Others.{InOrder}
 use Rattle.unit_scopes.specs.Searched.{searched}
 use Rattle.unit_scopes.specs.State.{numbered, IsNumbered, numbered_in}
-use Rattle.unit_scopes.specs.declared.scope.FormAtWork.{FormAtWork}
+use Rattle.unit_scopes.specs.Forgotten.{OwnFirst}
+use Rattle.unit_scopes.specs.declared.scope.UnitScope.{UnitScope}
 use Rattle.unit_scopes.proofs.CoreStandLaws.{every_on}
 use Rattle.unit_scopes.proofs.FormsDefine.{Tell, forms_define}
 use Rattle.unit_scopes.proofs.OutcomeLaws.{grows_itself}
 use Rattle.expansion_laws.proofs.PartsStay.{forms_on}
-use Rattle.form_expansion.specs.Ends.{numbers_of, Rise, IsAmong, Comes}
-use Rattle.form_expansion.specs.Forms.{IsUntouched, HaveCounted, expanding, FinishesTo, FinishesForm, CanFinish, CanFinishAll, FormsHeld, AreDeclared, AreFormed, Finishes, Stays, IsTurned, known_by}
+use Rattle.form_expansion.specs.Ends.{Rise, IsAmong, Comes}
+use Rattle.form_expansion.specs.Forms.{StandsOutside, IsUntouched, HaveCounted, expanding, FinishesTo, EndsForm, CanFinish, CanFinishAll, FormsHeld, AreDeclared, AreFormed, Finishes, Stays, IsForgotten, known_by, numbers_left}
 use Rattle.form_expansion.specs.declared.forms.Bench.{Bench}
 use Rattle.form_expansion.specs.declared.forms.Declared as code
 use Rattle.form_expansion.proofs.DeclaredForms.{declared_on}
-use Rattle.form_expansion.proofs.FormAtWork.{unit_apart}
-use Rattle.form_expansion.proofs.FormsFinish.{Finished, dropped_at}
-use Rattle.form_expansion.proofs.UnitForms.{among, step_total}
-use Rattle.form_expansion.proofs.UnitWalk.{behind, behind_none, behind_twice, finish_over, finish_on}
+use Rattle.form_expansion.proofs.FormsFinish.{Ended, with_scope, dropped_at}
+use Rattle.form_expansion.proofs.UnitForms.{step_total}
+use Rattle.form_expansion.proofs.UnitWalk.{behind, behind_none, behind_twice}
+use Rattle.form_expansion.proofs.OutsideWalk.{way, among_left, finish_over, finish_on}
 
 -- ---- lists
 
@@ -90,17 +91,17 @@ tell_more names form [] c n ds at h is = subst (λ (k : ℕ). Tell names k (c �
 tell_more names form (d ∷ cs) c n ds at h is = (h.0, tell_more names (suc form) cs c n ds (omega (arith, at)) h.1 is)
 
 pub next_finished : (b c : Bench) (unit place : ℕ) (ds : List code.Declared) (cs : List code_form.UnitForm) (k : code_form.UnitForm) (h : AreFinished b unit place ds cs) → KeepsTrees b.work c.work → KeepsNames b.work.symbols c.work.symbols →
-    FinishesTo b c unit place h.held.state k → AreFinished c unit (suc place) ds (cs ++ k ∷ [])
-next_finished b c unit place ds cs k h trees names f =
+    (f : FinishesTo b c unit place h.held.state k) (ls : List Frames) (notes : List (Note FramedIdent)) → StandsOutside c ls f.state notes → AreFinished c unit (suc place) ds (cs ++ k ∷ [])
+next_finished b c unit place ds cs k h trees names f ls notes stands =
     let was = h.held in
     let f_is : Formed = record { form = place; result = f.result; counted = f.met } in
     let at : place ≡ 0 + length cs = let e = h.count in omega (arith, e) in
     record {
       held = record {
-        layout = f.layout;
+        layout = ls;
         state = f.state;
-        notes = f.notes;
-        stands = f.stands;
+        notes = notes;
+        stands = stands;
         number = f.number;
         held = λ m d le is. let x = was.held m d (omega (arith, le)) is in (x.0, f.kept m d x.0 (λ same. omega (arith, le, same)) x.1);
         in_order =
@@ -131,22 +132,23 @@ all_finished_formed b unit place ds cs all h =
           h.tell;
     }
 
-pub can_finish : (b : Bench) (unit place : ℕ) (ds : List code.Declared) (h : FormsHeld b unit place ds) (d : code.Declared) → slice_get ds place ≡ Some d → CanFinish b unit place d
-can_finish b unit place ds h d at =
+can_finish : (b : Bench) (unit place : ℕ) (ds : List code.Declared) → OwnFirst b.scope → (h : FormsHeld b unit place ds) (d : code.Declared) → slice_get ds place ≡ Some d → CanFinish b unit place d
+can_finish b unit place ds first h d at =
     let x = h.held place d (omega arith) at in
-    record { layout = h.layout; state = h.state; notes = h.notes; stands = h.stands; number = h.number; result = x.0; form_is = x.1 }
+    record { layout = h.layout; state = h.state; notes = h.notes; stands = h.stands; first = first; number = h.number; result = x.0; form_is = x.1 }
 
 -- the same by the form's number
-pub can_finish_at : (b : Bench) (unit place : ℕ) (ds : List code.Declared) (h : FormsHeld b unit place ds) (n : ℕ) → n ≡ place → (d : code.Declared) → slice_get ds place ≡ Some d → CanFinish b unit n d
-can_finish_at b unit place ds h n same d at = subst (λ (m : ℕ). CanFinish b unit m d) (sym same) (can_finish b unit place ds h d at)
+pub can_finish_at : (b : Bench) (unit place : ℕ) (ds : List code.Declared) → OwnFirst b.scope → (h : FormsHeld b unit place ds) (n : ℕ) → n ≡ place → (d : code.Declared) → slice_get ds place ≡ Some d → CanFinish b unit n d
+can_finish_at b unit place ds first h n same d at = subst (λ (m : ℕ). CanFinish b unit m d) (sym same) (can_finish b unit place ds first h d at)
 
 -- as it is left by the call that expands the form
 pub finished_at : (b c : Bench) (unit place : ℕ) (ds : List code.Declared) (cs : List code_form.UnitForm) (k : code_form.UnitForm) (h : AreFinished b unit place ds cs) → KeepsTrees b.work c.work → KeepsNames b.work.symbols c.work.symbols →
-    (d : code.Declared) → slice_get ds place ≡ Some d → (start total : ℕ) (from to : ℕ) → Finished b c unit place d start total from to k → AreFinished c unit (suc place) ds (cs ++ k ∷ [])
+    (d : code.Declared) → slice_get ds place ≡ Some d → (start total : ℕ) (from to : ℕ) → Ended b c unit place d start total from to k → AreFinished c unit (suc place) ds (cs ++ k ∷ [])
 finished_at b c unit place ds cs k h trees names d at start total from to so =
     let was = h.held in
     let x = was.held place d (omega arith) at in
-    next_finished b c unit place ds cs k h trees names (so (known_by b.scope.libraries) was.layout was.state was.notes x.0 (λ l _. refl) was.stands was.number x.1).finishes
+    let f = so (known_by b.scope.libraries) was.layout was.state was.notes x.0 (λ l _. refl) was.stands was.number x.1 in
+    next_finished b c unit place ds cs k h trees names f.finishes f.layout f.notes f.stands
 
 -- ---- a form that isn't expanded
 
@@ -167,24 +169,18 @@ none_matched {X} {Y} P xs ys none h = by ys (subst (λ (zs : List X). AllMatch P
     by [] h = refl
     by (z ∷ zs) h = absurd h
 
--- with this form at work
-abbrev at_work : Bench → FormAtWork → Bench
-at_work b w = record b { scope = record b.scope { form = w } }
-
 -- a form that isn't expanded changes nothing
-blank_to : (b : Bench) (w : FormAtWork) (unit place : ℕ) (ds : List code.Declared) (h : FormsHeld b unit place ds) (d : code.Declared) (k : code_form.UnitForm) → slice_get ds place ≡ Some d → IsUntouched d → IsBlank k → FinishesTo b (at_work b w) unit place h.state k
-blank_to b w unit place ds h d k at none blank =
+blank_to : (b : Bench) (u : UnitScope) (unit place : ℕ) (ds : List code.Declared) (h : FormsHeld b unit place ds) (d : code.Declared) (k : code_form.UnitForm) → slice_get ds place ≡ Some d → IsUntouched d → IsBlank k → FinishesTo b (with_scope b u) unit place h.state k
+blank_to b u unit place ds h d k at none blank =
     let x = h.held place d (omega arith) at in
     let defined : numbered_in h.state.unit place h.state.table ≡ [] = none_matched (IsNumbered b.work.symbols place) d.trace.definitions (numbered_in h.state.unit place h.state.table) none.definitions x.1.counts.definitions in
     record {
-      layout = h.layout;
       state = h.state;
-      notes = h.notes;
-      stands = unit_apart b.work b.scope w h.layout h.state h.notes h.stands;
       number = h.number;
       kept = λ m c r apart is. is;
       uses = λ m apart. refl;
       table = refl;
+      macros = refl;
       result = Ok no_parts;
       met = record { locals = 0; uses = 0; nodes = 0; keywords = []; met = [] };
       result_is = record {
@@ -201,13 +197,13 @@ blank_to b w unit place ds h d k at none blank =
 
 -- ---- the definition's forms, as they are finished
 
-module _ (known : Known) (unit : ℕ) (rs : List (LeftOf Identifier)) (s : ScopedState) (rise : Rise 0 (numbers_of rs)) (ds : List code.Declared) (first : ℕ) where
+module _ (known : Known) (unit : ℕ) (rs : List LeftOrKept) (s : ScopedState) (rise : Rise 0 (numbers_left rs)) (ds : List code.Declared) (first : ℕ) where
   -- what is still to come of forms
-  abbrev to_come : List (LeftOf Identifier) → ScopedState → Option (List Formed) × ScopedState
-  to_come rest t = finished (searched known) (expand (searched known) enough_turns) [] (numbers_of rs) rest t
+  abbrev to_come : List LeftOrKept → ScopedState → Option (List Formed) × ScopedState
+  to_come rest t = seconds_by way known (numbers_left rs) rest t
 
   -- so many are finished, and none made the nodes too many
-  pub record GoneOn (b : Bench) (place : ℕ) (cs : List code_form.UnitForm) (rest : List (LeftOf Identifier)) (t : ScopedState) : Type 0 where
+  pub record GoneOn (b : Bench) (place : ℕ) (cs : List code_form.UnitForm) (rest : List LeftOrKept) (t : ScopedState) : Type 0 where
     pub gone : List Formed
     pub forms : FormsStand b.work unit 0 cs gone
     pub left : AreDeclared b.work b.region unit place t (drop place ds) rest
@@ -216,13 +212,13 @@ module _ (known : Known) (unit : ℕ) (rs : List (LeftOf Identifier)) (s : Scope
   -- so many are finished, or as many as it took to count too many nodes
   pub record AllSo (b : Bench) (total place now : ℕ) (cs : List code_form.UnitForm) : Type 0 where
     pub base : AreFinished b unit place ds cs
-    pub front : List (LeftOf Identifier)
-    pub rest : List (LeftOf Identifier)
+    pub front : List LeftOrKept
+    pub rest : List LeftOrKept
     pub parted : front ++ rest ≡ rs
-    pub counted : nodes_in (searched known) (numbers_of rs) base.held.state ≡ total
+    pub counted : nodes_in (searched known) (numbers_left rs) base.held.state ≡ total
     pub over : nat_lt max_total total ≡ true → to_come rs s ≡ (None, base.held.state)
     pub on : nat_lt max_total total ≡ false → GoneOn b place cs rest base.held.state
-    pub steps : now + total_of s.uses (numbers_of rs) ≡ first + total_of base.held.state.uses (numbers_of rs)
+    pub steps : now + total_of s.uses (numbers_left rs) ≡ first + total_of base.held.state.uses (numbers_left rs)
 
   pub none_so : (b : Bench) (h : FormsHeld b unit 0 ds) (total : ℕ) → h.state ≡ s → CanFinishAll b unit known rs s total ds → AllSo b total 0 first []
   unfolding none_finished
@@ -231,7 +227,7 @@ module _ (known : Known) (unit : ℕ) (rs : List (LeftOf Identifier)) (s : Scope
     front = [];
     rest = rs;
     parted = refl;
-    counted = ap (λ (t : ScopedState). nodes_in (searched known) (numbers_of rs) t) same ∙ can.counted;
+    counted = ap (λ (t : ScopedState). nodes_in (searched known) (numbers_left rs) t) same ∙ can.counted;
     over = λ many. absurd (true≢false (sym many ∙ can.few));
     on = λ few. record {
       gone = [];
@@ -239,7 +235,7 @@ module _ (known : Known) (unit : ℕ) (rs : List (LeftOf Identifier)) (s : Scope
       left = subst (λ (t : ScopedState). AreDeclared b.work b.region unit 0 t ds rs) (sym same) can.forms;
       goes = ap (λ (t : ScopedState). to_come rs t) (sym same) ∙ sym (behind_none (to_come rs h.state));
     };
-    steps = ap (λ (t : ScopedState). first + total_of t.uses (numbers_of rs)) (sym same);
+    steps = ap (λ (t : ScopedState). first + total_of t.uses (numbers_left rs)) (sym same);
   }
 
   module _ (b : Bench) (total place so_many : ℕ) (cs : List code_form.UnitForm) (a : AllSo b total place so_many cs) (few : nat_lt max_total total ≡ false) (d : code.Declared) (at : slice_get ds place ≡ Some d) (k : code_form.UnitForm) where
@@ -250,12 +246,13 @@ module _ (known : Known) (unit : ℕ) (rs : List (LeftOf Identifier)) (s : Scope
     so_far = a.on few
 
     -- one that isn't expanded
-    blank_so : (w : FormAtWork) → IsUntouched d → IsBlank k → AreDeclared b.work b.region unit (suc place) was (drop (suc place) ds) a.rest → AllSo (at_work b w) total (suc place) so_many (cs ++ k ∷ [])
+    blank_so : (u : UnitScope) → StandsOutside (with_scope b u) (take (b.scope.root + 1) a.base.held.layout) was a.base.held.notes → IsUntouched d → IsBlank k → AreDeclared b.work b.region unit (suc place) was (drop (suc place) ds) a.rest →
+        AllSo (with_scope b u) total (suc place) so_many (cs ++ k ∷ [])
     unfolding next_finished blank_to
-    blank_so w none blank left =
+    blank_so u stands none blank left =
         let g = grows_itself b.work b.region in
         record {
-          base = next_finished b (at_work b w) unit place ds cs k a.base g.trees g.names (blank_to b w unit place ds a.base.held d k at none blank);
+          base = next_finished b (with_scope b u) unit place ds cs k a.base g.trees g.names (blank_to b u unit place ds a.base.held d k at none blank) (take (b.scope.root + 1) a.base.held.layout) a.base.held.notes stands;
           front = a.front;
           rest = a.rest;
           parted = a.parted;
@@ -266,57 +263,57 @@ module _ (known : Known) (unit : ℕ) (rs : List (LeftOf Identifier)) (s : Scope
         }
 
     -- one that is
-    module _ (c : Bench) (after : ℕ) (trees : KeepsTrees b.work c.work) (names : KeepsNames b.work.symbols c.work.symbols) (r : LeftOf Identifier) (rest : List (LeftOf Identifier)) (parted : a.front ++ r ∷ rest ≡ rs) (others : a.rest ≡ r ∷ rest) (here : r.0 ≡ place)
-        (left : AreDeclared b.work b.region unit (suc place) was (drop (suc place) ds) rest) (to : ℕ) (f : FinishesForm b c known unit place r.1 was total after so_many to k) where
+    module _ (c : Bench) (after : ℕ) (trees : KeepsTrees b.work c.work) (names : KeepsNames b.work.symbols c.work.symbols) (r : LeftOrKept) (rest : List LeftOrKept) (parted : a.front ++ r ∷ rest ≡ rs) (others : a.rest ≡ r ∷ rest) (here : r.form ≡ place)
+        (left : AreDeclared b.work b.region unit (suc place) was (drop (suc place) ds) rest) (to : ℕ) (f : EndsForm b c known unit place r.left was total after so_many to k) where
       abbrev now : ScopedState
       now = f.finishes.state
 
       abbrev row : Formed
-      row = record { form = r.0; result = f.finishes.result; counted = (searched known).counted now }
+      row = record { form = r.form; result = f.finishes.result; counted = (searched known).counted now }
 
-      counting : HaveCounted known (numbers_of rs) place was total
+      counting : HaveCounted known (numbers_left rs) place was total
       counting = record {
         rise = rise;
-        among = subst (λ (n : ℕ). IsAmong n (numbers_of rs)) here (subst (λ (qs : List (LeftOf Identifier)). IsAmong r.0 (numbers_of qs)) parted (among a.front rest r));
+        among = subst (λ (n : ℕ). IsAmong n (numbers_left rs)) here (subst (λ (qs : List LeftOrKept). IsAmong r.form (numbers_left qs)) parted (among_left a.front rest r));
         counted = a.counted;
       }
 
-      came : Comes (searched known) (numbers_of rs) (expanding known (numbers_of rs) place r.1 was) after now (λ (given : Result Parts Broken). given ≡ f.finishes.result)
-      came = f.goes (numbers_of rs) counting
+      came : Comes (searched known) (numbers_left rs) (forgotten (expanding known (numbers_left rs) place r.left was)) after now (λ (given : Result Parts Broken). given ≡ f.finishes.result)
+      came = f.goes (numbers_left rs) counting
 
       -- the form's own number is its place
-      at_turn : expanding known (numbers_of rs) r.0 r.1 was ≡ expanding known (numbers_of rs) place r.1 was
-      at_turn = ap (λ (n : ℕ). expanding known (numbers_of rs) n r.1 was) here
+      at_turn : forgotten (expanding known (numbers_left rs) r.form r.left was) ≡ forgotten (expanding known (numbers_left rs) place r.left was)
+      at_turn = ap (λ (n : ℕ). forgotten (expanding known (numbers_left rs) n r.left was)) here
 
       before_it : to_come rs s ≡ behind so_far.gone (to_come (r ∷ rest) was)
-      before_it = so_far.goes ∙ ap (λ (qs : List (LeftOf Identifier)). behind so_far.gone (to_come qs was)) others
+      before_it = so_far.goes ∙ ap (λ (qs : List LeftOrKept). behind so_far.gone (to_come qs was)) others
 
       next_over : nat_lt max_total after ≡ true → to_come rs s ≡ (None, now)
-      next_over many = before_it ∙ ap (behind so_far.gone) (finish_over (searched known) (numbers_of rs) (expand (searched known) enough_turns) [] r rest was now (at_turn ∙ came.over many))
+      next_over many = before_it ∙ ap (behind so_far.gone) (finish_over known (numbers_left rs) r rest was now (at_turn ∙ came.over many))
 
       next_on : nat_lt max_total after ≡ false → to_come rs s ≡ behind (so_far.gone ++ row ∷ []) (to_come rest now)
       next_on still =
           let w = came.whole still in
           before_it
-          ∙ (ap (behind so_far.gone) (finish_on (searched known) (numbers_of rs) (expand (searched known) enough_turns) [] r rest was f.finishes.result now (at_turn ∙ (w.1 ∙ ap (λ (q : Result Parts Broken). (Some q, now)) w.2)))
+          ∙ (ap (behind so_far.gone) (finish_on known (numbers_left rs) r rest was f.finishes.result now (at_turn ∙ (w.1 ∙ ap (λ (q : Result Parts Broken). (Some q, now)) w.2)))
           ∙ behind_twice so_far.gone (row ∷ []) (to_come rest now))
 
-      result_is : IsResult c.work unit r.0 k f.finishes.result ((searched known).counted now)
+      result_is : IsResult c.work unit r.form k f.finishes.result ((searched known).counted now)
       result_is =
           subst (λ (n : ℕ). IsResult c.work unit n k f.finishes.result ((searched known).counted now)) (sym here)
           (subst (λ (m : Counted). IsResult c.work unit place k f.finishes.result m) f.counted f.finishes.result_is)
 
       -- each macro use was a step
-      next_steps : to + total_of s.uses (numbers_of rs) ≡ first + total_of now.uses (numbers_of rs)
+      next_steps : to + total_of s.uses (numbers_left rs) ≡ first + total_of now.uses (numbers_left rs)
       next_steps =
-          let more = step_total place was.uses now.uses f.finishes.uses 0 (numbers_of rs) rise counting.among in let here = f.steps in let before = a.steps in omega (arith, more, here, before)
+          let more = step_total place was.uses now.uses f.finishes.uses 0 (numbers_left rs) rise counting.among in let here = f.steps in let before = a.steps in omega (arith, more, here, before)
 
       next_so : AllSo c after (suc place) to (cs ++ k ∷ [])
       unfolding next_finished
       next_so =
-          let count : r.0 ≡ 0 + length cs = let e = a.base.count in omega (arith, e, here) in
+          let count : r.form ≡ 0 + length cs = let e = a.base.count in omega (arith, e, here) in
           record {
-            base = next_finished b c unit place ds cs k a.base trees names f.finishes;
+            base = next_finished b c unit place ds cs k a.base trees names f.finishes f.layout f.notes f.stands;
             front = a.front ++ r ∷ [];
             rest = rest;
             parted = append_assoc a.front (r ∷ []) rest ∙ parted;
@@ -335,30 +332,32 @@ module _ (known : Known) (unit : ℕ) (rs : List (LeftOf Identifier)) (s : Scope
     next_is = dropped_at ds place d at
 
     -- either
-    pub one_so : (c : Bench) (after to : ℕ) → KeepsTrees b.work c.work → KeepsNames b.work.symbols c.work.symbols → Knows b.scope.libraries known → (IsUntouched d → IsBlank k) → (IsUntouched d → IsTurned b c × (after ≡ total) × (to ≡ so_many)) → Finished b c unit place d total after so_many to k →
+    pub one_so : (c : Bench) (after to : ℕ) → KeepsTrees b.work c.work → KeepsNames b.work.symbols c.work.symbols → Knows b.scope.libraries known → (IsUntouched d → IsBlank k) → (IsUntouched d → IsForgotten b c × (after ≡ total) × (to ≡ so_many)) → Ended b c unit place d total after so_many to k →
         AllSo c after (suc place) to (cs ++ k ∷ [])
     one_so c after to trees names knows blank same so = by a.rest refl (subst (λ (es : List code.Declared). AreDeclared b.work b.region unit place was es a.rest) next_is so_far.left)
       where
         none : IsUntouched d → AreDeclared b.work b.region unit (suc place) was (drop (suc place) ds) a.rest → AllSo c after (suc place) to (cs ++ k ∷ [])
         none un left =
-            subst (λ (e : Bench). AllSo e after (suc place) to (cs ++ k ∷ [])) (sym (same un).0)
-            (subst (λ (n : ℕ). AllSo (at_work b c.scope.form) n (suc place) to (cs ++ k ∷ [])) (sym (same un).1)
-            (subst (λ (n : ℕ). AllSo (at_work b c.scope.form) total (suc place) n (cs ++ k ∷ [])) (sym (same un).2) (blank_so c.scope.form un (blank un) left)))
+            let f = (same un).0 in
+            let stands = subst (λ (e : Bench). StandsOutside e (take (b.scope.root + 1) a.base.held.layout) was a.base.held.notes) f.same (f.stands a.base.held.layout was a.base.held.notes a.base.held.stands) in
+            subst (λ (e : Bench). AllSo e after (suc place) to (cs ++ k ∷ [])) (sym f.same)
+            (subst (λ (n : ℕ). AllSo (with_scope b c.scope) n (suc place) to (cs ++ k ∷ [])) (sym (same un).1)
+            (subst (λ (n : ℕ). AllSo (with_scope b c.scope) total (suc place) n (cs ++ k ∷ [])) (sym (same un).2) (blank_so c.scope stands un (blank un) left)))
 
-        by : (rest : List (LeftOf Identifier)) → a.rest ≡ rest → AreDeclared b.work b.region unit place was (d ∷ drop (suc place) ds) rest → AllSo c after (suc place) to (cs ++ k ∷ [])
-        by [] is h = none h.0 (subst (λ (qs : List (LeftOf Identifier)). AreDeclared b.work b.region unit (suc place) was (drop (suc place) ds) qs) (sym is) h.1)
+        by : (rest : List LeftOrKept) → a.rest ≡ rest → AreDeclared b.work b.region unit place was (d ∷ drop (suc place) ds) rest → AllSo c after (suc place) to (cs ++ k ∷ [])
+        by [] is h = none h.0 (subst (λ (qs : List LeftOrKept). AreDeclared b.work b.region unit (suc place) was (drop (suc place) ds) qs) (sym is) h.1)
         by (r ∷ rest) is h = elim h [
-          | inl un ↦ none un.0 (subst (λ (qs : List (LeftOf Identifier)). AreDeclared b.work b.region unit (suc place) was (drop (suc place) ds) qs) (sym is) un.2)
+          | inl un ↦ none un.0 (subst (λ (qs : List LeftOrKept). AreDeclared b.work b.region unit (suc place) was (drop (suc place) ds) qs) (sym is) un.2)
           | inr made ↦
-              next_so c after trees names r rest (ap (λ (qs : List (LeftOf Identifier)). a.front ++ qs) (sym is) ∙ a.parted) is made.0 made.2 to
-              (so known a.base.held.layout was a.base.held.notes r.1 knows a.base.held.stands a.base.held.number made.1)
+              next_so c after trees names r rest (ap (λ (qs : List LeftOrKept). a.front ++ qs) (sym is) ∙ a.parted) is made.0 made.2 to
+              (so known a.base.held.layout was a.base.held.notes r.left knows a.base.held.stands a.base.held.number made.1)
         ]
 
   -- all, or as many as it took
-  none_left : (b : Bench) (t : ScopedState) (place : ℕ) (es : List code.Declared) (rest : List (LeftOf Identifier)) → es ≡ [] → AreDeclared b.work b.region unit place t es rest → rest ≡ []
+  none_left : (b : Bench) (t : ScopedState) (place : ℕ) (es : List code.Declared) (rest : List LeftOrKept) → es ≡ [] → AreDeclared b.work b.region unit place t es rest → rest ≡ []
   none_left b t place es rest none h = by rest (subst (λ (fs : List code.Declared). AreDeclared b.work b.region unit place t fs rest) none h)
     where
-      by : (qs : List (LeftOf Identifier)) → AreDeclared b.work b.region unit place t [] qs → qs ≡ []
+      by : (qs : List LeftOrKept) → AreDeclared b.work b.region unit place t [] qs → qs ≡ []
       by [] h = refl
       by (q ∷ qs) h = absurd h
 
@@ -377,7 +376,7 @@ module _ (known : Known) (unit : ℕ) (rs : List (LeftOf Identifier)) (s : Scope
           let t = a.base.held.state in
           let none : a.rest ≡ [] = none_left b t place (drop place ds) a.rest (dropped_all ds place (all few)) g.left in (
             g.gone,
-            g.goes ∙ (ap (λ (qs : List (LeftOf Identifier)). behind g.gone (to_come qs t)) none ∙ ap (λ (fs : List Formed). (Some fs, t)) (append-nil g.gone)),
+            g.goes ∙ (ap (λ (qs : List LeftOrKept). behind g.gone (to_come qs t)) none ∙ ap (λ (fs : List Formed). (Some fs, t)) (append-nil g.gone)),
             g.forms,
           );
     };
@@ -387,17 +386,17 @@ module _ (known : Known) (unit : ℕ) (rs : List (LeftOf Identifier)) (s : Scope
 
 -- the forms that were gone through, from each state that they may have left
 abbrev pub AllFrom : (old b : Bench) (unit : ℕ) (ds : List code.Declared) (start total place : ℕ) (from to : ℕ) (cs : List code_form.UnitForm) → Type 0
-AllFrom old b unit ds start total place from to cs = (known : Known) (h : FormsHeld old unit 0 ds) (rs : List (LeftOf Identifier)) → Knows old.scope.libraries known → (can : CanFinishAll old unit known rs h.state start ds) → AllSo known unit rs h.state can.rise ds from b total place to cs
+AllFrom old b unit ds start total place from to cs = (known : Known) (h : FormsHeld old unit 0 ds) (rs : List LeftOrKept) → Knows old.scope.libraries known → (can : CanFinishAll old unit known rs h.state start ds) → AllSo known unit rs h.state can.rise ds from b total place to cs
 
 pub none_from : (b : Bench) (unit : ℕ) (ds : List code.Declared) (start steps : ℕ) → AllFrom b b unit ds start start 0 steps steps []
 none_from b unit ds start steps known h rs knows can = none_so known unit rs h.state can.rise ds steps b h start refl can
 
 pub next_from : (old b c : Bench) (unit : ℕ) (ds : List code.Declared) (start total place : ℕ) (from now : ℕ) (cs : List code_form.UnitForm) → AllFrom old b unit ds start total place from now cs → Stays old b → Stays b c → nat_lt max_total total ≡ false →
-    (d : code.Declared) → slice_get ds place ≡ Some d → (k : code_form.UnitForm) (after to : ℕ) → (IsUntouched d → IsBlank k) → (IsUntouched d → IsTurned b c × (after ≡ total) × (to ≡ now)) → Finished b c unit place d total after now to k →
+    (d : code.Declared) → slice_get ds place ≡ Some d → (k : code_form.UnitForm) (after to : ℕ) → (IsUntouched d → IsBlank k) → (IsUntouched d → IsForgotten b c × (after ≡ total) × (to ≡ now)) → Ended b c unit place d total after now to k →
     AllFrom old c unit ds start after (suc place) from to (cs ++ k ∷ [])
 next_from old b c unit ds start total place from now cs so stay stays few d at k after to blank same done known h rs knows can =
     one_so known unit rs h.state can.rise ds from b total place now cs (so known h rs knows can) few d at k c after to stays.trees stays.names (stay.libraries known knows) blank same done
 
 pub all_from : (old b : Bench) (unit : ℕ) (ds : List code.Declared) (start total place : ℕ) (from to : ℕ) (cs : List code_form.UnitForm) → AllFrom old b unit ds start total place from to cs → (nat_lt max_total total ≡ false → place ≡ length ds) →
-    (known : Known) (h : FormsHeld old unit 0 ds) (rs : List (LeftOf Identifier)) → Knows old.scope.libraries known → CanFinishAll old unit known rs h.state start ds → Finishes b unit known rs h.state total from to cs
+    (known : Known) (h : FormsHeld old unit 0 ds) (rs : List LeftOrKept) → Knows old.scope.libraries known → CanFinishAll old unit known rs h.state start ds → Finishes b unit known rs h.state total from to cs
 all_from old b unit ds start total place from to cs so all known h rs knows can = all_so known unit rs h.state can.rise ds from b total place to cs (so known h rs knows can) all

@@ -5,7 +5,6 @@ use Rattle.std.proofs.lemmas.Option.{slice_get_within, same_Some}
 use Rattle.scheme_model.specs.Ident.{Ident as Identifier, Written}
 use Rattle.scheme_model.specs.Trees.{Tree}
 use Rattle.scheme_model.specs.Declarations.{UnitForm}
-use Rattle.scheme_model.specs.Program.{enough_turns}
 use Rattle.scheme_model.specs.ScopedProgram.{forms_over}
 use Rattle.std.specs.Prelude.{nat_lt}
 use Rattle.std.proofs.lemmas.Bool.{ltb-false}
@@ -13,7 +12,12 @@ use Rattle.scheme_model.specs.Order.{Pass, Note}
 use Rattle.scheme_model.specs.Requirements.{Known}
 use Rattle.scheme_model.specs.Substitution.{Defined}
 use Rattle.scheme_model.specs.ScopedExpansion.{Frames, FramedIdent, ScopedState}
-use Rattle.scheme_model.specs.UnitExpansion.{LeftOf, max_total, passes, nodes_in}
+use Rattle.scheme_model.specs.UnitExpansion.{max_total, nodes_in}
+use Rattle.scheme_model.specs.CountedExpansion.{counted}
+use Rattle.kept_forms.specs.KeptForms.{LeftOrKept, counts_at}
+use Rattle.forgotten_locals.specs.Outside.{forgotten}
+use Rattle.forgotten_locals.specs.Ways.{firsts_by}
+use Rattle.note_laws.specs.Searching.{none_kept}
 use Rattle.macro_uses.specs.MacroUses.{total_of}
 use Rattle.syntax_tree.proofs.Places.{none_some, push_cases}
 use Rattle.core_tree.specs.Units.{defined_by}
@@ -24,20 +28,20 @@ use Rattle.unit_sources.specs.declared.units.UnitForm as source
 use Rattle.feature_requirements.specs.Judged.{Knows}
 use Rattle.unit_scopes.specs.Others.{InOrder}
 use Rattle.unit_scopes.specs.Stepped.{IsFresh}
-use Rattle.unit_scopes.specs.Units.{UnitStands}
-use Rattle.unit_scopes.specs.Searched.{searched}
+use Rattle.unit_scopes.specs.Forgotten.{OwnFirst}
 use Rattle.unit_scopes.proofs.FreshLaws.{none_in_order}
 use Rattle.expansion_laws.proofs.OtherForms.{declared_stays}
 use Rattle.syntax_tree.specs.Works.{IsOpened}
 use Rattle.form_expansion.specs.Ends.{numbers_of, Rise, IsAmong}
-use Rattle.form_expansion.specs.Forms.{IsBench, IsBegun, IsUntouched, IsDeclared, used_by, AreInOrder, PassesTo, PassesForm, CanPass, FormsHeld, AreFresh, AreDeclared, Passes, Stays, passed, taken, known_by}
+use Rattle.form_expansion.specs.Forms.{StandsOutside, IsBench, IsBegun, IsUntouched, IsDeclared, used_by, AreInOrder, PassesOutside, PassesForm, CanPass, FormsHeld, AreFresh, AreDeclared, Passes, Stays, passed, taken, known_by}
 use Rattle.read_documents.specs.WereRead.{WereRead}
 use Rattle.form_expansion.specs.declared.forms.Bench.{Bench}
 use Rattle.form_expansion.specs.declared.forms.Declared as code
 use Rattle.form_expansion.proofs.DeclaredForms.{declared_on, declared_blank, declared_more}
 use Rattle.form_expansion.proofs.FormSteps.{blank_is, nothing_left}
 use Rattle.form_expansion.proofs.UnitForms.{forms_rise, among, none_total, step_total, none_counted, step_counted}
-use Rattle.form_expansion.proofs.UnitWalk.{behind, behind_none, behind_twice, pass_over, pass_on}
+use Rattle.form_expansion.proofs.UnitWalk.{behind, behind_none, behind_twice}
+use Rattle.form_expansion.proofs.OutsideWalk.{way, pass_over, pass_on}
 
 pub read_at : (fs : List source.UnitForm) (n : ℕ) (f : source.UnitForm) → WereRead (forms_of fs) → slice_get fs n ≡ Some f → f.declared ≡ false → WasRead (datum_of f.datum)
 read_at [] n f h at = none_some f at
@@ -98,7 +102,7 @@ module _ (b : Bench) (unit : ℕ) (ds : List code.Declared) (h : Holds b unit ds
       }
 
   -- one that is
-  pub next_held : (c : Bench) (p : Pass Identifier FramedIdent × ScopedState) → PassesTo b c unit (length ds) h.held.state p d → Holds c unit (ds ++ d ∷ [])
+  pub next_held : (c : Bench) (p : Pass Identifier FramedIdent × ScopedState) → PassesOutside b c unit (length ds) h.held.state p d → Holds c unit (ds ++ d ∷ [])
   next_held c p n =
       let was = h.held in
       record {
@@ -121,10 +125,10 @@ module _ (b : Bench) (unit : ℕ) (ds : List code.Declared) (h : Holds b unit ds
   pub one_more : (c : Bench) (known : Known) (e : UnitForm) (blank : Bool) → (blank ≡ true → IsUntouched d) → (blank ≡ true → c ≡ b) →
       (blank ≡ false → PassesForm b c known unit (length ds) e h.held.notes h.held.state d) → Holds c unit (ds ++ d ∷ [])
   one_more c known e true none same passes = subst (λ (x : Bench). Holds x unit (ds ++ d ∷ [])) (sym (same refl)) (blank_held (none refl))
-  one_more c known e false none same passes = next_held c (passed known unit (length ds) e h.held.notes h.held.state) (passes refl)
+  one_more c known e false none same passes = next_held c (forgotten (passed known unit (length ds) e h.held.notes h.held.state)) (passes refl)
 
   pub next_form : (c : Bench) (n : ℕ) → n ≡ length ds → (f : source.UnitForm) → (f.declared ≡ true → IsUntouched d) → (f.declared ≡ true → c ≡ b) →
-      ((known : Known) (ls : List Frames) (s : ScopedState) (notes : List (Note FramedIdent)) → f.declared ≡ false → Knows b.scope.libraries known → UnitStands b.work b.scope ls s notes → s.unit ≡ unit → IsFresh s n →
+      ((known : Known) (ls : List Frames) (s : ScopedState) (notes : List (Note FramedIdent)) → f.declared ≡ false → Knows b.scope.libraries known → StandsOutside b ls s notes → s.unit ≡ unit → IsFresh s n →
       PassesForm b c known unit n (form_of f) notes s d) →
       Holds c unit (ds ++ d ∷ [])
   next_form c n at f blank same passes =
@@ -150,8 +154,8 @@ pub is_few : (total : ℕ) → nat_lt max_total total ≡ false → total ≤ ma
 is_few total large = ltb-false 500000 total large
 
 -- the next form can be gone through
-pub can_pass : (b : Bench) (unit : ℕ) (ds : List code.Declared) (h : Holds b unit ds) (form : ℕ) → length ds ≤ form → CanPass b unit form
-can_pass b unit ds h form le = record { layout = h.held.layout; state = h.held.state; notes = h.held.notes; stands = h.held.stands; number = h.held.number; fresh = h.fresh form le }
+pub can_pass : (b : Bench) (unit : ℕ) (ds : List code.Declared) → OwnFirst b.scope → (h : Holds b unit ds) (form : ℕ) → length ds ≤ form → CanPass b unit form
+can_pass b unit ds first h form le = record { layout = h.held.layout; state = h.held.state; notes = h.held.notes; stands = h.held.stands; first = first; number = h.held.number; fresh = h.fresh form le }
 
 pub held_bench : (b : Bench) (unit place : ℕ) (ds : List code.Declared) → IsOpened b.work b.region → FormsHeld b unit place ds → IsBench b
 held_bench b unit place ds region h = record { region = region; layout = h.layout; state = h.state; notes = h.notes; stands = h.stands }
@@ -179,34 +183,34 @@ counted_on : (now was total nodes before after : ℕ) → now + before ≡ was +
 counted_on now was total nodes before after moved so none all = omega (arith, moved, so, none, all)
 
 module _ (known : Known) (unit : ℕ) (ts : List (ℕ × Tree Identifier)) (s : ScopedState) where
-  abbrev whole : Option (List (LeftOf Identifier)) × ScopedState
-  whole = passes (searched known) enough_turns [] (numbers_of ts) ts [] s
+  abbrev whole : Option (List LeftOrKept) × ScopedState
+  whole = firsts_by way known (numbers_of ts) (none_kept ts) [] s
 
   -- what is still to come of forms
-  abbrev to_come : List (ℕ × Tree Identifier) → List (Note FramedIdent) → ScopedState → Option (List (LeftOf Identifier)) × ScopedState
-  to_come rest notes t = passes (searched known) enough_turns [] (numbers_of ts) rest notes t
+  abbrev to_come : List (ℕ × Tree Identifier) → List (Note FramedIdent) → ScopedState → Option (List LeftOrKept) × ScopedState
+  to_come rest notes t = firsts_by way known (numbers_of ts) (none_kept rest) notes t
 
   -- so many are gone through, these are left: work ended with the last where that made the nodes too many
   pub record PassedSo (b : Bench) (total : ℕ) (ds : List code.Declared) (place : ℕ) (left : List UnitForm) : Type 0 where
     pub base : Holds b unit ds
     pub front : List (ℕ × Tree Identifier)
     pub parted : front ++ forms_over (Written unit) unit place left ≡ ts
-    pub gone : List (LeftOf Identifier)
+    pub gone : List LeftOrKept
     pub forms : AreDeclared b.work b.region unit 0 base.held.state ds gone
-    pub counted : nodes_in (searched known) (numbers_of ts) base.held.state ≡ total
+    pub counted : nodes_in (counted known) (numbers_of ts) base.held.state ≡ total
     pub over : nat_lt max_total total ≡ true → whole ≡ (None, base.held.state)
     pub on : nat_lt max_total total ≡ false → whole ≡ behind gone (to_come (forms_over (Written unit) unit place left) base.held.notes base.held.state)
     pub used : total_of base.held.state.uses (numbers_of ts) ≡ used_by ds
 
-  pub none_passed : (b : Bench) (ls : List Frames) (left : List UnitForm) → forms_over (Written unit) unit 0 left ≡ ts → IsOpened b.work b.region → UnitStands b.work b.scope ls s [] → s.unit ≡ unit → ((m : ℕ) → IsFresh s m) → PassedSo b 0 [] 0 left
+  pub none_passed : (b : Bench) (ls : List Frames) (left : List UnitForm) → forms_over (Written unit) unit 0 left ≡ ts → IsOpened b.work b.region → StandsOutside b ls s [] → OwnFirst b.scope → s.unit ≡ unit → ((m : ℕ) → IsFresh s m) → PassedSo b 0 [] 0 left
   unfolding none_held
-  none_passed b ls left all region stands own fresh = record {
-    base = none_held b unit (record { region = region; layout = ls; state = s; stands = stands; number = own; fresh = fresh });
+  none_passed b ls left all region stands first own fresh = record {
+    base = none_held b unit (record { region = region; layout = ls; state = s; stands = stands; first = first; number = own; fresh = fresh });
     front = [];
     parted = all;
     gone = [];
     forms = tt;
-    counted = none_counted (searched known) s (λ m. (fresh m).nodes) (numbers_of ts);
+    counted = none_counted (counted known) s (λ m. (fresh m).nodes) (numbers_of ts);
     over = λ many. absurd cc;
     on = λ few. ap (λ (xs : List (ℕ × Tree Identifier)). to_come xs [] s) (sym all) ∙ sym (behind_none (to_come (forms_over (Written unit) unit 0 left) [] s));
     used = none_total s.uses (λ m. (fresh m).uses) (numbers_of ts);
@@ -222,7 +226,7 @@ module _ (known : Known) (unit : ℕ) (ts : List (ℕ × Tree Identifier)) (s : 
     abbrev others : List (ℕ × Tree Identifier)
     others = forms_over (Written unit) unit (suc place) left
 
-    abbrev by_declared : Bool → Option (List (LeftOf Identifier)) × ScopedState
+    abbrev by_declared : Bool → Option (List LeftOrKept) × ScopedState
     by_declared q = behind a.gone (to_come (cond q others (tree ∷ others)) a.base.held.notes was)
 
     -- one that isn't expanded
@@ -245,17 +249,20 @@ module _ (known : Known) (unit : ℕ) (ts : List (ℕ × Tree Identifier)) (s : 
     -- one that is
     module _ (rise : Rise 0 (numbers_of ts)) (off : f.declared ≡ false) (few : nat_lt max_total total ≡ false) (c : Bench) (n : PassesForm b c known unit place (form_of f) a.base.held.notes was d) where
       abbrev now : Pass Identifier FramedIdent × ScopedState
-      now = passed known unit place (form_of f) a.base.held.notes was
+      now = forgotten (passed known unit place (form_of f) a.base.held.notes was)
+
+      abbrev row : LeftOrKept
+      row = record { form = place; counts = counts_at place now.1; left = now.0.left; kept = None }
 
       parted_so : (a.front ++ tree ∷ []) ++ others ≡ ts
       parted_so = append_assoc a.front (tree ∷ []) others ∙ (ap (λ (q : Bool). a.front ++ cond q others (tree ∷ others)) (sym off) ∙ a.parted)
 
-      counted_so : nodes_in (searched known) (numbers_of ts) now.1 ≡ total + d.budget.nodes
+      counted_so : nodes_in (counted known) (numbers_of ts) now.1 ≡ total + d.budget.nodes
       counted_so =
           let here : IsAmong place (numbers_of ts) = subst (λ (xs : List (ℕ × Tree Identifier)). IsAmong place (numbers_of xs)) (sym (append_assoc a.front (tree ∷ []) others) ∙ parted_so) (among a.front others tree) in
           let stay = declared_stays place known (taken unit place (form_of f)) a.base.held.notes was in
-          counted_on (nodes_in (searched known) (numbers_of ts) now.1) (nodes_in (searched known) (numbers_of ts) was) total d.budget.nodes (was.nodes place) (now.1.nodes place)
-          (step_counted (searched known) place was now.1 (λ m apart. (stay.counts m apart).nodes) 0 (numbers_of ts) rise here) a.counted (a.base.fresh place (omega (arith, at))).nodes n.form_is.counts.nodes
+          counted_on (nodes_in (counted known) (numbers_of ts) now.1) (nodes_in (counted known) (numbers_of ts) was) total d.budget.nodes (was.nodes place) (now.1.nodes place)
+          (step_counted (counted known) place was now.1 (λ m apart. (stay.counts m apart).nodes) 0 (numbers_of ts) rise here) a.counted (a.base.fresh place (omega (arith, at))).nodes n.form_is.counts.nodes
 
       used_so : total_of now.1.uses (numbers_of ts) ≡ used_by (ds ++ d ∷ [])
       used_so =
@@ -271,17 +278,17 @@ module _ (known : Known) (unit : ℕ) (ts : List (ℕ × Tree Identifier)) (s : 
       next_so : PassedSo c (total + d.budget.nodes) (ds ++ d ∷ []) (suc place) left
       unfolding next_held
       next_so = record {
-        base = next_held b unit ds a.base d c now (subst (λ (m : ℕ). PassesTo b c unit m was now d) at n);
+        base = next_held b unit ds a.base d c now (subst (λ (m : ℕ). PassesOutside b c unit m was now d) at n);
         front = a.front ++ tree ∷ [];
         parted = parted_so;
-        gone = a.gone ++ (place, now.0.left) ∷ [];
-        forms = declared_more c.work c.region unit now.1 0 ds a.gone d (place, now.0.left) (omega (arith, at))
+        gone = a.gone ++ row ∷ [];
+        forms = declared_more c.work c.region unit now.1 0 ds a.gone d row (omega (arith, at))
             (declared_on b c unit 0 place was now.1 (λ m e r from low is. n.others.kept m e r (λ same. omega (arith, low, same)) is) 0 ds a.gone (omega arith) (omega (arith, at)) a.forms) n.form_is;
         counted = counted_so;
-        over = λ many. before_it ∙ ap (behind a.gone) (pass_over (searched known) (numbers_of ts) enough_turns [] tree others a.base.held.notes was (ap (nat_lt max_total) counted_so ∙ many));
+        over = λ many. before_it ∙ ap (behind a.gone) (pass_over known (numbers_of ts) tree others a.base.held.notes was (ap (nat_lt max_total) counted_so ∙ many));
         on = λ still.
-            before_it ∙ ap (behind a.gone) (pass_on (searched known) (numbers_of ts) enough_turns [] tree others a.base.held.notes was (ap (nat_lt max_total) counted_so ∙ still))
-            ∙ behind_twice a.gone ((place, now.0.left) ∷ []) (to_come others now.0.notes now.1);
+            before_it ∙ ap (behind a.gone) (pass_on known (numbers_of ts) tree others a.base.held.notes was (ap (nat_lt max_total) counted_so ∙ still))
+            ∙ behind_twice a.gone (row ∷ []) (to_come others now.0.notes now.1);
         used = used_so;
       }
 
@@ -303,7 +310,7 @@ module _ (known : Known) (unit : ℕ) (ts : List (ℕ × Tree Identifier)) (s : 
       whole = λ few. (
         a.gone,
         a.on few ∙ ap (λ (fs : List UnitForm). behind a.gone (to_come (forms_over (Written unit) unit place fs) a.base.held.notes a.base.held.state)) (all few)
-            ∙ ap (λ (rs : List (LeftOf Identifier)). (Some rs, a.base.held.state)) (append-nil a.gone),
+            ∙ ap (λ (rs : List LeftOrKept). (Some rs, a.base.held.state)) (append-nil a.gone),
         a.forms,
       );
     };
@@ -312,15 +319,15 @@ module _ (known : Known) (unit : ℕ) (ts : List (ℕ × Tree Identifier)) (s : 
 
 -- the forms that are expanded, from each state that they may begin in
 abbrev pub PassedFrom : (old b : Bench) (unit total place : ℕ) → List source.UnitForm → List code.Declared → Type 0
-PassedFrom old b unit total place fs ds = (known : Known) (ls : List Frames) (s : ScopedState) → Knows old.scope.libraries known → UnitStands old.work old.scope ls s [] → s.unit ≡ unit → ((form : ℕ) → IsFresh s form) →
+PassedFrom old b unit total place fs ds = (known : Known) (ls : List Frames) (s : ScopedState) → Knows old.scope.libraries known → StandsOutside old ls s [] → s.unit ≡ unit → ((form : ℕ) → IsFresh s form) →
     PassedSo known unit (forms_over (Written unit) unit 0 (forms_of fs)) s b total ds place (drop place (forms_of fs))
 
-pub none_from : (b : Bench) (unit : ℕ) (fs : List source.UnitForm) → IsOpened b.work b.region → PassedFrom b b unit 0 0 fs []
-none_from b unit fs region known ls s knows stands own fresh = none_passed known unit (forms_over (Written unit) unit 0 (forms_of fs)) s b ls (forms_of fs) refl region stands own fresh
+pub none_from : (b : Bench) (unit : ℕ) (fs : List source.UnitForm) → IsOpened b.work b.region → OwnFirst b.scope → PassedFrom b b unit 0 0 fs []
+none_from b unit fs region first known ls s knows stands own fresh = none_passed known unit (forms_over (Written unit) unit 0 (forms_of fs)) s b ls (forms_of fs) refl region stands first own fresh
 
 pub next_from : (old b c : Bench) (unit total place : ℕ) (fs : List source.UnitForm) (ds : List code.Declared) → PassedFrom old b unit total place fs ds → Stays old b → place ≡ length ds → nat_lt max_total total ≡ false →
     (d : code.Declared) (n : ℕ) → n ≡ place → (f : source.UnitForm) → place < length fs → f ≡ get_or fs place f → (f.declared ≡ true → IsUntouched d) → (f.declared ≡ true → c ≡ b) →
-    ((known : Known) (ls : List Frames) (s : ScopedState) (notes : List (Note FramedIdent)) → f.declared ≡ false → Knows b.scope.libraries known → UnitStands b.work b.scope ls s notes → s.unit ≡ unit → IsFresh s n →
+    ((known : Known) (ls : List Frames) (s : ScopedState) (notes : List (Note FramedIdent)) → f.declared ≡ false → Knows b.scope.libraries known → StandsOutside b ls s notes → s.unit ≡ unit → IsFresh s n →
     PassesForm b c known unit n (form_of f) notes s d) →
     PassedFrom old c unit (total + d.budget.nodes) (suc place) fs (ds ++ d ∷ [])
 next_from old b c unit total place fs ds so stay at few d n same_n f low is blank same passes known ls s knows stands own fresh =

@@ -1,13 +1,16 @@
 -- The forms of a unit by their numbers: what they count together, and what the unit comes to.
-use Rattle.std.proofs.Common.{◌≡◌, ℕ, suc, ◌+◌, ◌≤◌, ◌<◌, List, [], ◌∷◌, ◌++◌, Bool, true, false, cond, Option, Some, None, refl, sym, ap, ◌∙◌, inl, inr, arith}
+use Rattle.std.proofs.Common.{◌≡◌, ℕ, suc, ◌+◌, ◌≤◌, ◌<◌, List, [], ◌∷◌, ◌++◌, Bool, true, false, cond, refl, sym, ap, ◌∙◌, inl, inr, arith}
 use Rattle.scheme_model.specs.DataTrees.{tree_of}
-use Rattle.scheme_model.specs.Trees.{Tree, placed_by}
+use Rattle.scheme_model.specs.Trees.{placed_by}
 use Rattle.scheme_model.specs.Order.{Ops}
-use Rattle.scheme_model.specs.Expression.{expand}
+use Rattle.scheme_model.specs.Requirements.{Known}
+use Rattle.scheme_model.specs.CountedExpansion.{counted}
+use Rattle.scheme_model.specs.ScopedExpansion.{ScopedState}
 use Rattle.scheme_model.specs.Declarations.{UnitForm, home_of}
 use Rattle.scheme_model.specs.ScopedProgram.{forms_over}
-use Rattle.scheme_model.specs.UnitExpansion.{Formed, LeftOf, ◌then◌, passes, finished, nodes_in, unit}
+use Rattle.scheme_model.specs.UnitExpansion.{nodes_in}
 use Rattle.macro_uses.specs.MacroUses.{total_of}
+use Rattle.unit_scopes.specs.Searched.{searched}
 use Rattle.form_expansion.specs.Ends.{numbers_of, Rise, IsAmong}
 
 -- ---- numbers
@@ -92,14 +95,7 @@ module _ {E A L S : Type 0} (ops : Ops E A L S) where
       let a = nodes_are s fs in let b = nodes_are t fs in
       let c = step_total form (λ m. nodes_at m s) (λ m. nodes_at m t) others n fs h in_ in omega (arith, a, b, c)
 
-  -- ---- the unit
-
-  module _ (turns : ℕ) (e : E) (ts : List (ℕ × Tree A)) (s : S) where
-    abbrev then_finished : Option (List (LeftOf A)) × S → Option (List Formed) × S
-    then_finished q = q then finished ops (expand ops turns) e (numbers_of ts)
-
-    pub ends_passing : (t : S) → passes ops turns e (numbers_of ts) ts [] s ≡ (None, t) → unit ops turns e ts s ≡ (None, t)
-    ends_passing t h = ap then_finished h
-
-    pub goes_through : (rs : List (LeftOf A)) (t : S) → passes ops turns e (numbers_of ts) ts [] s ≡ (Some rs, t) → unit ops turns e ts s ≡ finished ops (expand ops turns) e (numbers_of ts) rs t
-    goes_through rs t h = ap then_finished h
+-- both count alike
+pub counted_alike : (known : Known) (s : ScopedState) (fs : List ℕ) → nodes_in (searched known) fs s ≡ nodes_in (counted known) fs s
+counted_alike known s [] = refl
+counted_alike known s (f ∷ fs) = ap (λ n. nodes_at (counted known) f s + n) (counted_alike known s fs)

@@ -1,6 +1,6 @@
 -- The forms of a unit as they are gone through and expanded (R7RS 5.1, 5.3): what the code holds of each, and the state of the unit
 -- that the trees and scopes stand for meanwhile.
-use Rattle.std.specs.Prelude.{◌≡◌, ◌⊎◌, ℕ, suc, ◌+◌, ◌^◌, ◌≤◌, ◌<◌, nat_lt, List, [], ◌∷◌, length, reverse, slice_get, false, Option, Some, None, Result, Ok, Err, String}
+use Rattle.std.specs.Prelude.{◌≡◌, ◌⊎◌, ℕ, suc, ◌+◌, ◌^◌, ◌≤◌, ◌<◌, nat_lt, List, [], ◌∷◌, length, map, reverse, slice_get, take, false, Option, Some, None, Result, Ok, Err, String}
 use Rattle.std.specs.declared.alloc.Global.{Global}
 use Rattle.std.specs.BTreeSet.{BTreeSet, contains_text}
 use Rattle.scheme_model.specs.Ident.{Ident as Identifier}
@@ -8,7 +8,8 @@ use Rattle.scheme_model.specs.Declarations.{UnitForm, home_of}
 use Rattle.scheme_model.specs.Cores.{Parts}
 use Rattle.scheme_model.specs.Steps.{Broken}
 use Rattle.scheme_model.specs.Order.{Left, Note, Pass, Counted}
-use Rattle.scheme_model.specs.UnitExpansion.{Formed, LeftOf, passes, form_parts, finished, max_total, nodes_in}
+use Rattle.scheme_model.specs.UnitExpansion.{Formed, form_parts, max_total, nodes_in}
+use Rattle.scheme_model.specs.CountedExpansion.{counted}
 use Rattle.scheme_model.specs.Expression.{expand}
 use Rattle.scheme_model.specs.Program.{Prepared, enough_turns}
 use Rattle.scheme_model.specs.Requirements.{Known}
@@ -27,6 +28,12 @@ use Rattle.core_tree.specs.Units.{FormsStand, IsResult, AreDefinitions, definiti
 use Rattle.core_tree.specs.declared.traces.FormFault.{FormFault}
 use Rattle.core_tree.specs.declared.units.UnitForm as code_form
 use Rattle.feature_requirements.specs.Judged.{Knows, library_text}
+use Rattle.kept_forms.specs.KeptForms.{LeftOrKept}
+use Rattle.forgotten_locals.specs.Outside.{macros_outside, IsOutside, IsOutsideOf, ForgetsLocals, forgotten}
+use Rattle.forgotten_locals.specs.Ways.{firsts_by, seconds_by, unit_by}
+use Rattle.note_laws.specs.Searching.{searching, none_kept, forms_anew}
+use Rattle.root_laws.specs.AtRoot.{AllAtRoot}
+use Rattle.unit_scopes.specs.Forgotten.{AreAtRoot, AllOwn, OwnFirst}
 use Rattle.unit_scopes.specs.Opened.{IsNew}
 use Rattle.unit_scopes.specs.Others.{InOrder}
 use Rattle.unit_scopes.specs.State.{IsNumbered, numbered_in}
@@ -51,20 +58,30 @@ known_by libraries n = contains_text libraries (library_text n)
 
 -- ---- the bench
 
--- its trees and scopes belong together: they stand for some state of a unit
+-- its trees and scopes stand for this state, in which nothing is local; macros and notes stand outside of all frames, and each scope is a
+-- unit's own
+pub record StandsOutside (b : Bench) (ls : List Frames) (s : ScopedState) (found : List (Note FramedIdent)) : Type 0 where
+  pub stands : UnitStands b.work b.scope ls s found
+  pub outside : IsOutside s
+  pub macros : AllAtRoot s
+  pub notes : AreAtRoot found
+  pub own : AllOwn b.scope
+
+-- they belong together: they stand for some state of a unit
 pub record IsBench (b : Bench) : Type 0 where
   pub region : IsOpened b.work b.region
   pub layout : List Frames
   pub state : ScopedState
   pub notes : List (Note FramedIdent)
-  pub stands : UnitStands b.work b.scope layout state notes
+  pub stands : StandsOutside b layout state notes
 
 -- a unit was begun of which nothing is done yet
 pub record IsBegun (b : Bench) (unit : ℕ) : Type 0 where
   pub region : IsOpened b.work b.region
   pub layout : List Frames
   pub state : ScopedState
-  pub stands : UnitStands b.work b.scope layout state []
+  pub stands : StandsOutside b layout state []
+  pub first : OwnFirst b.scope
   pub number : state.unit ≡ unit
   pub fresh : (form : ℕ) → IsFresh state form
 
@@ -78,10 +95,16 @@ pub record Stays (old new : Bench) : Type 0 where
   pub regions : SameRegions old.work new.work
   pub others : (v : ℕ) → IsNew old.scope v → IsNew new.scope v
   pub libraries : (known : Known) → Knows old.scope.libraries known → Knows new.scope.libraries known
+  pub first : OwnFirst old.scope → OwnFirst new.scope
 
 -- nothing but the form that is at work is another
 abbrev pub IsTurned : (old new : Bench) → Type 0
 IsTurned old new = new ≡ record old { scope = record old.scope { form = new.scope.form } }
+
+-- nothing but its scopes is another, and they stand for the same
+pub record IsForgotten (old new : Bench) : Type 0 where
+  pub same : new ≡ record old { scope = new.scope }
+  pub stands : (ls : List Frames) (s : ScopedState) (notes : List (Note FramedIdent)) → StandsOutside old ls s notes → StandsOutside new (take (old.scope.root + 1) ls) s notes
 
 -- ---- forms that were gone through
 
@@ -127,7 +150,8 @@ pub record CanPass (b : Bench) (unit form : ℕ) : Type 0 where
   pub layout : List Frames
   pub state : ScopedState
   pub notes : List (Note FramedIdent)
-  pub stands : UnitStands b.work b.scope layout state notes
+  pub stands : StandsOutside b layout state notes
+  pub first : OwnFirst b.scope
   pub number : state.unit ≡ unit
   pub fresh : IsFresh state form
 
@@ -136,7 +160,8 @@ pub record CanFinish (b : Bench) (unit form : ℕ) (d : code.Declared) : Type 0 
   pub layout : List Frames
   pub state : ScopedState
   pub notes : List (Note FramedIdent)
-  pub stands : UnitStands b.work b.scope layout state notes
+  pub stands : StandsOutside b layout state notes
+  pub first : OwnFirst b.scope
   pub number : state.unit ≡ unit
   pub result : Passing
   pub form_is : IsDeclared b.work b.region unit form state d result
@@ -170,8 +195,15 @@ pub record PassesTo (old new : Bench) (unit form : ℕ) (s : ScopedState) (p : P
   pub form_is : IsDeclared new.work new.region unit form p.1 c p.0.left
   pub others : LeavesOthers old new unit form s p.1
 
+-- and of which what is local is forgotten
+pub record PassesOutside (old new : Bench) (unit form : ℕ) (s : ScopedState) (p : Pass Identifier FramedIdent × ScopedState) (c : code.Declared) : Type 0 where
+  pub layout : List Frames
+  pub stands : StandsOutside new layout p.1 p.0.notes
+  pub form_is : IsDeclared new.work new.region unit form p.1 c p.0.left
+  pub others : LeavesOthers old new unit form s p.1
+
 abbrev pub PassesForm : (old new : Bench) → Known → (unit form : ℕ) → UnitForm → List (Note FramedIdent) → ScopedState → code.Declared → Type 0
-PassesForm old new known unit form f notes s c = PassesTo old new unit form s (passed known unit form f notes s) c
+PassesForm old new known unit form f notes s c = PassesOutside old new unit form s (forgotten (passed known unit form f notes s)) c
 
 -- a form's uses are met, and what it set aside is expanded, while these forms count
 abbrev pub expanding : Known → List ℕ → (form : ℕ) → Passing → ScopedState → Option (Result Parts Broken) × ScopedState
@@ -188,16 +220,19 @@ abbrev pub GoesTo : Known → (form : ℕ) → Passing → (s : ScopedState) (be
 GoesTo known form r s before after last result =
     (fs : List ℕ) → HaveCounted known fs form s before → Comes (searched known) fs (expanding known fs form r s) after last (λ given. given ≡ result)
 
--- what a form came to, and the state then: the unit's definitions are those that there were
+-- the same where what is local is forgotten then
+abbrev pub EndsOutside : Known → (form : ℕ) → Passing → (s : ScopedState) (before after : ℕ) → (last : ScopedState) → Result Parts Broken → Type 0
+EndsOutside known form r s before after last result =
+    (fs : List ℕ) → HaveCounted known fs form s before → Comes (searched known) fs (forgotten (expanding known fs form r s)) after last (λ given. given ≡ result)
+
+-- what a form came to, and the state then: the unit's definitions are those that there were, and so are the macros that aren't local
 pub record FinishesTo (old new : Bench) (unit form : ℕ) (s : ScopedState) (c : code_form.UnitForm) : Type 0 where
-  pub layout : List Frames
   pub state : ScopedState
-  pub notes : List (Note FramedIdent)
-  pub stands : UnitStands new.work new.scope layout state notes
   pub number : state.unit ≡ unit
   pub kept : KeepsOthers old new unit form s state
   pub uses : (m : ℕ) → (m ≡ form → ⊥) → state.uses m ≡ s.uses m
   pub table : state.table ≡ s.table
+  pub macros : macros_outside state.macros ≡ macros_outside s.macros
   pub result : Result Parts Broken
   pub met : Counted
   pub result_is : IsResult new.work unit form c result met
@@ -206,7 +241,21 @@ pub record FinishesTo (old new : Bench) (unit form : ℕ) (s : ScopedState) (c :
 -- all that a form set aside is expanded, or as much as it takes to count too many nodes; each macro use that it begins is a step
 pub record FinishesForm (old new : Bench) (known : Known) (unit form : ℕ) (r : Passing) (s : ScopedState) (before after : ℕ) (from to : ℕ) (c : code_form.UnitForm) : Type 0 where
   pub finishes : FinishesTo old new unit form s c
+  pub layout : List Frames
+  pub notes : List (Note FramedIdent)
+  pub stands : UnitStands new.work new.scope layout finishes.state notes
+  pub at_root : AreAtRoot notes
   pub goes : GoesTo known form r s before after finishes.state finishes.result
+  pub counted : finishes.met ≡ (searched known).counted finishes.state
+  pub steps : to + s.uses form ≡ from + finishes.state.uses form
+
+-- and what is local to it is forgotten
+pub record EndsForm (old new : Bench) (known : Known) (unit form : ℕ) (r : Passing) (s : ScopedState) (before after : ℕ) (from to : ℕ) (c : code_form.UnitForm) : Type 0 where
+  pub finishes : FinishesTo old new unit form s c
+  pub layout : List Frames
+  pub notes : List (Note FramedIdent)
+  pub stands : StandsOutside new layout finishes.state notes
+  pub goes : EndsOutside known form r s before after finishes.state finishes.result
   pub counted : finishes.met ≡ (searched known).counted finishes.state
   pub steps : to + s.uses form ≡ from + finishes.state.uses form
 
@@ -218,7 +267,7 @@ pub record FormsHeld (b : Bench) (unit place : ℕ) (ds : List code.Declared) : 
   pub layout : List Frames
   pub state : ScopedState
   pub notes : List (Note FramedIdent)
-  pub stands : UnitStands b.work b.scope layout state notes
+  pub stands : StandsOutside b layout state notes
   pub number : state.unit ≡ unit
   pub held : (m : ℕ) (d : code.Declared) → place ≤ m → slice_get ds m ≡ Some d → (r : Passing) × IsDeclared b.work b.region unit m state d r
   pub in_order : AreInOrder (length ds) state
@@ -227,45 +276,56 @@ pub record FormsHeld (b : Bench) (unit place : ℕ) (ds : List code.Declared) : 
 abbrev pub AreFresh : ℕ → ScopedState → Type 0
 AreFresh place s = (m : ℕ) → place ≤ m → IsFresh s m
 
+-- the numbers of forms that are left
+abbrev pub numbers_left : List LeftOrKept → List ℕ
+numbers_left rs = map (λ (r : LeftOrKept). r.form) rs
+
 -- the forms from a number on: each is the next that was gone through, or isn't expanded
-abbrev pub AreDeclared : Work → Region → (unit form : ℕ) → ScopedState → List code.Declared → List (LeftOf Identifier) → Type 0
+abbrev pub AreDeclared : Work → Region → (unit form : ℕ) → ScopedState → List code.Declared → List LeftOrKept → Type 0
 AreDeclared work region unit form s [] [] = Unit {0}
 AreDeclared work region unit form s [] (r ∷ rs) = ⊥
 AreDeclared work region unit form s (d ∷ ds) [] = IsUntouched d × AreDeclared work region unit (suc form) s ds []
 AreDeclared work region unit form s (d ∷ ds) (r ∷ rs) =
-    (IsUntouched d × (form < r.0) × AreDeclared work region unit (suc form) s ds (r ∷ rs))
-    ⊎ ((r.0 ≡ form) × IsDeclared work region unit form s d r.1 × AreDeclared work region unit (suc form) s ds rs)
+    (IsUntouched d × (form < r.form) × AreDeclared work region unit (suc form) s ds (r ∷ rs))
+    ⊎ ((r.form ≡ form) × IsDeclared work region unit form s d r.left × AreDeclared work region unit (suc form) s ds rs)
 
--- forms with their numbers are gone through: all, or as many as it takes to count too many nodes
+-- forms with their numbers are gone through, and what is local is forgotten behind each: all, or as many as it takes to count too many nodes
 pub record Passes (b : Bench) (unit : ℕ) (known : Known) (ts : List (ℕ × Tree Identifier)) (s : ScopedState) (total : ℕ) (ds : List code.Declared) : Type 0 where
   pub held : FormsHeld b unit 0 ds
-  pub comes : Comes (searched known) (numbers_of ts) (passes (searched known) enough_turns [] (numbers_of ts) ts [] s) total held.state (AreDeclared b.work b.region unit 0 held.state ds)
+  pub comes : Comes (counted known) (numbers_of ts) (firsts_by (searching enough_turns) known (numbers_of ts) (none_kept ts) [] s) total held.state (AreDeclared b.work b.region unit 0 held.state ds)
   pub used : total_of held.state.uses (numbers_of ts) ≡ used_by ds
 
 -- forms that were gone through stand with what each set aside, by numbers that rise, and have counted so many nodes, which aren't too many
-pub record CanFinishAll (b : Bench) (unit : ℕ) (known : Known) (rs : List (LeftOf Identifier)) (s : ScopedState) (total : ℕ) (ds : List code.Declared) : Type 0 where
+pub record CanFinishAll (b : Bench) (unit : ℕ) (known : Known) (rs : List LeftOrKept) (s : ScopedState) (total : ℕ) (ds : List code.Declared) : Type 0 where
   pub few : nat_lt max_total total ≡ false
-  pub rise : Rise 0 (numbers_of rs)
-  pub counted : nodes_in (searched known) (numbers_of rs) s ≡ total
+  pub rise : Rise 0 (numbers_left rs)
+  pub counted : nodes_in (searched known) (numbers_left rs) s ≡ total
   pub forms : AreDeclared b.work b.region unit 0 s ds rs
 
--- what they set aside is expanded: all of it, or as much as it takes to count too many nodes; each macro use that they begin is a step
-pub record Finishes (b : Bench) (unit : ℕ) (known : Known) (rs : List (LeftOf Identifier)) (s : ScopedState) (total : ℕ) (from to : ℕ) (cs : List code_form.UnitForm) : Type 0 where
+-- what they set aside is expanded, and what is local is forgotten behind each form: all of it, or as much as it takes to count too many nodes; each
+-- macro use that they begin is a step
+pub record Finishes (b : Bench) (unit : ℕ) (known : Known) (rs : List LeftOrKept) (s : ScopedState) (total : ℕ) (from to : ℕ) (cs : List code_form.UnitForm) : Type 0 where
   pub layout : List Frames
   pub last : ScopedState
   pub notes : List (Note FramedIdent)
-  pub stands : UnitStands b.work b.scope layout last notes
-  pub comes : Comes (searched known) (numbers_of rs) (finished (searched known) (expand (searched known) enough_turns) [] (numbers_of rs) rs s) total last (FormsStand b.work unit 0 cs)
+  pub stands : StandsOutside b layout last notes
+  pub comes : Comes (searched known) (numbers_left rs) (seconds_by (searching enough_turns) known (numbers_left rs) rs s) total last (FormsStand b.work unit 0 cs)
   pub definitions : nat_lt max_total total ≡ false → AreDefinitions b.work.symbols (reverse (definitions_from 0 cs)) (defined_by unit last.table)
-  pub steps : to + total_of s.uses (numbers_of rs) ≡ from + total_of last.uses (numbers_of rs)
+  pub steps : to + total_of s.uses (numbers_left rs) ≡ from + total_of last.uses (numbers_left rs)
 
 -- ---- the unit
 
--- the bench stands for this state
+-- from a state in which nothing is local, the unit comes to the same where what is local is forgotten behind each turn
+abbrev pub MayForget : Known → Prepared → (s m : ScopedState) → Type 0
+MayForget known p s m = ForgetsLocals (searched_unit_over known p s) (unit_by (searching enough_turns) known (forms_anew p) m)
+
+-- the bench stands for what this state is outside of all forms
 pub record StandsAt (b : Bench) (s : ScopedState) : Type 0 where
   pub layout : List Frames
+  pub state : ScopedState
   pub notes : List (Note FramedIdent)
-  pub stands : UnitStands b.work b.scope layout s notes
+  pub stands : StandsOutside b layout state notes
+  pub is : IsOutsideOf s state
 
 -- what the forms of a unit come to, or nothing where work on it ended
 abbrev pub AreUnfolded : Bench → (unit : ℕ) → ScopedState → Option (List code_form.UnitForm) → Option (List Formed) → Type 0

@@ -1,4 +1,5 @@
-//! The forms of a unit (R7RS 5.1): all are gone through in order, and then what they set aside is expanded in order.
+//! The forms of a unit (R7RS 5.1): all are gone through in order, and then what they set aside is expanded in order. What is local to a
+//! form is forgotten behind each of its turns.
 ghost use Rattle.std.specs.Prelude.{◌≡◌, ℕ, ◌+◌, ◌^◌, ◌≤◌, List, [], length, vec_len, nat_lt, true, false, None, OnOk, IfOk, IfSome};
 ghost use Rattle.scheme_model.specs.Ident.{Ident as Identifier, Written};
 ghost use Rattle.scheme_model.specs.Trees.{Tree as ModelTree};
@@ -8,6 +9,7 @@ ghost use Rattle.macro_uses.specs.MacroUses.{total_of};
 ghost use Rattle.macro_uses.specs.ScopedUses.{form_numbers};
 ghost use Rattle.scheme_model.specs.Program.{Prepared, forms_at_work};
 ghost use Rattle.scheme_model.specs.ScopedProgram.{forms_over};
+ghost use Rattle.kept_forms.specs.KeptForms.{LeftOrKept};
 ghost use Rattle.scheme_model.specs.Order.{Note, Item as ModelItem};
 ghost use Rattle.scheme_model.specs.ScopedExpansion.{Frames, FramedIdent, ScopedState};
 ghost use Rattle.syntax_tree.specs.Names.{KeepsNames};
@@ -21,7 +23,8 @@ ghost use Rattle.unit_scopes.specs.Stepped.{IsFresh};
 ghost use Rattle.unit_scopes.specs.Outcomes.{Grows, IsAtWork};
 ghost use Rattle.unit_scopes.specs.Searched.{searched_unit_over};
 ghost use Rattle.unit_scopes.specs.Units.{UnitStands, CountsFor, HasSpace, ItemFor, CanDeclare, Expands, declared, expanded};
-ghost use Rattle.form_expansion.specs.Forms.{IsBench, IsBegun, IsUntouched, IsDeclared, used_by, Passing, PassesTo, PassesForm, FinishesForm, CanPass, CanFinish, CanFinishAll, FormsHeld, Passes, Finishes, AreFormed, Unfolds, Stays, IsTurned};
+ghost use Rattle.form_expansion.specs.Forms.{IsBench, IsBegun, StandsOutside, MayForget, IsUntouched, IsDeclared, used_by, Passing, PassesTo, PassesForm, FinishesForm, EndsForm, CanPass, CanFinish, CanFinishAll, FormsHeld, Passes, Finishes, AreFormed, Unfolds, Stays, IsTurned, IsForgotten};
+ghost use Rattle.unit_scopes.specs.Forgotten.{OwnFirst};
 ghost use Rattle.read_documents.specs.WereRead.{WereRead};
 
 use core_tree::traces::{FormFault, Trace, blank_trace};
@@ -74,12 +77,12 @@ pub fn expand_forms<L: Ledger>(
     // What stood before still stands, also where memory ran out.
     ensures grows { Grows bench.old.work bench.new.work bench.old.region }
     // They are the definition's, or work on the unit ended, and the bench stands for the state in which it did.
-    ensures unfolds { (known : Known) (ls : List Frames) (s : ScopedState) (p : Prepared) → Knows bench.old.scope.libraries known → UnitStands bench.old.work bench.old.scope ls s [] → s.unit ≡ unit →
-        ((form : ℕ) → IsFresh s form) → p.number ≡ unit → forms_at_work p ≡ forms_of forms.now → IfOk result (Unfolds bench.new known p s) }
+    ensures unfolds { (known : Known) (ls : List Frames) (s m : ScopedState) (p : Prepared) → Knows bench.old.scope.libraries known → StandsOutside bench.old ls m [] → MayForget known p s m → m.unit ≡ unit →
+        ((form : ℕ) → IsFresh m form) → p.number ≡ unit → forms_at_work p ≡ forms_of forms.now → IfOk result (Unfolds bench.new known p s) }
     ensures count { IfOk result (λ expanded. IfSome expanded (λ expanded. length expanded ≡ length forms.now)) }
     // Each macro use that the definition counts is a step.
-    ensures steps { (known : Known) (ls : List Frames) (s : ScopedState) (p : Prepared) → Knows bench.old.scope.libraries known → UnitStands bench.old.work bench.old.scope ls s [] → s.unit ≡ unit →
-        ((form : ℕ) → IsFresh s form) → p.number ≡ unit → forms_at_work p ≡ forms_of forms.now →
+    ensures steps { (known : Known) (ls : List Frames) (s m : ScopedState) (p : Prepared) → Knows bench.old.scope.libraries known → StandsOutside bench.old ls m [] → MayForget known p s m → m.unit ≡ unit →
+        ((form : ℕ) → IsFresh m form) → p.number ≡ unit → forms_at_work p ≡ forms_of forms.now →
         OnOk result (steps.new ≡ steps.old + total_of (searched_unit_over known p s).1.uses (form_numbers p)) }
 {
     let mut total = 0;
@@ -118,7 +121,7 @@ fn declare_all<L: Ledger>(
     ensures stays { OnOk result (Stays bench.old bench.new) }
     // What stood before still stands, also where memory ran out.
     ensures grows { Grows bench.old.work bench.new.work bench.old.region }
-    ensures passes { (known : Known) (ls : List Frames) (s : ScopedState) → Knows bench.old.scope.libraries known → UnitStands bench.old.work bench.old.scope ls s [] → s.unit ≡ unit → ((form : ℕ) → IsFresh s form) →
+    ensures passes { (known : Known) (ls : List Frames) (s : ScopedState) → Knows bench.old.scope.libraries known → StandsOutside bench.old ls s [] → s.unit ≡ unit → ((form : ℕ) → IsFresh s form) →
         IfOk result (λ all. Passes bench.new unit known (forms_over (Written unit) unit 0 (forms_of forms.now)) s total.new all.items) }
     ensures steps { IfOk result (λ all. steps.new ≡ steps.old + used_by all.items) }
 {
@@ -135,7 +138,7 @@ fn declare_all<L: Ledger>(
     Ok(all)
 }
 
-/// Goes through a form, unless it is a declaration.
+/// Goes through a form, unless it is a declaration, and forgets what is local to it.
 fn declare<L: Ledger>(
     alloc: Global,
     bench: &mut Bench,
@@ -150,7 +153,7 @@ fn declare<L: Ledger>(
     ensures blank { form.now.declared ≡ true → IfOk result IsUntouched }
     ensures same { form.now.declared ≡ true → OnOk result (bench.new ≡ bench.old) }
     ensures passes { (known : Known) (ls : List Frames) (s : ScopedState) (notes : List (Note FramedIdent)) → form.now.declared ≡ false → Knows bench.old.scope.libraries known →
-        UnitStands bench.old.work bench.old.scope ls s notes → s.unit ≡ unit → IsFresh s number →
+        StandsOutside bench.old ls s notes → s.unit ≡ unit → IsFresh s number →
         IfOk result (PassesForm bench.old bench.new known unit number (form_of form.now) notes s) }
     ensures few { IfOk result (λ form. form.budget.nodes ≤ 200000) }
     ensures steps { IfOk result (λ form. steps.new ≡ steps.old + form.budget.uses) }
@@ -167,7 +170,9 @@ fn declare<L: Ledger>(
     match seed_as(alloc, work, region, &form.datum, home, unit) {
         Ok(tree) => {
             work.symbols.told_apart();
-            Ok(declare_tree(bench, tree, number, blank, steps)?)
+            let declared = declare_tree(bench, tree, number, blank, steps)?;
+            bench.scope.forget_locals();
+            Ok(declared)
         }
         Err(PoolFault::Full) => Err(Memory),
         Err(PoolFault::Memory) => Err(Memory),
@@ -262,13 +267,14 @@ fn finish_all<L: Ledger>(
 ) -> Mem<Items<UnitForm>>
     requires region { IsOpened bench.old.work bench.old.region }
     requires held { FormsHeld bench.old unit 0 declared.items }
+    requires first { OwnFirst bench.old.scope }
     ensures formed { IfOk result (λ forms. nat_lt max_total total.new ≡ false → AreFormed bench.new.work unit forms) }
     ensures count { IfOk result (λ forms. nat_lt max_total total.new ≡ false → length forms ≡ vec_len declared) }
     ensures bench { OnOk result (IsBench bench.new) }
     ensures stays { OnOk result (Stays bench.old bench.new) }
     // What stood before still stands, also where memory ran out.
     ensures grows { Grows bench.old.work bench.new.work bench.old.region }
-    ensures finishes { (known : Known) (h : FormsHeld bench.old unit 0 declared.items) (rs : List (ℕ × Passing)) → Knows bench.old.scope.libraries known →
+    ensures finishes { (known : Known) (h : FormsHeld bench.old unit 0 declared.items) (rs : List LeftOrKept) → Knows bench.old.scope.libraries known →
         CanFinishAll bench.old unit known rs h.state total.old declared.items → IfOk result (Finishes bench.new unit known rs h.state total.new steps.old steps.new) }
 {
     let mut forms = Items::new(alloc);
@@ -277,9 +283,38 @@ fn finish_all<L: Ledger>(
             break;
         }
         let number = number_of(place)?;
-        forms.push(finish(alloc, bench, unit, number, form, total, steps)?)?;
+        forms.push(finish_form(
+            alloc, bench, unit, number, form, total, steps,
+        )?)?;
     }
     Ok(forms)
+}
+
+/// Finishes a form, and forgets what is local to it.
+fn finish_form<L: Ledger>(
+    alloc: Global,
+    bench: &mut Bench,
+    unit: u32,
+    number: u32,
+    form: Declared,
+    total: &mut usize,
+    steps: &mut Steps<L>,
+) -> Mem<UnitForm>
+    requires region { IsOpened bench.old.work bench.old.region }
+    requires stands { CanFinish bench.old unit number form }
+    requires few { total.old ≤ max_total }
+    ensures blank { IsUntouched form → IfOk result IsBlank }
+    ensures same { IsUntouched form → OnOk result (IsForgotten bench.old bench.new × (total.new ≡ total.old) × (steps.new ≡ steps.old)) }
+    ensures ends { (known : Known) (ls : List Frames) (s : ScopedState) (notes : List (Note FramedIdent)) (r : Passing) → Knows bench.old.scope.libraries known →
+        StandsOutside bench.old ls s notes → s.unit ≡ unit → IsDeclared bench.old.work bench.old.region unit number s form r →
+        IfOk result (EndsForm bench.old bench.new known unit number r s total.old total.new steps.old steps.new) }
+    ensures stays { OnOk result (Stays bench.old bench.new) }
+    // What stood before still stands, also where memory ran out.
+    ensures grows { Grows bench.old.work bench.new.work bench.old.region }
+{
+    let finished = finish(alloc, bench, unit, number, form, total, steps)?;
+    bench.scope.forget_locals();
+    Ok(finished)
 }
 
 /// Meets the uses of a form, and expands what it set aside. A broken form has nothing but its fault and what it defined.
@@ -298,7 +333,7 @@ fn finish<L: Ledger>(
     ensures blank { IsUntouched form → IfOk result IsBlank }
     ensures same { IsUntouched form → OnOk result (IsTurned bench.old bench.new × (total.new ≡ total.old) × (steps.new ≡ steps.old)) }
     ensures finishes { (known : Known) (ls : List Frames) (s : ScopedState) (notes : List (Note FramedIdent)) (r : Passing) → Knows bench.old.scope.libraries known →
-        UnitStands bench.old.work bench.old.scope ls s notes → s.unit ≡ unit → IsDeclared bench.old.work bench.old.region unit number s form r →
+        StandsOutside bench.old ls s notes → s.unit ≡ unit → IsDeclared bench.old.work bench.old.region unit number s form r →
         IfOk result (FinishesForm bench.old bench.new known unit number r s total.old total.new steps.old steps.new) }
     ensures stays { OnOk result (Stays bench.old bench.new) }
     // What stood before still stands, also where memory ran out.

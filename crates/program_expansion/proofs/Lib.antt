@@ -1,6 +1,5 @@
 pub mod Turns  -- Places that stand once each
 pub mod ImportedNames  -- What a unit imports, by the entries that it is given
-pub mod UnitLaws  -- A unit that is begun on a bench, and what its forms tell once they are expanded
 pub mod KnownLaws  -- Which libraries there are, by the texts of their names that are listed
 pub mod TurnSteps  -- One turn more
 pub mod TurnWork  -- Work in turns
@@ -9,7 +8,10 @@ pub mod TurnUses  -- The macro uses that are counted while units are expanded in
 pub mod TurnResults  -- What the program has of each unit, where they come in turns
 pub mod TurnCited  -- One turn more, as what expands the units goes through their places
 pub mod UnitGoes  -- The forms of a unit define nothing of other units, and leave what units import
+pub mod PreludeOutside  -- In the prelude nothing is local, and its macros stand outside of all frames
+pub mod TurnsForget  -- The unit whose turn it is may forget what is local, and the bench goes on behind it with what is outside of all forms
 pub mod UnitCame  -- A unit is begun on a bench that goes on with what is expanded so far, and what its forms come to is the definition's
+pub mod UnitLaws  -- A unit that is begun on a bench, and what its forms tell once they are expanded
 pub mod NamesStay  -- What a unit defines, and what it names in its imports and exports, stays so while other units are expanded
 pub mod UpTo  -- One turn more
 pub mod UpToNext  -- The unit whose turn it is, broken or expanded

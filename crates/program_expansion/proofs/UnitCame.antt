@@ -11,7 +11,7 @@ use Rattle.scheme_model.specs.UnitExpansion.{Formed}
 use Rattle.scheme_model.specs.ScopedExpansion.{Frames, FramedIdent, ScopedState}
 use Rattle.scheme_model.specs.IncludedUnits.{Placed}
 use Rattle.scheme_model.specs.Program.{Prepared, SetResult, TooLarge, entry_meaning, with_entries, is_program, unit_result}
-use Rattle.scheme_model.specs.ScopedProgram.{ScopedProgress, scoped_start_of, after_unit}
+use Rattle.scheme_model.specs.ScopedProgram.{ScopedProgress, scoped_start_of}
 use Rattle.macro_uses.specs.MacroUses.{total_of}
 use Rattle.macro_uses.specs.ScopedUses.{form_numbers}
 use Rattle.syntax_tree.specs.Names.{Names, KeepsNames, AreToldApart}
@@ -23,6 +23,9 @@ use Rattle.syntax_tree.specs.declared.units.UnitKind.TheVariants as kinds
 use Rattle.core_tree.specs.Names.{AllMatch}
 use Rattle.core_tree.specs.Units.{FormsStand, AreDefinitions, definitions_from, defined_by, kind_as}
 use Rattle.core_tree.specs.declared.units.UnitForm.{UnitForm}
+use Rattle.forgotten_locals.specs.Outside.{IsOutside}
+use Rattle.root_laws.specs.AtRoot.{AllAtRoot}
+use Rattle.unit_scopes.specs.Forgotten.{AllOwn, OwnFirst}
 use Rattle.unit_scopes.specs.Opened.{ImportsFor, started, with_imports}
 use Rattle.unit_scopes.specs.Preluded.{Continues}
 use Rattle.unit_scopes.specs.State.{is_program as is_program_kind}
@@ -33,14 +36,15 @@ use Rattle.unit_scopes.proofs.ImportLaws.{same_trees}
 use Rattle.unit_scopes.proofs.PreludeLaws.{started_so}
 use Rattle.standard_scopes.specs.Begun.{IsImport}
 use Rattle.program_expansion.specs.UnitResults.{GoesOn, Expands, ComesTo, expanded_after, with_unit}
-use Rattle.form_expansion.specs.Forms.{StandsAt, AreUnfolded, Unfolds}
+use Rattle.form_expansion.specs.Forms.{StandsOutside, StandsAt, AreUnfolded, Unfolds}
 use Rattle.unit_imports.specs.EntriesMeant.{EachOnce}
 use Rattle.unit_imports.specs.declared.expanded.Expanded.{Expanded}
 use Rattle.form_expansion.specs.declared.forms.Bench.{Bench}
 use Rattle.standard_scopes.proofs.Growing.{stands_on}
 use Rattle.program_expansion.proofs.ImportedNames.{meaning_in, imports_for}
 use Rattle.unit_imports.proofs.MeaningLaws.{entries_kept}
-use Rattle.program_expansion.proofs.UnitGoes.{searched_goes}
+use Rattle.form_expansion.proofs.BenchLaws.{stands_in}
+use Rattle.program_expansion.proofs.TurnsForget.{goes_behind}
 
 -- ---- imports
 
@@ -76,27 +80,34 @@ start_is kind unit p g ds s h own k =
     ∙ (ap (λ (e : Entries). started p.number (is_program p.placed.source.kind) (with_imports p.number (imported_by ds) e) s) h.entry
     ∙ started_so p g (with_entries p.number ds g.entry) s h))
 
+-- nothing local is there when a unit begins where nothing was
+pub begun_outside : (c : Bench) (unit : ℕ) (program : Bool) (entry : Entries) (ls : List Frames) (s : ScopedState) → UnitStands c.work c.scope ls (started unit program entry s) [] → IsOutside s → AllAtRoot s → AllOwn c.scope →
+    StandsOutside c ls (started unit program entry s) []
+begun_outside c unit program entry ls s h outside macros own = record { stands = h; outside = ap (λ (t : ScopedState). started unit program entry t) outside; macros = macros; notes = tt; own = own }
+
 -- a bench on which the definition's unit begins
 pub record BeginsAt (b : Bench) (s : ScopedState) : Type 0 where
   pub layout : List Frames
-  pub stands : UnitStands b.work b.scope layout s []
+  pub stands : StandsOutside b layout s []
   pub fresh : (m : ℕ) → IsFresh s m
 
-pub goes_begun : (b c : Bench) (w : Work) (unit : ℕ) (kind : UnitKind) (xs : List Imported) (es : List code.Entry) (p : Prepared) (g : ScopedProgress) (ds : List Entry) → GoesOn b g → p.number ≡ unit → kind_as kind ≡ p.placed.source.kind →
+pub goes_begun : (b c : Bench) (w : Work) (unit : ℕ) (kind : UnitKind) (xs : List Imported) (es : List code.Entry) (p : Prepared) (g : ScopedProgress) (ds : List Entry) (goes : GoesOn b g) → p.number ≡ unit → kind_as kind ≡ p.placed.source.kind →
     w.trees ≡ b.work.trees → KeepsNames b.work.symbols w.symbols → AreToldApart w.symbols.idents → AreToldApart w.symbols.symbols → AllMatch (IsImport w.symbols) xs es → AreEntries b.work.symbols es ds → EachOnce es →
     ((ls : List Frames) (s : ScopedState) (notes : List (Note FramedIdent)) (given : List ℕ → Option Meaning) → UnitStands w b.scope ls s notes → ImportsFor w.symbols xs given →
     UnitStands c.work c.scope (ls ++ [] ∷ []) (started unit (is_program_kind kind) (with_imports unit given s.entry) s) []) →
-    ((ls : List Frames) (s : ScopedState) (notes : List (Note FramedIdent)) (given : List ℕ → Option Meaning) → UnitStands w b.scope ls s notes → (m : ℕ) → IsFresh (started unit (is_program_kind kind) (with_imports unit given s.entry) s) m) →
-    BeginsAt c (scoped_start_of p g (with_entries p.number ds g.entry))
-goes_begun b c w unit kind xs es p g ds goes own k trees names apart told all are once rests fresh =
+    ((ls : List Frames) (s : ScopedState) (notes : List (Note FramedIdent)) (given : List ℕ → Option Meaning) → UnitStands w b.scope ls s notes → (m : ℕ) → IsFresh (started unit (is_program_kind kind) (with_imports unit given s.entry) s) m) → (AllOwn b.scope → OwnFirst c.scope × AllOwn c.scope) →
+    BeginsAt c (scoped_start_of p goes.outside (with_entries p.number ds goes.outside.entry))
+goes_begun b c w unit kind xs es p g ds goes own k trees names apart told all are once rests fresh owned =
     let at = goes.stands in
-    let now = stands_on b.work w (same_trees b.work w trees names) names apart told b.scope at.layout goes.state at.notes at.stands in
-    let is = start_is kind unit p g ds goes.state goes.continues own k in
+    let now = stands_on b.work w (same_trees b.work w trees names) names apart told b.scope goes.layout goes.state goes.notes at.stands in
+    let is = start_is kind unit p goes.outside ds goes.state goes.continues own k in
     let given = imports_entered w.symbols xs ds (imports_for w.symbols xs es ds all (entries_kept b.work.symbols w.symbols names es ds are) once) in
     record {
-      layout = at.layout ++ [] ∷ [];
-      stands = subst (λ (s : ScopedState). UnitStands c.work c.scope (at.layout ++ [] ∷ []) s []) is (rests at.layout goes.state at.notes (imported_by ds) now given);
-      fresh = subst (λ (s : ScopedState). (m : ℕ) → IsFresh s m) is (fresh at.layout goes.state at.notes (imported_by ds) now);
+      layout = goes.layout ++ [] ∷ [];
+      stands =
+          subst (λ (s : ScopedState). StandsOutside c (goes.layout ++ [] ∷ []) s []) is
+          (begun_outside c unit (is_program_kind kind) (with_imports unit (imported_by ds) goes.state.entry) (goes.layout ++ [] ∷ []) goes.state (rests goes.layout goes.state goes.notes (imported_by ds) now given) at.outside at.macros (owned at.own).1);
+      fresh = subst (λ (s : ScopedState). (m : ℕ) → IsFresh s m) is (fresh goes.layout goes.state goes.notes (imported_by ds) now);
     }
 
 -- ---- what came of the forms
@@ -108,16 +119,12 @@ module _ (all : List Placed) (known : Known) (b : Bench) (g : ScopedProgress) (p
   abbrev start : ScopedState
   start = scoped_start_of p g (with_entries p.number imports.0 g.entry)
 
-  -- the bench goes on behind the unit
-  pub goes_behind : (c : Bench) → StandsAt c gone.1 → GoesOn c (after_unit p imports (with_entries p.number imports.0 g.entry) g.results gone)
-  goes_behind c h = record { state = gone.1; stands = h; continues = record { table = refl; macros = refl; places = refl; definitions = refl; entry = (searched_goes known p start).entry } }
-
   ended : (o : Option (List Formed)) → AreUnfolded b p.number gone.1 None o → ComesTo all (with_unit g gone.1) b.work None (unit_result p imports gone.1.table o)
   ended None h = (TooLarge, refl)
   ended (Some fs) h = absurd h
 
   pub none_expands : (from to : ℕ) → Unfolds b known p start None → to ≡ from + total_of gone.1.uses (form_numbers p) → Expands all known b g p imports from to None
-  none_expands from to h steps = record { goes = goes_behind b h.stands; comes = ended gone.0 h.forms; steps = steps }
+  none_expands from to h steps = record { goes = goes_behind known g p imports b h.stands; comes = ended gone.0 h.forms; steps = steps }
 
   -- the forms are the definition's
   pub record AreItsForms (cs : List UnitForm) : Type 0 where
@@ -136,7 +143,7 @@ module _ (all : List Placed) (known : Known) (b : Bench) (g : ScopedProgress) (p
   pub some_expands : (c : Bench) (came : Expanded) (cs : List UnitForm) → StandsAt c gone.1 → (f : AreItsForms cs) → ComesTo all (with_unit g gone.1) c.work (Some came) (unit_result p imports gone.1.table (Some f.formed)) →
       (from to : ℕ) → to ≡ from + total_of gone.1.uses (form_numbers p) → Expands all known c g p imports from to (Some came)
   some_expands c came cs stands f came_to from to steps = record {
-    goes = goes_behind c stands;
+    goes = goes_behind known g p imports c stands;
     comes = subst (λ (o : Option (List Formed)). ComesTo all (with_unit g gone.1) c.work (Some came) (unit_result p imports gone.1.table o)) (sym f.is) came_to;
     steps = steps;
   }
@@ -144,8 +151,15 @@ module _ (all : List Placed) (known : Known) (b : Bench) (g : ScopedProgress) (p
 -- ---- names alone were added
 
 pub stands_at : (b : Bench) (w : Work) (s : ScopedState) → w.trees ≡ b.work.trees → KeepsNames b.work.symbols w.symbols → AreToldApart w.symbols.idents → AreToldApart w.symbols.symbols → StandsAt b s → StandsAt (record b { work = w }) s
-stands_at b w s trees names apart told h =
-    record { layout = h.layout; notes = h.notes; stands = stands_on b.work w (same_trees b.work w trees names) names apart told b.scope h.layout s h.notes h.stands }
+stands_at b w s trees names apart told h = record { layout = h.layout; state = h.state; notes = h.notes; stands = stands_in b w (same_trees b.work w trees names) names apart told h.layout h.state h.notes h.stands; is = h.is }
 
 pub goes_in : (b : Bench) (w : Work) (g : ScopedProgress) → w.trees ≡ b.work.trees → KeepsNames b.work.symbols w.symbols → AreToldApart w.symbols.idents → AreToldApart w.symbols.symbols → GoesOn b g → GoesOn (record b { work = w }) g
-goes_in b w g trees names apart told h = record { state = h.state; stands = stands_at b w h.state trees names apart told h.stands; continues = h.continues }
+goes_in b w g trees names apart told h = record {
+  outside = h.outside;
+  is = h.is;
+  layout = h.layout;
+  state = h.state;
+  notes = h.notes;
+  stands = stands_in b w (same_trees b.work w trees names) names apart told h.layout h.state h.notes h.stands;
+  continues = h.continues;
+}

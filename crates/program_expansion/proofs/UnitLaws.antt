@@ -26,6 +26,8 @@ use Rattle.unit_imports.specs.EntriesMeant.{HaveMeaning, EachOnce}
 use Rattle.program_findings.specs.StandIn.{StandIn}
 use Rattle.form_expansion.specs.declared.forms.Bench.{Bench}
 use Rattle.form_expansion.proofs.BenchLaws.{bench_in}
+use Rattle.program_expansion.proofs.UnitCame.{begun_outside}
+use Rattle.unit_scopes.specs.Forgotten.{AllOwn, OwnFirst}
 use Rattle.unit_imports.proofs.DefinedLaws.{known_definitions}
 use Rattle.program_expansion.proofs.ImportedNames.{meaning_in, imports_for}
 use Rattle.unit_imports.proofs.MeaningLaws.{mean_kept, names_on}
@@ -42,15 +44,17 @@ pub unit_begun : (b c : Bench) (w : Work) (unit : ℕ) (program : Bool) (xs : Li
     AreToldApart w.symbols.symbols → ImportsFor w.symbols xs imported → c.region ≡ b.region → c.work.trees ≡ w.trees → KeepsNames w.symbols c.work.symbols →
     ((ls : List Frames) (s : ScopedState) (notes : List (Note FramedIdent)) (given : List ℕ → Option Meaning) → UnitStands w b.scope ls s notes → ImportsFor w.symbols xs given →
     UnitStands c.work c.scope (ls ++ [] ∷ []) (started unit program (with_imports unit given s.entry) s) []) →
-    ((ls : List Frames) (s : ScopedState) (notes : List (Note FramedIdent)) (given : List ℕ → Option Meaning) → UnitStands w b.scope ls s notes → (m : ℕ) → IsFresh (started unit program (with_imports unit given s.entry) s) m) →
+    ((ls : List Frames) (s : ScopedState) (notes : List (Note FramedIdent)) (given : List ℕ → Option Meaning) → UnitStands w b.scope ls s notes → (m : ℕ) → IsFresh (started unit program (with_imports unit given s.entry) s) m) → (AllOwn b.scope → OwnFirst c.scope × AllOwn c.scope) →
     IsBegun c unit
-unit_begun b c w unit program xs imported is trees names apart told are region after added rests fresh =
+unit_begun b c w unit program xs imported is trees names apart told are region after added rests fresh owned =
     let at = bench_in b w trees names apart told is in
+    let own = owned at.stands.own in
     record {
       region = (same_trees b.work c.work (after ∙ trees) (names_on b.work.symbols w.symbols c.work.symbols names added)).regions c.region (subst (λ (r : Region). IsOpened b.work r) (sym region) is.region);
       layout = at.layout ++ [] ∷ [];
       state = started unit program (with_imports unit imported at.state.entry) at.state;
-      stands = rests at.layout at.state at.notes imported at.stands are;
+      stands = begun_outside c unit program (with_imports unit imported at.state.entry) (at.layout ++ [] ∷ []) at.state (rests at.layout at.state at.notes imported at.stands.stands are) at.stands.outside at.stands.macros own.1;
+      first = own.0;
       number = refl;
-      fresh = fresh at.layout at.state at.notes imported at.stands;
+      fresh = fresh at.layout at.state at.notes imported at.stands.stands;
     }

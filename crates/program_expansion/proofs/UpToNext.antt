@@ -159,10 +159,20 @@ module _ (spelled : LibraryName → List ℕ) (us : List Placed) (known : Known)
       let k : ScopedProgress = record g { results = r ∷ g.results } in
       let is : scoped_at us known (x ++ n ∷ []) ≡ k = turn_broken us known x n turn e.0 e.1 in
       let c = up.goes.continues in
+      let o = up.goes.outside in
+      let f = up.goes.is in
       record {
         knows = up.knows;
         goes = subst (λ (q : ScopedProgress). GoesOn b q) (sym is)
-            (record { state = up.goes.state; stands = up.goes.stands; continues = record { table = c.table; macros = c.macros; places = c.places; definitions = c.definitions; entry = c.entry } });
+            (record {
+              outside = record o { results = k.results };
+              is = record { table = f.table; macros = f.macros; places = f.places; definitions = f.definitions; entry = f.entry; results = refl };
+              layout = up.goes.layout;
+              state = up.goes.state;
+              notes = up.goes.notes;
+              stands = up.goes.stands;
+              continues = record { table = c.table; macros = c.macros; places = c.places; definitions = c.definitions; entry = c.entry };
+            });
         come = subst (λ (q : ScopedProgress). HaveCome us q b.work es) (sym is)
             (come_none us g.results n turn.unit turn.there r refl turn.fresh (λ none. absurd cc) (done_at us known x (n ∷ y) order) b.work g k refl refl (none_in_front (IsOfUnit n) g.table) es up.come (e.0, refl));
         heads = subst (λ (q : ScopedProgress). HeadsBy us q units.heads.items) (sym is)

@@ -1,18 +1,20 @@
 -- What units come to by the definition of a program, and what the bench stands for between two of them (R7RS 5.1, 5.6).
-use Rattle.std.specs.Prelude.{◌≡◌, ℕ, ◌+◌, List, length, reverse, slice_get, Option, Some, None, String}
+use Rattle.std.specs.Prelude.{◌≡◌, ℕ, ◌+◌, List, true, length, reverse, slice_get, Option, Some, None, String}
 use Rattle.std.specs.declared.alloc.Global.{Global}
 use Rattle.std.specs.List.{flat_map}
 use Rattle.std.specs.BTreeMap.{BTreeMap, get_by_text}
 use Rattle.std.specs.Option.{option_map}
 use Rattle.scheme_model.specs.Requirements.{LibraryName, Known}
-use Rattle.scheme_model.specs.ScopedExpansion.{ScopedState}
+use Rattle.scheme_model.specs.Order.{Note}
+use Rattle.scheme_model.specs.ScopedExpansion.{Frames, FramedIdent, ScopedState}
 use Rattle.scheme_model.specs.Entries.{Entry}
 use Rattle.scheme_model.specs.UnitExpansion.{Formed}
 use Rattle.scheme_model.specs.IncludedUnits.{Placed}
-use Rattle.scheme_model.specs.Program.{Prepared, prepared, prepare, unit_named, WholeFault, fault_before, SetResult, UnitResult, Program, result_at, with_entries, broken_result, unit_result}
+use Rattle.scheme_model.specs.Program.{Prepared, prepared, prepare, unit_named, WholeFault, fault_before, SetResult, UnitResult, Program, result_at, with_entries, broken_result, unit_result, is_ready}
 use Rattle.scheme_model.specs.ProgramArrows.{unit_names}
 use Rattle.scheme_model.specs.Spelling.{second_places}
-use Rattle.scheme_model.specs.ScopedProgram.{ScopedProgress, scoped_start_of, after_unit}
+use Rattle.scheme_model.specs.ScopedProgram.{ScopedProgress, scoped_start_of, after_unit, scoped_work, scoped_before}
+use Rattle.forgotten_locals.specs.Programs.{IsProgressOutside}
 use Rattle.macro_uses.specs.MacroUses.{total_of}
 use Rattle.macro_uses.specs.ScopedUses.{form_numbers}
 use Rattle.syntax_tree.specs.Meant.{AreEntries}
@@ -23,7 +25,7 @@ use Rattle.feature_requirements.specs.Judged.{Knows}
 use Rattle.unit_scopes.specs.Preluded.{Continues}
 use Rattle.unit_scopes.specs.Searched.{searched_unit_over}
 use Rattle.read_documents.specs.Broken.{told}
-use Rattle.form_expansion.specs.Forms.{StandsAt}
+use Rattle.form_expansion.specs.Forms.{StandsOutside}
 use Rattle.document_units.specs.Turned.{scoped_at}
 use Rattle.unit_imports.specs.declared.expanded.Expanded.{Expanded}
 pub use Rattle.unit_results.specs.Came.{CameTo, ComesTo, IsCome, so_far, HaveCome}
@@ -50,11 +52,21 @@ HeadsBy all g hs = (n : ℕ) (u : Placed) (h : Head) → slice_get all n ≡ Som
 
 -- ---- the bench between two units
 
--- it goes on with what is expanded so far
+-- it goes on with what is expanded so far, outside of all forms
 pub record GoesOn (b : Bench) (g : ScopedProgress) : Type 0 where
+  pub outside : ScopedProgress
+  pub is : IsProgressOutside g outside
+  pub layout : List Frames
   pub state : ScopedState
-  pub stands : StandsAt b state
-  pub continues : Continues state g
+  pub notes : List (Note FramedIdent)
+  pub stands : StandsOutside b layout state notes
+  pub continues : Continues state outside
+
+-- it is this unit's turn
+pub record IsTurnOf (all : List Placed) (known : Known) (g : ScopedProgress) (p : Prepared) : Type 0 where
+  pub count : ℕ
+  pub reached : scoped_work all (prepare all 0 all) known count scoped_before ≡ g
+  pub ready : is_ready all (prepare all 0 all) g.results p ≡ true
 
 -- what a unit that imports this comes to, and the state then
 abbrev pub expanded_after : Known → ScopedProgress → Prepared → List Entry → Option (List Formed) × ScopedState

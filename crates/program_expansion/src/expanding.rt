@@ -1,9 +1,8 @@
 //! Units one after another (R7RS 5.6), each after what it imports.
 ghost use Rattle.std.specs.Prelude.{◌≡◌, ℕ, ◌+◌, ◌<◌, List, [], ◌∷◌, ◌++◌, length, replicate, map, vec_len, Some, None, IfOk, OnOk, IfSome, true, ◌==◌, if◌then◌else◌};
-ghost use Rattle.scheme_model.specs.Entries.{Entry as ModelEntry};
 ghost use Rattle.scheme_model.specs.Declarations.{is_part_kind};
 ghost use Rattle.scheme_model.specs.IncludedUnits.{Placed};
-ghost use Rattle.scheme_model.specs.Program.{Prepared, SetResult, UnitResult, is_in, form_trees, unit_result, result_at, with_refused};
+ghost use Rattle.scheme_model.specs.Program.{Prepared, UnitResult, is_in, form_trees, unit_entries, unit_result, result_at, with_refused};
 ghost use Rattle.scheme_model.specs.Requirements.{Known, LibraryName};
 ghost use Rattle.scheme_model.specs.ScopedProgram.{ScopedProgress, scoped_before};
 ghost use Rattle.scheme_model.specs.UnitExpansion.{Formed};
@@ -21,7 +20,7 @@ ghost use Rattle.feature_requirements.specs.Judged.{Knows};
 ghost use Rattle.unit_scopes.specs.Opened.{IsNew};
 ghost use Rattle.unit_scopes.specs.Outcomes.{Grows};
 ghost use Rattle.standard_scopes.specs.Begun.{IsImport};
-ghost use Rattle.program_expansion.specs.UnitResults.{Expands, FindsLibraries, GoesOn, HeadsBy, IsUpTo, expanded_after, with_unit};
+ghost use Rattle.program_expansion.specs.UnitResults.{Expands, FindsLibraries, GoesOn, IsTurnOf, HeadsBy, IsUpTo, expanded_after, with_unit};
 ghost use Rattle.read_documents.specs.UnitSources.{AreSourcesOf, IsSourceOf};
 ghost use Rattle.program_leaves.specs.Formed.{IsFormed};
 ghost use Rattle.unit_results.specs.Formed.{CameFormed};
@@ -207,12 +206,13 @@ fn expand_unit<L: Ledger>(
     ensures exports { IfOk result (λ came. IfSome came (λ came. HaveMeaning bench.new.work.symbols came.exports)) }
     ensures libraries { (known : Known) → Knows bench.old.scope.libraries known → OnOk result (Knows bench.new.scope.libraries known) }
     // The unit comes to what the definition gives, and the bench goes on behind it.
-    ensures expands { (spelled : LibraryName → List ℕ) (us : List Placed) (known : Known) (g : ScopedProgress) (p : Prepared) (given_entries : List ModelEntry × List SetResult) → Knows bench.old.scope.libraries known →
-        GoesOn bench.old g → p.number ≡ unit → IsSourceOf spelled p None source.now → AreLibraries bench.old.work.symbols libraries.entry spelled us g.results →
+    ensures expands { (spelled : LibraryName → List ℕ) (us : List Placed) (known : Known) (g : ScopedProgress) (p : Prepared) → Knows bench.old.scope.libraries known →
+        GoesOn bench.old g → IsTurnOf us known g p → p.number ≡ unit → IsSourceOf spelled p None source.now → AreLibraries bench.old.work.symbols libraries.entry spelled us g.results →
+        let given_entries = unit_entries us g.results p in
         AreEntries bench.old.work.symbols given.joined.entries.items given_entries.0 → IfOk result (Expands us known bench.new g p given_entries steps.old steps.new) }
     // What is found of it is what the definition has of it, where the program comes to have these units.
-    ensures finds { (spelled : LibraryName → List ℕ) (known : Known) (g : ScopedProgress) (p : Prepared) (given_entries : List ModelEntry × List SetResult) → Knows bench.old.scope.libraries known →
-        GoesOn bench.old g → p.number ≡ unit → IsSourceOf spelled p None source.now → AreEntries bench.old.work.symbols given.joined.entries.items given_entries.0 →
+    ensures finds { (spelled : LibraryName → List ℕ) (us : List Placed) (known : Known) (g : ScopedProgress) (p : Prepared) → Knows bench.old.scope.libraries known →
+        GoesOn bench.old g → IsTurnOf us known g p → p.number ≡ unit → IsSourceOf spelled p None source.now → let given_entries = unit_entries us g.results p in AreEntries bench.old.work.symbols given.joined.entries.items given_entries.0 →
         (reads : List Read) (ends : List UnitResult) (r : UnitResult) → ArePlacesOf places.entry reads ends → result_at ends unit ≡ Some r → r.unit ≡ p → AreSetsFound reads ends p given_entries.1 given.findings.items →
         LostIn (length places.entry.documents.now) p.placed.source.lost →
         IfOk result (λ came. IfSome came (λ came. IsFoundOf reads (in_the_end ends (with_unit g (expanded_after known g p given_entries.0).1))

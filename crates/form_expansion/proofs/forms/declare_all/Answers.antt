@@ -20,7 +20,7 @@ loop-place-init g c = record {
   so =
       subst (λ (n : ℕ). PassedFrom c.args.bench.now c.args.bench.now c.args.unit n 0 c.args.forms.now c.new-all.result.items) (sym c.requires.nothing)
       (subst (λ (ds : List code.Declared). PassedFrom c.args.bench.now c.args.bench.now c.args.unit 0 0 c.args.forms.now ds) (sym c.new-all.ensures.items)
-      (none_from c.args.bench.now c.args.unit c.args.forms.now c.requires.begun.region));
+      (none_from c.args.bench.now c.args.unit c.args.forms.now c.requires.begun.region c.requires.begun.first));
   steps = subst (λ (ds : List code.Declared). c.args.steps.now ≡ c.args.steps.now + used_by ds) (sym c.new-all.ensures.items) (omega arith);
 }
 
@@ -30,7 +30,7 @@ declare-requires-clause-read g c = read_here c.args.forms.now c.requires.read c.
 pub declare-requires-clause-stands : goal.declare-requires-clause-stands
 declare-requires-clause-stands g c =
     let i = c.loop-place.invariant in
-    can_pass c.loop-place.bench c.args.unit c.loop-place.all.items i.holds c.in_ok-number.number (omega (arith, i.count, c.in_ok-number.ensures))
+    can_pass c.loop-place.bench c.args.unit c.loop-place.all.items (i.stays.first c.requires.begun.first) i.holds c.in_ok-number.number (omega (arith, i.count, c.in_ok-number.ensures))
 
 pub loop-place-preserved : goal.loop-place-preserved
 loop-place-preserved g c =

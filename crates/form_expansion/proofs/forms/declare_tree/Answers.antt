@@ -7,7 +7,7 @@ use Rattle.expansion_laws.proofs.OtherForms.{declared_stays}
 use Rattle.expansion_laws.proofs.TopForms.{declared_binds}
 use Rattle.form_expansion.specs.Forms.{PassesTo, known_by}
 use Rattle.form_expansion.specs.declared.forms.Bench.{Bench}
-use Rattle.form_expansion.proofs.BenchLaws.{stays_by}
+use Rattle.form_expansion.proofs.BenchLaws.{same_root, stays_by}
 use Rattle.form_expansion.proofs.FormSteps.{passes_ok, passes_at}
 use Rattle.form_expansion.proofs.forms.declare_tree.Goals as goal
 
@@ -24,8 +24,10 @@ pub returns-in-Ok-clause-stays : goal.returns-in-Ok-clause-stays
 returns-in-Ok-clause-stays g c =
     let b = c.args.bench.now in let d = c.declare_form in let at = c.requires.stands in let t = c.requires.form.0 in
     let k : Bench = record { work = d.new.work; region = b.region; scope = d.new.units } in
-    let goes = (c.in-Ok.ensures.declared (known_by b.scope.libraries) at.layout at.state at.notes t.0 (λ n _. refl) at.stands at.counts t.1).2 in
-    stays_by b k c.requires.region refl d.ensures.keeps d.ensures.names d.ensures.added d.ensures.regions goes.units goes.libraries
+    let known = known_by b.scope.libraries in let p = declared known c.args.number t.0 at.notes at.state in
+    let goes = (c.in-Ok.ensures.declared known at.layout at.state at.notes t.0 (λ n _. refl) at.stands at.counts t.1).2 in
+    stays_by b k c.requires.region refl d.ensures.keeps d.ensures.names d.ensures.added d.ensures.regions goes.units
+    (same_root b.work k.work b.scope k.scope at.layout goes.layout at.state p.1 at.notes p.0.notes at.stands goes.stands (declared_stays c.args.number known t.0 at.notes at.state).unit goes.units) goes.libraries
 
 pub returns-in_ok-form_fault-in-Err-clause-passes : goal.returns-in_ok-form_fault-in-Err-clause-passes
 returns-in_ok-form_fault-in-Err-clause-passes g c = λ known ls s notes t knows stands counts for.
@@ -43,7 +45,9 @@ returns-in_ok-form_fault-in-Err-clause-stays g c =
     let known = known_by b.scope.libraries in
     let goes = (subst (λ (x : ExpandFault). Declares b.work k.work b.region b.scope k.scope c.args.blank.budget d.new.budget at.layout c.args.number d.new.trace (Err x) (declared known c.args.number t.0 at.notes at.state)) c.in_ok-form_fault-in-Err.ensures
     (c.in-Err.ensures.declared known at.layout at.state at.notes t.0 (λ n _. refl) at.stands at.counts t.1)).2 in
-    stays_by b k c.requires.region refl d.ensures.keeps d.ensures.names d.ensures.added d.ensures.regions goes.units goes.libraries
+    let p = declared known c.args.number t.0 at.notes at.state in
+    stays_by b k c.requires.region refl d.ensures.keeps d.ensures.names d.ensures.added d.ensures.regions goes.units
+    (same_root b.work k.work b.scope k.scope at.layout goes.layout at.state p.1 at.notes p.0.notes at.stands goes.stands (declared_stays c.args.number known t.0 at.notes at.state).unit goes.units) goes.libraries
 
 pub returns-in_err-form_fault-in-Err-clause-passes : goal.returns-in_err-form_fault-in-Err-clause-passes
 returns-in_err-form_fault-in-Err-clause-passes g c = λ known ls s notes t knows stands counts for.

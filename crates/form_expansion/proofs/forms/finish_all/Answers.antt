@@ -7,7 +7,7 @@ use Rattle.core_tree.specs.declared.units.UnitForm.{UnitForm}
 use Rattle.form_expansion.proofs.BenchLaws.{grows_then, stays_itself, stays_on}
 use Rattle.read_documents.proofs.Enumerated.{next_placed, all_placed}
 use Rattle.form_expansion.proofs.FormsHold.{held_bench, is_few}
-use Rattle.form_expansion.proofs.FormsFinish.{Finished}
+use Rattle.form_expansion.proofs.FormsFinish.{Ended}
 use Rattle.form_expansion.proofs.FormsFinished.{AreFinished, AllFrom, none_finished, can_finish_at, finished_at, all_finished_formed, none_from, next_from, all_from}
 use Rattle.form_expansion.proofs.forms.finish_all.Goals as goal
 use Rattle.form_expansion.proofs.forms.finish_all.Goals.{In-Some, in-None, in-Some+then-is_large}
@@ -32,35 +32,35 @@ loop-place-init g c = record {
       (none_from c.args.bench.now c.args.unit c.args.declared.items c.args.total.now c.args.steps.now);
 }
 
-pub finish-requires-clause-stands : goal.finish-requires-clause-stands
-finish-requires-clause-stands g c =
+pub finish_form-requires-clause-stands : goal.finish_form-requires-clause-stands
+finish_form-requires-clause-stands g c =
     let l = c.loop-place in let ds = c.args.declared.items in
-    let p = turn g (goal.at.finish-requires-clause-stands g c).In-Some in
-    can_finish_at l.bench c.args.unit (length l.yielded) ds l.invariant.finished.held c.in_ok-number.number (c.in_ok-number.ensures ∙ p.0) c.in-Some.form p.1
+    let p = turn g (goal.at.finish_form-requires-clause-stands g c).In-Some in
+    can_finish_at l.bench c.args.unit (length l.yielded) ds (l.invariant.stays.first c.requires.first) l.invariant.finished.held c.in_ok-number.number (c.in_ok-number.ensures ∙ p.0) c.in-Some.form p.1
 
 pub loop-place-preserved : goal.loop-place-preserved
 loop-place-preserved g c =
-    let l = c.loop-place in let ds = c.args.declared.items in let e = c.in_ok-finish.ensures in let k = c.in_ok-finish.field-0 in
+    let l = c.loop-place in let ds = c.args.declared.items in let e = c.in_ok-finish_form.ensures in let k = c.in_ok-finish_form.field-0 in
     let p = turn g (goal.at.loop-place-preserved g c).In-Some in
-    let done : Finished l.bench c.finish.new.bench c.args.unit (length l.yielded) c.in-Some.form l.total c.finish.new.total l.steps c.finish.new.steps k =
-    subst (λ (m : ℕ). Finished l.bench c.finish.new.bench c.args.unit m c.in-Some.form l.total c.finish.new.total l.steps c.finish.new.steps k) (c.in_ok-number.ensures ∙ p.0) e.finishes in
-    let x = finished_at l.bench c.finish.new.bench c.args.unit (length l.yielded) ds l.forms k l.invariant.finished e.stays.trees e.stays.names c.in-Some.form p.1 l.total c.finish.new.total l.steps c.finish.new.steps done in
+    let done : Ended l.bench c.finish_form.new.bench c.args.unit (length l.yielded) c.in-Some.form l.total c.finish_form.new.total l.steps c.finish_form.new.steps k =
+    subst (λ (m : ℕ). Ended l.bench c.finish_form.new.bench c.args.unit m c.in-Some.form l.total c.finish_form.new.total l.steps c.finish_form.new.steps k) (c.in_ok-number.ensures ∙ p.0) e.ends in
+    let x = finished_at l.bench c.finish_form.new.bench c.args.unit (length l.yielded) ds l.forms k l.invariant.finished e.stays.trees e.stays.names c.in-Some.form p.1 l.total c.finish_form.new.total l.steps c.finish_form.new.steps done in
     let next : suc (length l.yielded) ≡ length (l.yielded ++ (c.in-Some.place, c.in-Some.form) ∷ []) = let long = length_push l.yielded (c.in-Some.place, c.in-Some.form) in omega (arith, long) in
     record {
       finished =
-          subst (λ (cs : List UnitForm). AreFinished c.finish.new.bench c.args.unit (length (l.yielded ++ (c.in-Some.place, c.in-Some.form) ∷ [])) ds cs) (sym c.in_ok-push.ensures.ok)
-          (subst (λ (n : ℕ). AreFinished c.finish.new.bench c.args.unit n ds (l.forms ++ k ∷ [])) next x);
+          subst (λ (cs : List UnitForm). AreFinished c.finish_form.new.bench c.args.unit (length (l.yielded ++ (c.in-Some.place, c.in-Some.form) ∷ [])) ds cs) (sym c.in_ok-push.ensures.ok)
+          (subst (λ (n : ℕ). AreFinished c.finish_form.new.bench c.args.unit n ds (l.forms ++ k ∷ [])) next x);
       count = ap (λ (cs : List UnitForm). length cs) c.in_ok-push.ensures.ok ∙ (let one = length_push l.forms k in let at = l.invariant.count in omega (arith, one, at, next));
-      stays = stays_on c.args.bench.now l.bench c.finish.new.bench l.invariant.stays e.stays;
+      stays = stays_on c.args.bench.now l.bench c.finish_form.new.bench l.invariant.stays e.stays;
       so =
-          subst (λ (cs : List UnitForm). AllFrom c.args.bench.now c.finish.new.bench c.args.unit ds c.args.total.now c.finish.new.total (length (l.yielded ++ (c.in-Some.place, c.in-Some.form) ∷ [])) c.args.steps.now c.finish.new.steps cs) (sym c.in_ok-push.ensures.ok)
-          (subst (λ (n : ℕ). AllFrom c.args.bench.now c.finish.new.bench c.args.unit ds c.args.total.now c.finish.new.total n c.args.steps.now c.finish.new.steps (l.forms ++ k ∷ [])) next
-          (next_from c.args.bench.now l.bench c.finish.new.bench c.args.unit ds c.args.total.now l.total (length l.yielded) c.args.steps.now l.steps l.forms l.invariant.so l.invariant.stays e.stays (sym c.is_large.ensures ∙ c.if-is_large.false)
-          c.in-Some.form p.1 k c.finish.new.total c.finish.new.steps e.blank e.same done));
+          subst (λ (cs : List UnitForm). AllFrom c.args.bench.now c.finish_form.new.bench c.args.unit ds c.args.total.now c.finish_form.new.total (length (l.yielded ++ (c.in-Some.place, c.in-Some.form) ∷ [])) c.args.steps.now c.finish_form.new.steps cs) (sym c.in_ok-push.ensures.ok)
+          (subst (λ (n : ℕ). AllFrom c.args.bench.now c.finish_form.new.bench c.args.unit ds c.args.total.now c.finish_form.new.total n c.args.steps.now c.finish_form.new.steps (l.forms ++ k ∷ [])) next
+          (next_from c.args.bench.now l.bench c.finish_form.new.bench c.args.unit ds c.args.total.now l.total (length l.yielded) c.args.steps.now l.steps l.forms l.invariant.so l.invariant.stays e.stays (sym c.is_large.ensures ∙ c.if-is_large.false)
+          c.in-Some.form p.1 k c.finish_form.new.total c.finish_form.new.steps e.blank e.same done));
     }
 
-pub finish-requires-clause-few : goal.finish-requires-clause-few
-finish-requires-clause-few g c = is_few c.loop-place.total (sym c.is_large.ensures ∙ c.if-is_large.false)
+pub finish_form-requires-clause-few : goal.finish_form-requires-clause-few
+finish_form-requires-clause-few g c = is_few c.loop-place.total (sym c.is_large.ensures ∙ c.if-is_large.false)
 
 pub returns-clause-formed : goal.returns-clause-formed
 returns-clause-formed g c = λ few.
@@ -78,8 +78,8 @@ returns-clause-bench g c = held_bench c.loop-place.bench c.args.unit (length c.l
 pub returns-clause-stays : goal.returns-clause-stays
 returns-clause-stays g c = c.loop-place.invariant.stays
 
-pub finish-requires-clause-region : goal.finish-requires-clause-region
-finish-requires-clause-region g c = c.loop-place.invariant.stays.opened
+pub finish_form-requires-clause-region : goal.finish_form-requires-clause-region
+finish_form-requires-clause-region g c = c.loop-place.invariant.stays.opened
 
 pub returns-clause-finishes : goal.returns-clause-finishes
 returns-clause-finishes g c =
@@ -104,8 +104,8 @@ returns-clause-count g c = λ few.
       | in-Some+then-is_large w ↦ absurd (true≢false (sym w.if-is_large.true ∙ w.is_large.ensures ∙ few))
     ]
 
-pub returns-in_err-finish-clause-grows : goal.returns-in_err-finish-clause-grows
-returns-in_err-finish-clause-grows g c = grows_then c.args.bench.now c.loop-place.bench c.finish.new.bench.work c.loop-place.invariant.stays c.finish.ensures.grows
+pub returns-in_err-finish_form-clause-grows : goal.returns-in_err-finish_form-clause-grows
+returns-in_err-finish_form-clause-grows g c = grows_then c.args.bench.now c.loop-place.bench c.finish_form.new.bench.work c.loop-place.invariant.stays c.finish_form.ensures.grows
 
 pub returns-in_err-push-clause-grows : goal.returns-in_err-push-clause-grows
-returns-in_err-push-clause-grows g c = grows_then c.args.bench.now c.loop-place.bench c.finish.new.bench.work c.loop-place.invariant.stays c.finish.ensures.grows
+returns-in_err-push-clause-grows g c = grows_then c.args.bench.now c.loop-place.bench c.finish_form.new.bench.work c.loop-place.invariant.stays c.finish_form.ensures.grows

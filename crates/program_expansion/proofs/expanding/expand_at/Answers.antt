@@ -25,6 +25,7 @@ use Rattle.standard_scopes.proofs.Growing.{grows_named}
 use Rattle.form_expansion.proofs.BenchLaws.{bench_in}
 use Rattle.unit_results.proofs.CameKept.{have_kept, libraries_kept}
 use Rattle.program_expansion.proofs.TurnCited.{turn_of}
+use Rattle.program_expansion.proofs.TurnsForget.{turn_is}
 use Rattle.program_expansion.proofs.UnitCame.{goes_in}
 use Rattle.program_expansion.proofs.UpTo.{done_at}
 use Rattle.program_expansion.proofs.UpToNext.{libraries_of, broken_next, broken_uses, expanded_uses, none_before, expanded_next}
@@ -144,7 +145,7 @@ returns-clause-next g c = λ spelled us known x y order finds up.
     let libraries : AreLibraries b.work.symbols lib spelled us gp.results = libraries_of spelled us gp b.work lib finds come long (done_at us known x (n ∷ y) order) in
     let given = c.in_ok-given.ensures.exact spelled us gp.results libraries p (record { kind = source.kind; forms = source.forms; specs = source.imports refl }) in
     let goes = goes_in b mid gp c.in_ok-given.ensures.trees c.in_ok-given.ensures.names c.told_apart.ensures.idents c.told_apart.ensures.symbols up.goes in
-    let expands = c.in_ok-came.ensures.expands spelled us known gp p (unit_entries us gp.results p) up.knows goes refl source (libraries_kept b.work.symbols mid.symbols c.in_ok-given.ensures.names lib spelled us gp.results libraries) given in
+    let expands = c.in_ok-came.ensures.expands spelled us known gp p up.knows goes (turn_is us known x n turn) refl source (libraries_kept b.work.symbols mid.symbols c.in_ok-given.ensures.names lib spelled us gp.results libraries) given in
     expanded_next spelled us known x y n order b c.args.units.now es up h at whole now _ c.args.steps.now c.expand_unit.new.steps c.in_ok-came.came (c.in_ok-came.ensures.libraries known up.knows)
     (have_kept b.work now.work (trees_on b.work mid now.work trees c.in_ok-came.ensures.trees) (names_on b.work.symbols mid.symbols now.work.symbols c.in_ok-given.ensures.names c.in_ok-came.ensures.names) us gp es up.come)
     expands refl (ap (λ (k : Head). slice_set hs n k) (c.break_if.ensures ∙ ap (λ (q : Bool). broken_if q fault.TooLarge h) (flipped (is_there c.in_ok-came.came) c.is_none.result c.is_none.ensures)))
@@ -184,7 +185,7 @@ returns-clause-steps g c = λ spelled us known x y order finds up.
     let libraries : AreLibraries b.work.symbols lib spelled us gp.results = libraries_of spelled us gp b.work lib finds come long (done_at us known x (n ∷ y) order) in
     let given = c.in_ok-given.ensures.exact spelled us gp.results libraries p (record { kind = source.kind; forms = source.forms; specs = source.imports refl }) in
     let goes = goes_in b mid gp c.in_ok-given.ensures.trees c.in_ok-given.ensures.names c.told_apart.ensures.idents c.told_apart.ensures.symbols up.goes in
-    let expands = c.in_ok-came.ensures.expands spelled us known gp p (unit_entries us gp.results p) up.knows goes refl source (libraries_kept b.work.symbols mid.symbols c.in_ok-given.ensures.names lib spelled us gp.results libraries) given in
+    let expands = c.in_ok-came.ensures.expands spelled us known gp p up.knows goes (turn_is us known x n turn) refl source (libraries_kept b.work.symbols mid.symbols c.in_ok-given.ensures.names lib spelled us gp.results libraries) given in
     let more = expanded_uses spelled us known x y n order b c.args.units.now es up h at whole in let here = expands.steps in omega (arith, more, here)
 
 pub returns-clause-finds : goal.returns-clause-finds
@@ -224,7 +225,7 @@ returns-clause-finds g c = λ spelled us known x y order finds up reads ends hea
       told = c.in_ok-given.ensures.told spelled us gp.results libraries p (record { kind = source.kind; forms = source.forms; specs = source.imports refl }) reads ends places;
       errors = c.in_ok-given.ensures.errors spelled us gp.results libraries p (record { kind = source.kind; forms = source.forms; specs = source.imports refl }) source.forms refl;
     } in
-    let mine = c.in_ok-came.ensures.finds spelled known gp p (unit_entries us gp.results p) up.knows goes refl source given reads ends result.0 places result.1 result.2 told (lost n turn.unit turn.there) in
+    let mine = c.in_ok-came.ensures.finds spelled us known gp p up.knows goes (turn_is us known x n turn) refl source given reads ends result.0 places result.1 result.2 told (lost n turn.unit turn.there) in
     expanded_found spelled us known x y n order b c.args.units.now es up h at reads ends found whole c.in_ok-came.came mine
 
 pub returns-then-is_some-clause-finds : goal.returns-then-is_some-clause-finds

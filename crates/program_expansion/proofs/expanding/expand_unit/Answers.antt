@@ -3,7 +3,7 @@ use Rattle.std.proofs.Common.{◌≡◌, ℕ, List, [], length, Option, refl, sy
 use Rattle.std.specs.Prelude.{reverse}
 use Rattle.std.proofs.lemmas.List.{length-map}
 use Rattle.scheme_model.specs.Declarations.{UnitForm as ModelForm}
-use Rattle.scheme_model.specs.Program.{unit_result, with_entries}
+use Rattle.scheme_model.specs.Program.{unit_entries, unit_result, with_entries}
 use Rattle.scheme_model.specs.ScopedProgram.{scoped_start_of}
 use Rattle.scheme_model.specs.UnitExpansion.{Formed}
 use Rattle.syntax_tree.specs.Names.{KeepsNames}
@@ -32,6 +32,7 @@ use Rattle.form_expansion.proofs.BenchLaws.{bench_in}
 use Rattle.program_expansion.proofs.ImportedNames.{are_numbered}
 use Rattle.unit_results.proofs.CameKept.{libraries_kept}
 use Rattle.unit_imports.proofs.MeaningLaws.{entries_kept, mean_kept, names_on}
+use Rattle.program_expansion.proofs.TurnsForget.{may_forget}
 use Rattle.program_expansion.proofs.UnitCame.{goes_begun, none_expands, its_forms, some_expands, stands_at}
 use Rattle.program_expansion.proofs.UnitLaws.{imports_given, unit_begun}
 use Rattle.program_expansion.proofs.WorkedForms.{worked_is, worked_read}
@@ -54,7 +55,7 @@ expand_forms-requires-clause-begun g c =
     (subst (λ (ys : List Imported). AllMatch (IsImport w.symbols) ys c.as_slice.result.now) (sym c.as_slice-2.ensures.value) c.in_ok-imports.ensures.imports) in
     let given = imports_given b.work.symbols w.symbols c.in_ok-imports.ensures.names xs es all c.requires.entries c.requires.once in
     unit_begun b (record { work = c.begin_unit.new.work; region = b.region; scope = c.begin_unit.new.self }) w c.args.unit (is_program c.args.source.now.kind) xs given.0 c.requires.bench c.in_ok-imports.ensures.trees c.in_ok-imports.ensures.names
-    c.told_apart.ensures.idents c.told_apart.ensures.symbols given.1 refl c.in_ok-begin_unit.ensures.trees c.in_ok-begin_unit.ensures.names c.in_ok-begin_unit.ensures.rests c.in_ok-begin_unit.ensures.fresh
+    c.told_apart.ensures.idents c.told_apart.ensures.symbols given.1 refl c.in_ok-begin_unit.ensures.trees c.in_ok-begin_unit.ensures.names c.in_ok-begin_unit.ensures.rests c.in_ok-begin_unit.ensures.fresh c.in_ok-begin_unit.ensures.own
 
 pub expand_forms-requires-clause-read : goal.expand_forms-requires-clause-read
 expand_forms-requires-clause-read g c = subst (λ (fs : List UnitForm). WereRead (forms_of fs)) (sym c.at_work.ensures) (worked_read c.args.source.now c.requires.read)
@@ -135,7 +136,8 @@ returns-in_ok-came-in-Some-clause-formed g c =
 -- ---- what the definition has of the unit
 
 pub returns-in-None-clause-expands : goal.returns-in-None-clause-expands
-returns-in-None-clause-expands g c = λ spelled all known gp p imports knows goes own source libraries are.
+returns-in-None-clause-expands g c = λ spelled all known gp p knows goes turn own source libraries are.
+    let imports = unit_entries all gp.results p in
     let b = c.args.bench.now in
     let w = c.imported.new.work in
     let xs = c.as_slice-2.result.now in
@@ -144,16 +146,20 @@ returns-in-None-clause-expands g c = λ spelled all known gp p imports knows goe
     (subst (λ (ys : List Imported). AllMatch (IsImport w.symbols) ys c.as_slice.result.now) (sym c.as_slice-2.ensures.value) c.in_ok-imports.ensures.imports) in
     let begins =
     goes_begun b (record { work = c.begin_unit.new.work; region = b.region; scope = c.begin_unit.new.self }) w c.args.unit c.args.source.now.kind xs es p gp imports.0 goes own source.kind c.in_ok-imports.ensures.trees
-    c.in_ok-imports.ensures.names c.told_apart.ensures.idents c.told_apart.ensures.symbols matched are c.requires.once c.in_ok-begin_unit.ensures.rests c.in_ok-begin_unit.ensures.fresh in
-    let unfolds = c.in_ok-expanded.ensures.unfolds known begins.layout (scoped_start_of p gp (with_entries p.number imports.0 gp.entry)) p (c.in_ok-begin_unit.ensures.knows known knows) begins.stands own begins.fresh own
+    c.in_ok-imports.ensures.names c.told_apart.ensures.idents c.told_apart.ensures.symbols matched are c.requires.once c.in_ok-begin_unit.ensures.rests c.in_ok-begin_unit.ensures.fresh c.in_ok-begin_unit.ensures.own in
+    let start = scoped_start_of p gp (with_entries p.number imports.0 gp.entry) in
+    let begun = scoped_start_of p goes.outside (with_entries p.number imports.0 goes.outside.entry) in
+    let may = may_forget all known p goes.outside gp turn goes.is in
+    let unfolds = c.in_ok-expanded.ensures.unfolds known begins.layout start begun p (c.in_ok-begin_unit.ensures.knows known knows) begins.stands may own begins.fresh own
     (worked_is p c.args.source.now source.kind source.forms ∙ ap (λ (fs : List UnitForm). forms_of fs) (sym c.at_work.ensures)) in
     none_expands all known c.expand_forms.new.bench gp p imports c.args.steps.now c.expand_forms.new.steps
-    (subst (λ (cs : Option (List core.UnitForm)). Unfolds c.expand_forms.new.bench known p (scoped_start_of p gp (with_entries p.number imports.0 gp.entry)) cs) c.in-None.is unfolds)
-    (c.in_ok-expanded.ensures.steps known begins.layout (scoped_start_of p gp (with_entries p.number imports.0 gp.entry)) p (c.in_ok-begin_unit.ensures.knows known knows) begins.stands own begins.fresh own
+    (subst (λ (cs : Option (List core.UnitForm)). Unfolds c.expand_forms.new.bench known p start cs) c.in-None.is unfolds)
+    (c.in_ok-expanded.ensures.steps known begins.layout start begun p (c.in_ok-begin_unit.ensures.knows known knows) begins.stands may own begins.fresh own
     (worked_is p c.args.source.now source.kind source.forms ∙ ap (λ (fs : List UnitForm). forms_of fs) (sym c.at_work.ensures)))
 
 pub returns-in_ok-came-in-Some-clause-expands : goal.returns-in_ok-came-in-Some-clause-expands
-returns-in_ok-came-in-Some-clause-expands g c = λ spelled all known gp p imports knows goes own source libraries are.
+returns-in_ok-came-in-Some-clause-expands g c = λ spelled all known gp p knows goes turn own source libraries are.
+    let imports = unit_entries all gp.results p in
     let b = c.args.bench.now in
     let w = c.imported.new.work in
     let xs = c.as_slice-2.result.now in
@@ -162,9 +168,11 @@ returns-in_ok-came-in-Some-clause-expands g c = λ spelled all known gp p import
     (subst (λ (ys : List Imported). AllMatch (IsImport w.symbols) ys c.as_slice.result.now) (sym c.as_slice-2.ensures.value) c.in_ok-imports.ensures.imports) in
     let begins =
     goes_begun b (record { work = c.begin_unit.new.work; region = b.region; scope = c.begin_unit.new.self }) w c.args.unit c.args.source.now.kind xs es p gp imports.0 goes own source.kind c.in_ok-imports.ensures.trees
-    c.in_ok-imports.ensures.names c.told_apart.ensures.idents c.told_apart.ensures.symbols matched are c.requires.once c.in_ok-begin_unit.ensures.rests c.in_ok-begin_unit.ensures.fresh in
+    c.in_ok-imports.ensures.names c.told_apart.ensures.idents c.told_apart.ensures.symbols matched are c.requires.once c.in_ok-begin_unit.ensures.rests c.in_ok-begin_unit.ensures.fresh c.in_ok-begin_unit.ensures.own in
     let start = scoped_start_of p gp (with_entries p.number imports.0 gp.entry) in
-    let unfolds = c.in_ok-expanded.ensures.unfolds known begins.layout start p (c.in_ok-begin_unit.ensures.knows known knows) begins.stands own begins.fresh own
+    let begun = scoped_start_of p goes.outside (with_entries p.number imports.0 goes.outside.entry) in
+    let may = may_forget all known p goes.outside gp turn goes.is in
+    let unfolds = c.in_ok-expanded.ensures.unfolds known begins.layout start begun p (c.in_ok-begin_unit.ensures.knows known knows) begins.stands may own begins.fresh own
     (worked_is p c.args.source.now source.kind source.forms ∙ ap (λ (fs : List UnitForm). forms_of fs) (sym c.at_work.ensures)) in
     let mid = c.expand_forms.new.bench in
     let d = c.begin_unit.new.work in
@@ -186,11 +194,12 @@ returns-in_ok-came-in-Some-clause-expands g c = λ spelled all known gp p import
     some_expands all known mid gp p imports (record mid { work = c.finished.new.work }) c.in_ok-came-in-Some.came forms
     (stands_at mid c.finished.new.work gone.1 c.in_ok-came-in-Some.ensures.trees c.in_ok-came-in-Some.ensures.names c.told_apart-in-Some.ensures.idents c.told_apart-in-Some.ensures.symbols unfolds.stands) f came
     c.args.steps.now c.expand_forms.new.steps
-    (c.in_ok-expanded.ensures.steps known begins.layout start p (c.in_ok-begin_unit.ensures.knows known knows) begins.stands own begins.fresh own
+    (c.in_ok-expanded.ensures.steps known begins.layout start begun p (c.in_ok-begin_unit.ensures.knows known knows) begins.stands may own begins.fresh own
     (worked_is p c.args.source.now source.kind source.forms ∙ ap (λ (fs : List UnitForm). forms_of fs) (sym c.at_work.ensures)))
 
 pub returns-in_ok-came-in-Some-clause-finds : goal.returns-in_ok-came-in-Some-clause-finds
-returns-in_ok-came-in-Some-clause-finds g c = λ spelled known gp p imports knows goes own source are reads ends r places at unit_is sets lost.
+returns-in_ok-came-in-Some-clause-finds g c = λ spelled all known gp p knows goes turn own source are reads ends r places at unit_is sets lost.
+    let imports = unit_entries all gp.results p in
     let b = c.args.bench.now in
     let w = c.imported.new.work in
     let xs = c.as_slice-2.result.now in
@@ -199,14 +208,16 @@ returns-in_ok-came-in-Some-clause-finds g c = λ spelled known gp p imports know
     (subst (λ (ys : List Imported). AllMatch (IsImport w.symbols) ys c.as_slice.result.now) (sym c.as_slice-2.ensures.value) c.in_ok-imports.ensures.imports) in
     let begins =
     goes_begun b (record { work = c.begin_unit.new.work; region = b.region; scope = c.begin_unit.new.self }) w c.args.unit c.args.source.now.kind xs es p gp imports.0 goes own source.kind c.in_ok-imports.ensures.trees
-    c.in_ok-imports.ensures.names c.told_apart.ensures.idents c.told_apart.ensures.symbols matched are c.requires.once c.in_ok-begin_unit.ensures.rests c.in_ok-begin_unit.ensures.fresh in
+    c.in_ok-imports.ensures.names c.told_apart.ensures.idents c.told_apart.ensures.symbols matched are c.requires.once c.in_ok-begin_unit.ensures.rests c.in_ok-begin_unit.ensures.fresh c.in_ok-begin_unit.ensures.own in
     let start = scoped_start_of p gp (with_entries p.number imports.0 gp.entry) in
-    let unfolds = c.in_ok-expanded.ensures.unfolds known begins.layout start p (c.in_ok-begin_unit.ensures.knows known knows) begins.stands own begins.fresh own
+    let begun = scoped_start_of p goes.outside (with_entries p.number imports.0 goes.outside.entry) in
+    let may = may_forget all known p goes.outside gp turn goes.is in
+    let unfolds = c.in_ok-expanded.ensures.unfolds known begins.layout start begun p (c.in_ok-begin_unit.ensures.knows known knows) begins.stands may own begins.fresh own
     (worked_is p c.args.source.now source.kind source.forms ∙ ap (λ (fs : List UnitForm). forms_of fs) (sym c.at_work.ensures)) in
     let mid = c.expand_forms.new.bench in
     let d = c.begin_unit.new.work in
     let forms = c.in-Some.forms in
-    let f = its_forms [] known mid gp p imports forms (subst (λ (cs : Option (List core.UnitForm)). Unfolds mid known p start cs) c.in-Some.is unfolds) in
+    let f = its_forms all known mid gp p imports forms (subst (λ (cs : Option (List core.UnitForm)). Unfolds mid known p start cs) c.in-Some.is unfolds) in
     let names = names_on b.work.symbols w.symbols mid.work.symbols c.in_ok-imports.ensures.names (names_on w.symbols d.symbols mid.work.symbols c.in_ok-begin_unit.ensures.names c.in_ok-expanded.ensures.stays.names) in
     let gone = expanded_after known gp p imports.0 in
     let came = c.in_ok-came-in-Some.came in

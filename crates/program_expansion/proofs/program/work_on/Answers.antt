@@ -14,7 +14,6 @@ use Rattle.unit_sources.specs.Named.{place_named}
 use Rattle.unit_sources.specs.Orders.{ArePlaces}
 use Rattle.unit_scopes.specs.Preluded.{prelude_state}
 use Rattle.unit_scopes.specs.declared.scope.UnitScope.{UnitScope}
-use Rattle.unit_scopes.proofs.PreludeLaws.{prelude_continues}
 use Rattle.program_expansion.specs.UnitResults.{FindsLibraries, GoesOn, HeadsBy}
 use Rattle.read_documents.specs.UnitSources.{AreSourcesOf}
 use Rattle.read_documents.specs.DataRead.{HaveData}
@@ -24,6 +23,7 @@ use Rattle.read_documents.specs.Readings.{documents_in}
 use Rattle.unit_results.specs.UnitsFound.{AreLostIn, AreTold}
 use Rattle.document_units.proofs.JudgedLaws.{unit_found}
 use Rattle.program_expansion.proofs.KnownLaws.{known_listed}
+use Rattle.program_expansion.proofs.PreludeOutside.{prelude_goes, prelude_stands}
 use Rattle.read_documents.specs.declared.documents.Document.{Document}
 use Rattle.program_expansion.proofs.LostStand.{units_lost}
 use Rattle.program_expansion.proofs.ReadUnits.{judged_heads, forgotten_sources}
@@ -60,7 +60,7 @@ expand_all-requires-clause-bench g c = record {
   layout = [] ∷ [];
   state = prelude_state prelude;
   notes = [];
-  stands = c.know.ensures.rests c.args.bench.now.work ([] ∷ []) (prelude_state prelude) [] c.requires.stands;
+  stands = prelude_stands (record c.args.bench.now { scope = c.know.new.self }) (c.know.ensures.rests c.args.bench.now.work ([] ∷ []) (prelude_state prelude) [] c.requires.stands);
 }
 
 pub expand_all-requires-clause-units : goal.expand_all-requires-clause-units
@@ -113,11 +113,7 @@ returns-clause-up g c = λ ds have spelled spells written.
     record { spells = spells; units = unit_found spelled spells us (take max_units u.sources.items) listed.units _ (λ s. c.in_ok-firsts.ensures.named s ∙ ap (λ (cs : List UnitSource). place_named s 0 (take max_units cs)) c.as_slice.ensures.value) } in
     let heads : HeadsBy us scoped_before v.heads.items = judged_heads us u.heads.items v.heads.items (c.in_ok-order.ensures.judged spelled spells us listed.units listed.listed) in
     let sources : AreSourcesOf spelled us v.sources.items = forgotten_sources spelled us v.heads.items u.sources.items v.sources.items listed.read heads c.in_ok-order.ensures.forgotten in
-    let goes : GoesOn _ scoped_before = record {
-      state = prelude_state prelude;
-      stands = record { layout = [] ∷ []; notes = []; stands = c.know.ensures.rests c.args.bench.now.work ([] ∷ []) (prelude_state prelude) [] c.requires.stands };
-      continues = prelude_continues;
-    } in
+    let goes : GoesOn _ scoped_before = prelude_goes (record c.args.bench.now { scope = c.know.new.self }) (c.know.ensures.rests c.args.bench.now.work ([] ∷ []) (prelude_state prelude) [] c.requires.stands) in
     c.in_ok-expanded.ensures.up spelled us (known_in ds) (c.as_slice-2.ensures ∙ c.in_ok-order.ensures.turns spelled spells us listed.units listed.listed) many finds knows goes heads sources
 
 pub returns-clause-steps : goal.returns-clause-steps
@@ -133,11 +129,7 @@ returns-clause-steps g c = λ ds have spelled spells written.
     record { spells = spells; units = unit_found spelled spells us (take max_units u.sources.items) listed.units _ (λ s. c.in_ok-firsts.ensures.named s ∙ ap (λ (cs : List UnitSource). place_named s 0 (take max_units cs)) c.as_slice.ensures.value) } in
     let heads : HeadsBy us scoped_before v.heads.items = judged_heads us u.heads.items v.heads.items (c.in_ok-order.ensures.judged spelled spells us listed.units listed.listed) in
     let sources : AreSourcesOf spelled us v.sources.items = forgotten_sources spelled us v.heads.items u.sources.items v.sources.items listed.read heads c.in_ok-order.ensures.forgotten in
-    let goes : GoesOn _ scoped_before = record {
-      state = prelude_state prelude;
-      stands = record { layout = [] ∷ []; notes = []; stands = c.know.ensures.rests c.args.bench.now.work ([] ∷ []) (prelude_state prelude) [] c.requires.stands };
-      continues = prelude_continues;
-    } in
+    let goes : GoesOn _ scoped_before = prelude_goes (record c.args.bench.now { scope = c.know.new.self }) (c.know.ensures.rests c.args.bench.now.work ([] ∷ []) (prelude_state prelude) [] c.requires.stands) in
     c.in_ok-expanded.ensures.steps spelled us (known_in ds) (c.as_slice-2.ensures ∙ c.in_ok-order.ensures.turns spelled spells us listed.units listed.listed) many finds knows goes heads sources
 
 pub returns-clause-told : goal.returns-clause-told
@@ -159,11 +151,7 @@ returns-clause-told g c = λ texts reads documents read.
     record { spells = spells; units = unit_found spelled spells us (take max_units u.sources.items) listed.units _ (λ s. c.in_ok-firsts.ensures.named s ∙ ap (λ (cs : List UnitSource). place_named s 0 (take max_units cs)) c.as_slice.ensures.value) } in
     let heads : HeadsBy us scoped_before v.heads.items = judged_heads us u.heads.items v.heads.items (c.in_ok-order.ensures.judged spelled spells us listed.units listed.listed) in
     let sources : AreSourcesOf spelled us v.sources.items = forgotten_sources spelled us v.heads.items u.sources.items v.sources.items listed.read heads c.in_ok-order.ensures.forgotten in
-    let goes : GoesOn _ scoped_before = record {
-      state = prelude_state prelude;
-      stands = record { layout = [] ∷ []; notes = []; stands = c.know.ensures.rests c.args.bench.now.work ([] ∷ []) (prelude_state prelude) [] c.requires.stands };
-      continues = prelude_continues;
-    } in
+    let goes : GoesOn _ scoped_before = prelude_goes (record c.args.bench.now { scope = c.know.new.self }) (c.know.ensures.rests c.args.bench.now.work ([] ∷ []) (prelude_state prelude) [] c.requires.stands) in
     let known = known_in ds in
     let order = c.as_slice-2.ensures ∙ c.in_ok-order.ensures.turns spelled spells us listed.units listed.listed in
     let w = c.expand_all.new.units in

@@ -1,0 +1,24 @@
+-- The form is finished, and what is local to it is forgotten.
+use Rattle.form_expansion.proofs.BenchLaws.{forgets_by, forgotten_same, stays_forgotten, stays_on}
+use Rattle.form_expansion.proofs.FormsFinish.{ends_outside}
+use Rattle.form_expansion.proofs.forms.finish_form.Goals as goal
+
+pub forget_locals-requires : goal.forget_locals-requires
+forget_locals-requires g c = c.in_ok-finished.ensures.stays.first c.requires.stands.first
+
+pub returns-clause-same : goal.returns-clause-same
+returns-clause-same g c = λ un.
+    let b = c.finish.new.bench in let e = c.in_ok-finished.ensures.same un in
+    (forgotten_same c.args.bench.now b c.forget_locals.new.self e.0 (forgets_by b c.forget_locals.new.self c.forget_locals.ensures.after c.forget_locals.ensures.all_own c.forget_locals.ensures.rests), e.1, e.2)
+
+pub returns-clause-ends : goal.returns-clause-ends
+returns-clause-ends g c = λ known ls s notes r knows stands own h.
+    let b = c.finish.new.bench in
+    ends_outside c.args.bench.now b c.forget_locals.new.self (forgets_by b c.forget_locals.new.self c.forget_locals.ensures.after c.forget_locals.ensures.all_own c.forget_locals.ensures.rests) known c.args.unit c.args.number r s stands.macros
+    c.args.total.now c.finish.new.total c.args.steps.now c.finish.new.steps c.in_ok-finished.finished (c.in_ok-finished.ensures.finishes known ls s notes r knows stands own h)
+
+pub returns-clause-stays : goal.returns-clause-stays
+returns-clause-stays g c =
+    let b = c.finish.new.bench in
+    let f = forgets_by b c.forget_locals.new.self c.forget_locals.ensures.after c.forget_locals.ensures.all_own c.forget_locals.ensures.rests in
+    stays_on c.args.bench.now b (record b { scope = c.forget_locals.new.self }) c.in_ok-finished.ensures.stays (stays_forgotten b c.forget_locals.new.self c.in_ok-finished.ensures.stays.opened f)

@@ -1,0 +1,1 @@
+pub mod AtRoot  -- Macros that stand outside of all frames (R7RS 4.3)
