@@ -1,0 +1,2 @@
+pub mod Turns  -- Where the turn of a form comes (R7RS 5.1, 5.3), behind those of other forms of its unit
+pub mod Stays  -- What forms leave at the root of their unit (R7RS 5.3)
