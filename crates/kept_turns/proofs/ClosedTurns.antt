@@ -30,7 +30,9 @@ use Rattle.forgotten_locals.specs.Programs.{IsProgressOutside}
 use Rattle.forgotten_locals.proofs.Outsides.{macro_outside}
 use Rattle.forgotten_locals.proofs.Turns.{RestIsOf, turns_out}
 use Rattle.forgotten_locals.proofs.Followed.{forgetting_follows}
-use Rattle.forgotten_locals.proofs.Units.{begins, start_outside, forgetting_kept}
+use Rattle.forgotten_locals.proofs.StaysOutside.{start_is_outside, turns_outside}
+use Rattle.forgotten_locals.proofs.Units.{begins, start_outside, forgetting_kept, forgetting_begins}
+use Rattle.kept_turns.specs.Ready.{AllReady}
 use Rattle.kept_turns.proofs.EachTurn.{turns_with}
 
 -- ---- outside
@@ -135,3 +137,10 @@ module _ (all : List Placed) (ps : List Prepared) (known : Known) (n : ℕ) (h :
         let here = turns_out macros_outside (λ ps. []) (λ ds. []) enough_turns (forgetting enough_turns) law known xs s t (start_outside all ps known g b placed p new xs forms h o) (begins all ps known g b placed p new xs forms) First1 First1 Second1 Second1
         (λ v x a. a.0) (λ v r a. a.0) (λ v w x same c a. ((law.kept v w same x.tree x.kept c.0).1 a.0, closed_there v w same a.1)) (λ v w r same i c a. ((law.rest_kept v w same r.left r.kept i.0 c.0).1 a.0, closed_there v w same a.1)) k.0 both in
         turns_with (forgetting enough_turns) known First1 First1 C Second1 Second1 C2 (λ v x a c. a.1) (λ v r a c. a.1) xs s here here
+
+    pub unit_ready : AllKept (forgetting enough_turns) enough_turns known xs s → AllReady (forgetting enough_turns) known xs s
+    unit_ready k = record {
+      begins = forgetting_begins all ps known g (between_at all ps known n) (placed_at all ps known n) p (new_unit all ps known g p ready) xs forms h o k;
+      outside = turns_outside known enough_turns xs s (start_is_outside all p g h o);
+      closed = unit_closed k;
+    }

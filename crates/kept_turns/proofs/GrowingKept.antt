@@ -95,11 +95,6 @@ module _ (way : Way) (turns : ℕ) (known : Known) (fs : List ℕ) where
 -- ---- first parts
 
 module _ (way : Way) (turns : ℕ) (known : Known) (ys : List FormOrKept) (n : ℕ × Tree Ident) (zs : List FormOrKept) (s : ScopedState) where
-  pub first_turn : (P : Around → FormOrKept → Type 0) (Q : Around → LeftOrKept → Type 0) (x : FormOrKept) → AtTurns P Q way known (ys ++ x ∷ zs) s → AtFirst (λ v. P v x) way known ys x zs s
-  first_turn P Q x h =
-      let fs = numbers_of (ys ++ x ∷ zs) in
-      onwards_map (λ ms t. AtFirsts P way known fs (x ∷ zs) ms t) (λ ms t. P (around_form known x.form ms t) x) (λ ms t a. a.0) (passed way known fs ys [] s) (firsts_split way known fs P ys (x ∷ zs) [] s h.0).1
-
   abbrev xs : Option KeptForm → List FormOrKept
   xs k = ys ++ form_with n k ∷ zs
 

@@ -1,5 +1,6 @@
 pub mod Onward  -- What holds of where work went to, unless it ended
 pub mod EachTurn  -- What holds at each turn of a unit
+pub mod NextTurn  -- What holds at each turn of a unit holds at the turn of a form that is next
 pub mod ItemMoments  -- While what a form set aside is expanded, what it makes is local, its nodes rise, and nothing is expanded behind a fault
 pub mod RootsStay  -- The second part of a form leaves the root of its unit as it was
 pub mod PutWhole  -- Items that are put into their places one by one come to what they come to together, unless the nodes behind the last are too many
