@@ -1,5 +1,5 @@
 -- What is imported stands at each turn of a unit that forgets what is local.
-use Rattle.std.proofs.Common.{◌≡◌, ℕ, List, [], ◌∷◌, map, Bool, true, false, cond, Option, Some, None, Result, refl, sym, ap, ◌∙◌, subst}
+use Rattle.std.proofs.Common.{◌≡◌, ℕ, List, [], ◌∷◌, map, Bool, true, false, cond, Option, Some, None, Result, refl, sym, ap, ◌∙◌}
 use Rattle.std.specs.Prelude.{nat_lt}
 use Rattle.scheme_model.specs.Ident.{Ident, Written}
 use Rattle.scheme_model.specs.Meaning.{Meaning, Global}
@@ -7,7 +7,7 @@ use Rattle.scheme_model.specs.Requirements.{Known}
 use Rattle.scheme_model.specs.Cores.{Parts}
 use Rattle.scheme_model.specs.Steps.{Broken}
 use Rattle.scheme_model.specs.Order.{Note, Pass, is_some}
-use Rattle.scheme_model.specs.UnitExpansion.{◌then◌, going, max_total, nodes_in, unless_over, one_form}
+use Rattle.scheme_model.specs.UnitExpansion.{◌then◌, going, max_total, nodes_in, one_form}
 use Rattle.scheme_model.specs.ScopedExpansion.{FramedIdent, ScopedMacro, ScopedState, macro_at}
 use Rattle.scheme_model.specs.CountedExpansion.{counted}
 use Rattle.scheme_model.specs.Questions.{Around, bare_macro}
@@ -15,7 +15,6 @@ use Rattle.scheme_model.specs.FormsAlike.{bare_kept, set_aside}
 use Rattle.scheme_model.specs.IncludedUnits.{Placed}
 use Rattle.scheme_model.specs.Program.{Prepared, is_ready, enough_turns, forms_at_work}
 use Rattle.scheme_model.specs.ScopedProgram.{ScopedProgress, forms_over, scoped_start_after, scoped_work, scoped_before}
-use Rattle.form_laws.specs.Begins.{Each}
 use Rattle.form_laws.proofs.Bare.{macro_bare, some_mapped}
 use Rattle.question_laws.specs.Noted.{is_defined_in, IsClosed}
 use Rattle.question_laws.proofs.ClosedSteps.{run_later, form_later}
@@ -25,10 +24,10 @@ use Rattle.kept_forms.specs.Carried.{Onwards}
 use Rattle.kept_forms.proofs.Bares.{bare_around}
 use Rattle.kept_forms.proofs.Programs.{between_at, placed_at, new_unit}
 use Rattle.forgotten_locals.specs.Outside.{macros_outside, outside, around_outside}
-use Rattle.forgotten_locals.specs.Ways.{anew, forgetting, left_of, firsts_by, AtFirsts, AtSeconds, AtTurns, IsKept, IsRestKept, AllKept, CanBegin, RestCanBegin, AllBegin}
+use Rattle.forgotten_locals.specs.Ways.{anew, forgetting, left_of, firsts_by, AtFirsts, AtSeconds, AtTurns, IsKept, IsRestKept, AllKept}
 use Rattle.forgotten_locals.specs.Programs.{IsProgressOutside}
 use Rattle.forgotten_locals.proofs.Outsides.{macro_outside}
-use Rattle.forgotten_locals.proofs.Turns.{RestIsOf, turns_out}
+use Rattle.forgotten_locals.proofs.Turns.{turns_out}
 use Rattle.forgotten_locals.proofs.Followed.{forgetting_follows}
 use Rattle.forgotten_locals.proofs.StaysOutside.{start_is_outside, turns_outside}
 use Rattle.forgotten_locals.proofs.Units.{begins, start_outside, forgetting_kept, forgetting_begins}

@@ -1,11 +1,10 @@
 -- What holds at each turn of a unit: two things that do are one, and what holds at the turns of some forms and of those behind them holds at
 -- all turns.
-use Rattle.std.proofs.Common.{◌≡◌, ℕ, List, [], ◌∷◌, ◌++◌, Option, Some, None, Result}
-use Rattle.scheme_model.specs.Ident.{Ident}
+use Rattle.std.proofs.Common.{ℕ, List, [], ◌∷◌, ◌++◌, Option, Some, None, Result}
 use Rattle.scheme_model.specs.Requirements.{Known}
 use Rattle.scheme_model.specs.Cores.{Parts}
 use Rattle.scheme_model.specs.Steps.{Broken}
-use Rattle.scheme_model.specs.Order.{Note, Pass}
+use Rattle.scheme_model.specs.Order.{Note}
 use Rattle.scheme_model.specs.UnitExpansion.{Formed, ◌then◌, going, unless_over}
 use Rattle.scheme_model.specs.ScopedExpansion.{FramedIdent, ScopedState}
 use Rattle.scheme_model.specs.CountedExpansion.{counted}
@@ -80,7 +79,7 @@ module _ (way : Way) (known : Known) (fs : List ℕ) where
         (h.0, onwards_map (λ p t. AtSeconds P way known fs (rs ++ qs) t) (λ p t. AtSeconds P way known fs rs t) (λ p t a. (seconds_split P rs qs t a).0) q h.1),
         onwards_then (λ ps t. AtSeconds P way known fs qs t) (λ p t. seconds_by way known fs rs t then λ rest. going (formed_at r p t ∷ rest)) q
             (onwards_map (λ p t. AtSeconds P way known fs (rs ++ qs) t) (λ p t. Onwards (λ ps u. AtSeconds P way known fs qs u) (seconds_by way known fs rs t then λ rest. going (formed_at r p t ∷ rest)))
-                (λ p t a. before_first (λ u. AtSeconds P way known fs qs u) (formed_at r p t) (seconds_by way known fs rs t) (seconds_split P rs qs t a).1) q h.1),
+            (λ p t a. before_first (λ u. AtSeconds P way known fs qs u) (formed_at r p t) (seconds_by way known fs rs t) (seconds_split P rs qs t a).1) q h.1),
       )
 
   pub seconds_join : (P : Around → LeftOrKept → Type 0) (rs qs : List LeftOrKept) (s : ScopedState) → AtSeconds P way known fs rs s

@@ -1,26 +1,21 @@
 -- One form more of a unit may be kept, in its first part, and then in its second, where it may be kept where its own turn comes and of those
 -- behind it nothing is kept.
-use Rattle.std.proofs.Common.{◌≡◌, ℕ, zero, suc, List, [], ◌∷◌, ◌++◌, map, take, length, Bool, true, false, cond, Option, Some, None, Result, refl, sym, ap, ◌∙◌, subst}
-use Rattle.std.specs.Prelude.{nat_lt}
+use Rattle.std.proofs.Common.{◌≡◌, ℕ, List, [], ◌∷◌, ◌++◌, Option, Some, None, refl, sym, ap, subst}
 use Rattle.scheme_model.specs.Ident.{Ident}
 use Rattle.scheme_model.specs.Trees.{Tree}
 use Rattle.scheme_model.specs.Requirements.{Known}
-use Rattle.scheme_model.specs.RulesShape.{option_map}
-use Rattle.scheme_model.specs.Cores.{Parts}
-use Rattle.scheme_model.specs.Steps.{Broken}
 use Rattle.scheme_model.specs.Order.{Note, Pass}
-use Rattle.scheme_model.specs.UnitExpansion.{Formed, ◌then◌, going, unless_over}
-use Rattle.scheme_model.specs.Substitution.{definition_count}
+use Rattle.scheme_model.specs.UnitExpansion.{◌then◌, going, unless_over}
 use Rattle.scheme_model.specs.ScopedExpansion.{FramedIdent, ScopedState}
 use Rattle.scheme_model.specs.CountedExpansion.{counted}
 use Rattle.scheme_model.specs.Questions.{Around}
 use Rattle.form_laws.specs.Begins.{Each}
-use Rattle.kept_forms.specs.KeptForms.{KeptAside, KeptParts, KeptForm, FormOrKept, LeftOrKept, form_of, around_form, rest_kept, numbers_of}
-use Rattle.kept_forms.specs.Carried.{Onwards, PassKept, RestKept, FormFits, kept_form}
-use Rattle.forgotten_locals.specs.Ways.{Way, left_of, firsts_by, seconds_by, AtFirsts, AtSeconds, AtTurns, IsKept, IsRestKept, AllKept}
-use Rattle.kept_turns.specs.Turns.{passed, AtFirst, AtSecond, form_with, NotKept, NoRest, NoRests, GoesByAside, PartsKept}
-use Rattle.kept_turns.proofs.Onward.{onwards_all, onwards_map, onwards_with, onwards_then, then_onwards}
-use Rattle.kept_turns.proofs.EachTurn.{firsts_split, firsts_join, seconds_split, seconds_join}
+use Rattle.kept_forms.specs.KeptForms.{KeptParts, KeptForm, FormOrKept, LeftOrKept, around_form, rest_kept, numbers_of}
+use Rattle.kept_forms.specs.Carried.{Onwards, PassKept, RestKept, FormFits}
+use Rattle.forgotten_locals.specs.Ways.{Way, left_of, firsts_by, AtFirsts, AtSeconds, IsKept, IsRestKept, AllKept}
+use Rattle.kept_turns.specs.Turns.{passed, AtFirst, form_with, NotKept, NoRest, NoRests}
+use Rattle.kept_turns.proofs.Onward.{onwards_all, onwards_map, onwards_then}
+use Rattle.kept_turns.proofs.EachTurn.{firsts_split, firsts_join}
 
 -- ---- lists
 
@@ -108,9 +103,11 @@ module _ (way : Way) (turns : ℕ) (known : Known) (ys : List FormOrKept) (n : �
       let front = firsts_here a k (firsts_split way known (numbers_of (xs a)) (IsKept turns) ys (form_with n a ∷ zs) [] s old.1.0).0 in
       let rests = each_join (λ (x : FormOrKept). NoRest x.kept) ys (form_with n k ∷ zs) alone (none, none_rests zs behind) in (
         each_map (λ (x : FormOrKept). NoRest x.kept) (λ (x : FormOrKept). FormFits x.kept) (λ x h. fits_alone x.kept h) (xs k) rests,
-        (firsts_join way known fs (IsKept turns) ys (form_with n k ∷ zs) [] s front
-            (onwards_map (λ ms t. PassKept (around_form known n.0 ms t) turns n.1 k) (λ ms t. AtFirsts (IsKept turns) way known fs (form_with n k ∷ zs) ms t)
-                (λ ms t h. (h, onwards_all (λ q u. AtFirsts (IsKept turns) way known fs zs q.notes u) (λ q u. firsts_unkept way turns known fs zs q.notes u behind) (unless_over (counted known) fs (way.first (around_form known n.0 ms t) n.1 k))))
-                (passed way known fs ys [] s) turn),
-        onwards_map (λ rs t. NoneLeft way turns known fs rs) (λ rs t. AtSeconds (IsRestKept turns) way known fs rs t) (λ rs t h. seconds_unkept way turns known fs rs t h) (firsts_by way known fs (xs k) [] s) (rests_alone way turns known fs (xs k) [] s rests)),
+        (
+          firsts_join way known fs (IsKept turns) ys (form_with n k ∷ zs) [] s front
+              (onwards_map (λ ms t. PassKept (around_form known n.0 ms t) turns n.1 k) (λ ms t. AtFirsts (IsKept turns) way known fs (form_with n k ∷ zs) ms t)
+              (λ ms t h. (h, onwards_all (λ q u. AtFirsts (IsKept turns) way known fs zs q.notes u) (λ q u. firsts_unkept way turns known fs zs q.notes u behind) (unless_over (counted known) fs (way.first (around_form known n.0 ms t) n.1 k))))
+              (passed way known fs ys [] s) turn),
+          onwards_map (λ rs t. NoneLeft way turns known fs rs) (λ rs t. AtSeconds (IsRestKept turns) way known fs rs t) (λ rs t h. seconds_unkept way turns known fs rs t h) (firsts_by way known fs (xs k) [] s) (rests_alone way turns known fs (xs k) [] s rests),
+        ),
       )

@@ -12,10 +12,10 @@ use Rattle.scheme_model.specs.ScopedExpansion.{FramedIdent, ScopedState}
 use Rattle.scheme_model.specs.CountedExpansion.{counted}
 use Rattle.scheme_model.specs.Questions.{Around}
 use Rattle.form_laws.specs.Begins.{Each}
-use Rattle.kept_forms.specs.KeptForms.{KeptAside, KeptParts, KeptForm, FormOrKept, LeftOrKept, around_form, kept_moved, moved_to, rest_kept, numbers_of}
-use Rattle.kept_forms.specs.Carried.{Onwards, PassKept, RestKept, FormFits, kept_form}
+use Rattle.kept_forms.specs.KeptForms.{KeptAside, KeptParts, FormOrKept, LeftOrKept, around_form, kept_moved, moved_to, rest_kept, numbers_of}
+use Rattle.kept_forms.specs.Carried.{Onwards, RestKept, FormFits, kept_form}
 use Rattle.forgotten_locals.specs.Ways.{Way, left_of, firsts_by, seconds_by, AtFirsts, AtSeconds, IsKept, IsRestKept, AllKept}
-use Rattle.kept_turns.specs.Turns.{passed, AtSecond, form_with, NoRest, NoRests, GoesByAside, PartsKept, put_rest, given_as}
+use Rattle.kept_turns.specs.Turns.{passed, AtSecond, form_with, NoRests, GoesByAside, PartsKept, put_rest, given_as}
 use Rattle.kept_turns.proofs.Onward.{onwards_all, onwards_map, onwards_with, onwards_then, then_onwards}
 use Rattle.kept_turns.proofs.EachTurn.{firsts_split, firsts_join}
 use Rattle.kept_turns.proofs.GrowingKept.{each_split, each_join, same_numbers, seconds_unkept, rests_alone}
@@ -94,7 +94,7 @@ module _ (way : Way) (turns : ℕ) (known : Known) (n : ℕ × Tree Ident) (k : 
         let q = unless_over (counted known) fs (way.first v n.1 before.kept) in
         onwards_then (λ rs t. StandsAt zero rs) (λ p t. firsts_by way known fs zs p.notes t then λ rest. going (left_of before v p t ∷ rest)) q
         (onwards_all (λ p t. Onwards (λ rs u. StandsAt zero rs) (firsts_by way known fs zs p.notes t then λ rest. going (left_of before v p t ∷ rest)))
-            (λ p t. go v p t (firsts_by way known fs zs p.notes t) (rests_alone way turns known fs zs p.notes t alone)) q)
+        (λ p t. go v p t (firsts_by way known fs zs p.notes t) (rests_alone way turns known fs zs p.notes t alone)) q)
       where
         go : (v : Around) (p : Pass Ident FramedIdent) (t : ScopedState) (m : Lefts) → Onwards (λ rs u. NoneBehind rs) m → Onwards (λ rs u. StandsAt zero rs) (m then λ rest. going (left_of before v p t ∷ rest))
         go v p t (None, u) h = tt
@@ -104,7 +104,7 @@ module _ (way : Way) (turns : ℕ) (known : Known) (n : ℕ × Tree Ident) (k : 
         let q = unless_over (counted known) fs (way.first v y.tree y.kept) in
         onwards_then (λ rs t. StandsAt (suc (length ys)) rs) (λ p t. firsts_by way known fs (ys ++ before ∷ zs) p.notes t then λ rest. going (left_of y v p t ∷ rest)) q
         (onwards_all (λ p t. Onwards (λ rs u. StandsAt (suc (length ys)) rs) (firsts_by way known fs (ys ++ before ∷ zs) p.notes t then λ rest. going (left_of y v p t ∷ rest)))
-            (λ p t. stands_behind (length ys) (left_of y v p t) (firsts_by way known fs (ys ++ before ∷ zs) p.notes t) (left_stands ys p.notes t alone)) q)
+        (λ p t. stands_behind (length ys) (left_of y v p t) (firsts_by way known fs (ys ++ before ∷ zs) p.notes t) (left_stands ys p.notes t alone)) q)
 
     -- ---- the second turns
 
@@ -167,9 +167,11 @@ module _ (way : Way) (turns : ℕ) (known : Known) (n : ℕ × Tree Ident) (k : 
         let there = subst (λ gs. Onwards (λ rs t. Onwards (λ ps u. PartsKept (around_form known n.0 [] u) turns c) (seconds_by way known gs (take (length ys) rs) t)) (firsts_by way known gs (ys ++ before ∷ zs) [] s)) same turn in
         let split = firsts_split way known fs (IsKept turns) ys (before ∷ zs) [] s first in (
           each_join (λ (x : FormOrKept). FormFits x.kept) ys (after ∷ zs) each.0 (fits, each.1.1),
-          (firsts_join way known fs (IsKept turns) ys (after ∷ zs) [] s split.0
-              (onwards_map (λ ms t. AtFirsts (IsKept turns) way known fs (before ∷ zs) ms t) (λ ms t. AtFirsts (IsKept turns) way known fs (after ∷ zs) ms t) (λ ms t h. one ms t h) (passed way known fs ys [] s) split.1),
-          seconds_more fs (length ys) (firsts_by way known fs (ys ++ before ∷ zs) [] s) (firsts_by way known fs (ys ++ after ∷ zs) [] s) (passed way known fs ys [] s) (firsts_changed fs aside ys [] s) (left_stands fs ys [] s alone) second there),
+          (
+            firsts_join way known fs (IsKept turns) ys (after ∷ zs) [] s split.0
+                (onwards_map (λ ms t. AtFirsts (IsKept turns) way known fs (before ∷ zs) ms t) (λ ms t. AtFirsts (IsKept turns) way known fs (after ∷ zs) ms t) (λ ms t h. one ms t h) (passed way known fs ys [] s) split.1),
+            seconds_more fs (length ys) (firsts_by way known fs (ys ++ before ∷ zs) [] s) (firsts_by way known fs (ys ++ after ∷ zs) [] s) (passed way known fs ys [] s) (firsts_changed fs aside ys [] s) (left_stands fs ys [] s alone) second there,
+          ),
         )
       where
         -- its first turn is the same

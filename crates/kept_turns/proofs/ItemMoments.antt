@@ -1,13 +1,13 @@
 -- While what a form set aside is expanded, what it makes is local, its nodes rise, and nothing is expanded behind a fault: one more side that
 -- asks.
-use Rattle.std.proofs.Common.{◌≡◌, ℕ, ◌+◌, ◌≤◌, List, [], ◌∷◌, map, false, true, Option, Some, None, Result, Ok, Err, refl, sym, ap, ◌∙◌, subst, arith}
+use Rattle.std.proofs.Common.{◌≡◌, ℕ, ◌≤◌, List, [], ◌∷◌, map, false, true, Option, Some, None, Result, Ok, Err, refl, ap, ◌∙◌, arith}
 use Rattle.scheme_model.specs.Identifiers.{Number}
 use Rattle.scheme_model.specs.Ident.{Ident}
 use Rattle.scheme_model.specs.ExpansionFaults.{Named}
 use Rattle.scheme_model.specs.RulesShape.{Rules}
 use Rattle.scheme_model.specs.Cores.{Bound, Part}
 use Rattle.scheme_model.specs.Steps.{Broken, Step}
-use Rattle.scheme_model.specs.Order.{Item, Left, Pending, WaitingUse, is_some, meet_all}
+use Rattle.scheme_model.specs.Order.{Item, Left, Pending, is_some, meet_all}
 use Rattle.scheme_model.specs.Expression.{meaning_of, expand, item_part}
 use Rattle.scheme_model.specs.UnitExpansion.{max_depth}
 use Rattle.scheme_model.specs.ScopedExpansion.{Frames, FramedIdent, body_around}

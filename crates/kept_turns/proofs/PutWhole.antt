@@ -1,12 +1,11 @@
 -- Items that are put into their places one by one come to what they come to together, unless the nodes behind the last are too many.
-use Rattle.std.proofs.Common.{◌≡◌, ℕ, ◌+◌, ◌≤◌, List, [], ◌∷◌, Bool, true, false, cond, eqb, ltb, Option, Some, None, Result, Ok, Err, refl, sym, ap, ◌∙◌, arith}
+use Rattle.std.proofs.Common.{◌≡◌, ℕ, ◌≤◌, List, [], ◌∷◌, Bool, true, false, cond, eqb, Option, Some, None, Result, Ok, Err, refl, sym, ap, ◌∙◌, arith}
 use Rattle.std.specs.Prelude.{nat_lt}
 use Rattle.std.proofs.lemmas.Bool.Decides.{nat_tests}
 use Rattle.scheme_model.specs.Ident.{Ident}
-use Rattle.scheme_model.specs.Cores.{Parts, no_parts, Part}
+use Rattle.scheme_model.specs.Cores.{Parts, Part}
 use Rattle.scheme_model.specs.Steps.{Broken}
 use Rattle.scheme_model.specs.Order.{Left, is_some}
-use Rattle.scheme_model.specs.Substitution.{at_form}
 use Rattle.scheme_model.specs.UnitExpansion.{◌then◌, going, max_total, nodes_in, with_part, before_parts}
 use Rattle.scheme_model.specs.ScopedExpansion.{ScopedState}
 use Rattle.scheme_model.specs.CountedExpansion.{counted}
@@ -15,7 +14,7 @@ use Rattle.scheme_model.specs.FormsAlike.{again}
 use Rattle.kept_forms.specs.KeptForms.{KeptItem, KeptParts, put_items, put_parts}
 use Rattle.kept_forms.specs.Carried.{RestKept}
 use Rattle.kept_turns.specs.Turns.{last_of, result_in, part_before}
-use Rattle.kept_turns.proofs.ItemMoments.{GrowsTo, StopsAt, AllGrow}
+use Rattle.kept_turns.proofs.ItemMoments.{StopsAt, AllGrow}
 use Rattle.kept_turns.proofs.RootsStay.{rest_grows}
 
 last_grows : (m : Moment) (ks : List KeptItem) → AllGrow m ks → m.nodes ≤ (last_of m ks).nodes

@@ -1,6 +1,6 @@
 -- The second part of a form leaves the root of its unit as it was, expanded or put into its place; behind the first part all macros that
 -- aren't local were defined outside all frames.
-use Rattle.std.proofs.Common.{◌≡◌, ℕ, List, [], ◌∷◌, ◌++◌, map, filter, Bool, true, false, cond, Option, Some, None, Result, Ok, Err, refl, sym, ap, ◌∙◌, subst}
+use Rattle.std.proofs.Common.{◌≡◌, ℕ, List, [], ◌∷◌, ◌++◌, map, Bool, true, false, cond, Option, Some, None, Result, Ok, Err, refl, sym, ap, ◌∙◌, subst}
 use Rattle.std.specs.Prelude.{nat_lt}
 use Rattle.scheme_model.specs.Ident.{Ident}
 use Rattle.scheme_model.specs.Trees.{Tree}
@@ -9,15 +9,15 @@ use Rattle.scheme_model.specs.Cores.{Parts, Part}
 use Rattle.scheme_model.specs.Steps.{Broken}
 use Rattle.scheme_model.specs.Order.{Left}
 use Rattle.scheme_model.specs.Expression.{expand}
-use Rattle.scheme_model.specs.UnitExpansion.{Work, ◌then◌, going, max_total, nodes_in, unless_over, with_part, before_parts, form_parts}
+use Rattle.scheme_model.specs.UnitExpansion.{◌then◌, going, max_total, nodes_in, with_part, before_parts, form_parts}
 use Rattle.scheme_model.specs.ScopedExpansion.{Frames, Bind, Enter, ScopedMacro, ScopedState}
 use Rattle.scheme_model.specs.CountedExpansion.{counted}
 use Rattle.scheme_model.specs.Questions.{Moment, Around, bare}
-use Rattle.scheme_model.specs.FormsAlike.{bound_moved, start, again, bare_kept, bare_state, set_aside, set_aside_asking}
+use Rattle.scheme_model.specs.FormsAlike.{bound_moved, again, bare_kept, bare_state, set_aside, set_aside_asking}
 use Rattle.model_laws.proofs.UnitEnds.{Both, both_end, both_go}
 use Rattle.form_laws.specs.Begins.{Each, MacroStands, Begins, FormBegins, RestBegins}
 use Rattle.form_laws.proofs.FormLaws.{set_itself}
-use Rattle.kept_forms.specs.KeptForms.{KeptItem, KeptParts, kept_moved, put_items, put_parts}
+use Rattle.kept_forms.specs.KeptForms.{KeptItem, KeptParts, put_items, put_parts}
 use Rattle.kept_forms.specs.Carried.{kept_parts, RestKept}
 use Rattle.kept_forms.proofs.Fronts.{EndedLike, GivesLike}
 use Rattle.kept_forms.proofs.MayBeKept.{rest_itself}
@@ -26,7 +26,7 @@ use Rattle.forgotten_locals.specs.Outside.{is_outside, macros_outside, IsOutside
 use Rattle.forgotten_locals.proofs.Outsides.{macros_bare, no_locals}
 use Rattle.declared_again.proofs.RootMoments.{stays_at_root}
 use Rattle.kept_turns.specs.Stays.{SameAtRoot, MacrosAtRoot}
-use Rattle.kept_turns.proofs.ItemMoments.{GrowsTo, StopsAt, AllGrow, parts_grow, moved_parts_grow}
+use Rattle.kept_turns.proofs.ItemMoments.{GrowsTo, AllGrow, parts_grow, moved_parts_grow}
 
 -- ---- macros outside
 

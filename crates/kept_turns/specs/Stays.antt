@@ -1,5 +1,5 @@
 -- What forms leave at the root of their unit (R7RS 5.3): what its forms have defined there, with the macros of it.
-use Rattle.std.specs.Prelude.{◌≡◌, List, [], map}
+use Rattle.std.specs.Prelude.{◌≡◌, [], map}
 use Rattle.scheme_model.specs.ScopedExpansion.{ScopedMacro, ScopedState}
 use Rattle.scheme_model.specs.FormsAlike.{bare_kept}
 use Rattle.form_laws.specs.Begins.{Each}
