@@ -105,8 +105,11 @@ pub fn programs_keep_what_is_carried()
 {}
 
 /// An entry that may stay where a form is worked on may stay in the next program too, where the form asks alike before and after under some numbers that
-/// tell the old ones: it asked the same where it was expanded (R7RS 4.3, 5.3). So entries may be kept over any number of events.
+/// tell the old ones: it asked the same where it was expanded (R7RS 4.3, 5.3). So entries may be kept over any number of events; and all that was
+/// asked has its answers there in the surroundings for which the entry stands, under the new numbers.
 pub fn entries_stay_on()
-    ensures { (r : Renumbering) (b : HasOldNumbers r) (n : ℕ) (k : KeptForm) (f g : WorkedForm) → IsAtWork n f → Stays n (f.form, f.tree) (Some k) f → asks_alike r f g ≡ true → r.form n f.form ≡ g.form → move_tree (change r) f.tree ≡ g.tree →
+    ensures stays { (r : Renumbering) (b : HasOldNumbers r) (n : ℕ) (k : KeptForm) (f g : WorkedForm) → IsAtWork n f → Stays n (f.form, f.tree) (Some k) f → asks_alike r f g ≡ true → r.form n f.form ≡ g.form → move_tree (change r) f.tree ≡ g.tree →
         Stays (r.unit n) (g.form, g.tree) (Some (kept_as r k)) g }
+    ensures there { (r : Renumbering) (b : HasOldNumbers r) (n : ℕ) (k : KeptForm) (w u : Around) (f g : WorkedForm) → IsAtWork n f → StandsFor n (f.form, f.tree) k w u → HasAnswers (f.form, f.tree) k w u f → asks_alike r f g ≡ true → r.form n f.form ≡ g.form → move_tree (change r) f.tree ≡ g.tree →
+        StandsFor (r.unit n) (g.form, g.tree) (kept_as r k) (around_new r b w) (around_new r b u) × HasAnswers (g.form, g.tree) (kept_as r k) (around_new r b w) (around_new r b u) g }
 {}
