@@ -38,3 +38,34 @@ returns-in-Library-clause-answer c = λ v r m can note outside keeps.
     let told : c.contains.result ≡ contains_text c.args.units.now.libraries c.in-Library.name = c.contains.ensures ∙ ap (contains_text c.args.units.now.libraries) c.as_str.ensures in
     carried (IsTrue (beq c.contains.result b)) v m.question p m.answer (Says b) q.1 q.2
     (says_arm (IsTrue (beq c.contains.result b)) (answer_now v p) c.contains.result b (ap Says (can.knows q.0 proper ∙ (ap (contains_text c.args.units.now.libraries) (sym q.3) ∙ sym told))) (beq_same c.contains.result b))
+
+pub returns-in-Lookup-clause-only : goal.returns-in-Lookup-clause-only
+returns-in-Lookup-clause-only c = λ v r m can note outside.
+    let q = subst (λ (x : code.Question). IsQuestion c.args.work.now.symbols r x m.question m.answer) c.in-Lookup.is note.1 in
+    (carried (IsTrue c.has_meaning.result) v m.question (LooksUp q.0) m.answer (Means q.1 c.in-Lookup.keyword) q.2 q.3 (c.has_meaning.ensures v r q.0 q.1 can q.4 q.5)).0
+
+pub returns-in-Literal-clause-only : goal.returns-in-Literal-clause-only
+returns-in-Literal-clause-only c = λ v r m can note outside.
+    let q = subst (λ (x : code.Question). IsQuestion c.args.work.now.symbols r x m.question m.answer) c.in-Literal.is note.1 in
+    let b = c.in-Literal.answer in
+    let p = Compares q.0 q.1 in
+    (carried (IsTrue (beq c.is_literal.result b)) v m.question p m.answer (Says b) q.2 q.3
+        (says_arm (IsTrue (beq c.is_literal.result b)) (answer_now v p) c.is_literal.result b (c.is_literal.ensures v r q.0 q.1 can q.4 q.5) (beq_same c.is_literal.result b))).0
+
+pub returns-in-Assigned-clause-only : goal.returns-in-Assigned-clause-only
+returns-in-Assigned-clause-only c = λ v r m can note outside.
+    let q = subst (λ (x : code.Question). IsQuestion c.args.work.now.symbols r x m.question m.answer) c.in-Assigned.is note.1 in
+    let b = c.in-Assigned.answer in
+    let p = IsAssigned q.0 in
+    (carried (IsTrue (beq c.is_assigned.result b)) v m.question p m.answer (Says b) q.1 q.2
+        (says_arm (IsTrue (beq c.is_assigned.result b)) (answer_now v p) c.is_assigned.result b (ap Says (sym (c.is_assigned.ensures c.args.work.now v r q.0 can q.3))) (beq_same c.is_assigned.result b))).0
+
+pub returns-in-Library-clause-only : goal.returns-in-Library-clause-only
+returns-in-Library-clause-only c = λ v r m can note outside.
+    let q = subst (λ (x : code.Question). IsQuestion c.args.work.now.symbols r x m.question m.answer) c.in-Library.is note.1 in
+    let b = c.in-Library.answer in
+    let p = Requires q.0 in
+    let proper = subst IsAskedOutside q.1 outside in
+    let told : c.contains.result ≡ contains_text c.args.units.now.libraries c.in-Library.name = c.contains.ensures ∙ ap (contains_text c.args.units.now.libraries) c.as_str.ensures in
+    (carried (IsTrue (beq c.contains.result b)) v m.question p m.answer (Says b) q.1 q.2
+        (says_arm (IsTrue (beq c.contains.result b)) (answer_now v p) c.contains.result b (ap Says (can.knows q.0 proper ∙ (ap (contains_text c.args.units.now.libraries) (sym q.3) ∙ sym told))) (beq_same c.contains.result b))).0
