@@ -12,6 +12,7 @@ pub mod PairsSend  -- Pairs send what goes on to what it goes on as
 pub mod FormsSame  -- Forms that are paired have the same tree
 pub mod TreesSame  -- Where the trees of two texts are the same but for their homes, the tree of one as a form is that of the other under the numbers of these
 pub mod FormsWritten  -- A form at work is a form of its unit, as its text has it
+pub mod HomeTrees  -- The tree of a form that goes on is the one before under any numbers that send its unit and homes
 pub mod CarriedOver  -- Each carried form may be kept
 pub mod WorkedOnce  -- No two units at work have one number, nor two forms of one of them; so each form at work is found by its unit and its number
 pub mod CarriedKeeping  -- Exactly the carried forms may be kept, and then no more is worked than the work of the event
