@@ -4,18 +4,17 @@ use Rattle.std.specs.Prelude.{◌==◌, nat_lt, not, ◌&&◌, ◌||◌}
 use Rattle.scheme_model.specs.Identifiers.{Number}
 use Rattle.scheme_model.specs.Ident.{Ident, Written, Inserted}
 use Rattle.scheme_model.specs.Trees.{Tree}
-use Rattle.scheme_model.specs.Meaning.{Meaning}
 use Rattle.scheme_model.specs.Order.{Left, Note, LookedUp, Compared, is_some}
 use Rattle.scheme_model.specs.Substitution.{Table, defined_in}
 use Rattle.scheme_model.specs.ScopedExpansion.{Frames, Bind, Enter, FramedIdent, ScopedState, macro_at}
-use Rattle.scheme_model.specs.Questions.{Moment, Around, Question, LooksUp, UsesRules, Compares, IsAssigned, Requires, Defines, bare, answer, Asking}
+use Rattle.scheme_model.specs.Questions.{Moment, Around, Question, LooksUp, UsesRules, Compares, IsAssigned, Requires, Defines, bare}
 use Rattle.scheme_model.specs.FormsAlike.{start, bare_ident, bare_note, questions_of_pass, questions_of_left}
 use Rattle.form_laws.proofs.Bare.{some_mapped}
 use Rattle.scheme_model.specs.RulesShape.{option_map}
 use Rattle.renumbering_laws.specs.Moving.{move_named, move_rules, move_tree}
 use Rattle.renumbering_laws.specs.Renumbering.{Renumbering, IsOneToOne, number, ident, meaning, change, left_as}
 use Rattle.renumbering_laws.specs.States.{defined_as}
-use Rattle.renumbering_laws.specs.Asked.{new_frames, new_framed, new_note, new_kept, new_macro, new_moment, new_question, new_answer, new_asked, TurnsMove}
+use Rattle.renumbering_laws.specs.Asked.{new_frames, new_framed, new_note, new_macro, new_question, new_answer, new_asked, TurnsMove}
 use Rattle.renumbering_laws.proofs.OneToOne.{behind_units}
 use Rattle.renumbering_laws.proofs.NewAnswers.{own_table, own_macros, answer_moved}
 use Rattle.renumbering_laws.proofs.AskingSide.{set_aside_asks, finish_asks}

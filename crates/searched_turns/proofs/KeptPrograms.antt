@@ -1,7 +1,7 @@
 -- A unit of a program of which some forms are kept comes to the same where its definitions go through the notes that speak of their identifiers
 -- alone.
-use Rattle.std.proofs.Common.{◌≡◌, ◌↔◌, ℕ, List, map, true, Option, Some, None, refl, sym, ap, subst}
-use Rattle.scheme_model.specs.Ident.{Ident, Written}
+use Rattle.std.proofs.Common.{◌≡◌, ℕ, List, map, true, refl, sym, subst}
+use Rattle.scheme_model.specs.Ident.{Written}
 use Rattle.scheme_model.specs.Requirements.{Known}
 use Rattle.scheme_model.specs.ScopedExpansion.{ScopedState}
 use Rattle.scheme_model.specs.Questions.{Around}

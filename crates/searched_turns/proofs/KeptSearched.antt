@@ -1,6 +1,6 @@
 -- A turn of a form of a unit that imports nothing of its own, where nothing local is there, comes to the same where definitions go through the
 -- notes that speak of their identifiers alone; and so it goes on.
-use Rattle.std.proofs.Common.{◌≡◌, ℕ, List, [], ◌∷◌, Bool, true, false, cond, eqb, Option, Some, None, Result, Ok, Err, refl, sym, ap, ◌∙◌, subst}
+use Rattle.std.proofs.Common.{◌≡◌, ℕ, List, [], ◌∷◌, Bool, true, false, cond, eqb, Option, Some, None, Result, Ok, Err, refl, ap, ◌∙◌, subst}
 use Rattle.std.specs.Prelude.{nat_lt}
 use Rattle.std.proofs.lemmas.Bool.{both_ways, eq-eqb, eqb-true, false_from_ne_true}
 use Rattle.scheme_model.specs.Ident.{Ident}
@@ -10,7 +10,7 @@ use Rattle.scheme_model.specs.Requirements.{Known}
 use Rattle.scheme_model.specs.Cores.{Parts, Part}
 use Rattle.scheme_model.specs.Steps.{Broken}
 use Rattle.scheme_model.specs.Order.{Left, Note, Pass}
-use Rattle.scheme_model.specs.UnitExpansion.{◌then◌, going, max_total, nodes_in, unless_over, with_part, before_parts}
+use Rattle.scheme_model.specs.UnitExpansion.{◌then◌, going, max_total, nodes_in, with_part, before_parts}
 use Rattle.scheme_model.specs.ScopedExpansion.{FramedIdent, ScopedState}
 use Rattle.scheme_model.specs.CountedExpansion.{counted}
 use Rattle.scheme_model.specs.Questions.{Moment, Around}

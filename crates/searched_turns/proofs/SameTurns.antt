@@ -12,7 +12,7 @@ use Rattle.scheme_model.specs.Questions.{Around}
 use Rattle.kept_forms.specs.KeptForms.{FormOrKept, LeftOrKept, around_form, numbers_of}
 use Rattle.kept_forms.specs.Carried.{Onwards}
 use Rattle.forgotten_locals.specs.Ways.{Way, left_of, firsts_by, seconds_by, unit_by, AtFirsts, AtSeconds, AtTurns}
-use Rattle.kept_turns.proofs.Onward.{onwards_map, onwards_with}
+use Rattle.kept_turns.proofs.Onward.{onwards_with}
 
 module _ (a b : Way) (known : Known) where
   abbrev pub SameFirst : Around → FormOrKept → Type 0
