@@ -37,7 +37,7 @@ use Rattle.carried_laws.proofs.CarriedStays.{carried_stays}
 use Rattle.std.proofs.lemmas.Slice.Eq.{bytes_eq-Decides}
 use Rattle.std.specs.Prelude.{◌&&◌, ◌==◌}
 use Rattle.std.specs.List.{list_any}
-use Rattle.std.proofs.Common.{◌++◌, cond}
+use Rattle.std.proofs.Common.{◌++◌, cond, inl, inr}
 use Rattle.std.proofs.lemmas.Bool.{eqb-true}
 use Rattle.carried_forms.specs.Alike.{same_list}
 use Rattle.carried_forms.specs.Paired.{is_same_form, is_same_at_home, in_step, by_ends, form_pairs}
