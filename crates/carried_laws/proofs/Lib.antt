@@ -10,6 +10,7 @@ pub mod Bound  -- Where all carried forms are kept, no more macro uses are worke
 pub mod Places  -- What stands at a place of a list
 pub mod PairsSend  -- Pairs send what goes on to what it goes on as
 pub mod FormsSame  -- Forms that are paired have the same tree
+pub mod EndsKeep  -- Where forms of a kind stand at the same places of two texts with the same trees, pairs by the ends keep the places of those that they pair
 pub mod TreesSame  -- Where the trees of two texts are the same but for their homes, the tree of one as a form is that of the other under the numbers of these
 pub mod FormsWritten  -- A form at work is a form of its unit, as its text has it
 pub mod HomeTrees  -- The tree of a form that goes on is the one before under any numbers that send its unit and homes

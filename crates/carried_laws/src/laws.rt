@@ -1,5 +1,5 @@
 //! Laws of the definitions. Each is the contract of a function that does nothing.
-ghost use Rattle.std.specs.Prelude.{◌≡◌, ◌≤◌, ℕ, List, true, Some, length};
+ghost use Rattle.std.specs.Prelude.{◌≡◌, ◌≤◌, ℕ, List, Bool, true, Some, length};
 ghost use Rattle.scheme_model.specs.Ident.{Ident as Identifier};
 ghost use Rattle.scheme_model.specs.Trees.{Tree};
 ghost use Rattle.scheme_model.specs.Order.{Left};
@@ -16,14 +16,14 @@ ghost use Rattle.kept_forms.specs.KeptForms.{KeptForm, FormOrKept, form_of};
 ghost use Rattle.kept_forms.specs.Carried.{kept_aside, kept_parts};
 ghost use Rattle.kept_forms.specs.KeptPrograms.{Keeping, kept_program_of, ProgramKeeps, program_worked, program_not_kept};
 ghost use Rattle.carried_forms.specs.Worked.{WorkedForm, WorkedUnit, OpenDocument, AreOpenOnce, read_documents, units_at_work};
-ghost use Rattle.carried_forms.specs.Paired.{UnitPair};
+ghost use Rattle.carried_forms.specs.Paired.{FormText, by_ends, UnitPair};
 ghost use Rattle.carried_forms.specs.Carried.{IsIn, asks_alike, worked_at, carried, work};
 ghost use Rattle.carried_laws.specs.AtWork.{IsAtWork, AreAtWork};
 ghost use Rattle.carried_laws.specs.NotedEntries.{IsClosedForm, AreClosed, HasNotedAnswers, UnitsNoted};
 ghost use Rattle.carried_laws.specs.CarriedEntries.{came_to, KeepsAll};
 ghost use Rattle.carried_laws.specs.CarriedKeeping.{carried_keeping};
-ghost use Rattle.carried_laws.specs.Homes.{HomesGoOn};
-ghost use Rattle.carried_laws.specs.HomeUris.{HomesOfUris};
+ghost use Rattle.carried_laws.specs.Homes.{At, HomesGoOn};
+ghost use Rattle.carried_laws.specs.HomeUris.{HomesOfUris, TellsByTrees, StandAlike};
 ghost use Rattle.carried_laws.specs.CarriedOver.{pairs_between, prepared_of, AllHomesGoOn, AreOwn, CarriedOver};
 ghost use Rattle.carried_laws.specs.Entries.{StandsFor, IsEntry, AreEntries, HasAnswers, Stays, FormsStay, UnitsStay, keeping_as, kept_from, aside_as, kept_parts_as, kept_as};
 
@@ -125,4 +125,10 @@ pub fn trees_go_on_at_home()
         worked_at (units_at_work (read_documents before)) p.before q.0 ≡ Some f → worked_at (units_at_work (read_documents after)) p.after q.1 ≡ Some g → r.unit p.before ≡ p.after → r.form p.before q.0 ≡ q.1 →
         HomesGoOn r (prepared_of before) (prepared_of after) (pairs_between before after) → (r.form p.before f.form ≡ g.form) × (move_tree (change r) f.tree ≡ g.tree) }
     ensures homes { (before after : List OpenDocument) (r : Renumbering) → HomesOfUris r before after → HomesGoOn r (prepared_of before) (prepared_of after) (pairs_between before after) }
+{}
+
+/// Where forms of a kind that is told by their trees, such as all that aren't lists that include, stand at the same places of two texts with the same
+/// trees, each of them that is paired by the ends keeps its place.
+pub fn ends_keep_their_places()
+    ensures { (kind : FormText → Bool) (fs gs : List FormText) (q : ℕ × ℕ) (f : FormText) → TellsByTrees kind → StandAlike kind fs gs → IsIn q (by_ends fs gs) → At fs q.0 f → kind f ≡ true → q.1 ≡ q.0 }
 {}
