@@ -45,7 +45,7 @@ module _ (kind : FormText → Bool) (told : TellsByTrees kind) (fs gs : List For
 
   -- there would be more and more of them
   longer_after : (fuel k : ℕ) → length fs - e ≤ k → length fs ≤ k + fuel → length fs < length gs → OfKind fs k → ⊥
-  longer_after zero k from few more h = let l = below fs k h.0 h.1 in (let z : 0 ≡ 1 = omega (arith, l, few) in absurd cc)
+  longer_after zero k from few more h = let l = below fs k h.0 h.1 in absurd (omega (arith, l, few))
   longer_after (suc fuel) k from few more h =
       let l = below fs k h.0 h.1 in let a = in_left in let b = in_right in
       let i = k - (length fs - e) in
@@ -54,7 +54,7 @@ module _ (kind : FormText → Bool) (told : TellsByTrees kind) (fs gs : List For
       longer_after fuel n (omega (arith, l, from, a, b, more)) (omega (arith, l, from, a, b, more, few)) more (here_too n (kind_there k n s h))
 
   longer_before : (fuel k : ℕ) → length fs - e ≤ k → length fs ≤ k + fuel → length gs < length fs → OfKind fs k → ⊥
-  longer_before zero k from few more h = let l = below fs k h.0 h.1 in (let z : 0 ≡ 1 = omega (arith, l, few) in absurd cc)
+  longer_before zero k from few more h = let l = below fs k h.0 h.1 in absurd (omega (arith, l, few))
   longer_before (suc fuel) k from few more h =
       let there = there_too k h in
       let l = below gs k there.0 there.1 in let a = in_left in let b = in_right in
