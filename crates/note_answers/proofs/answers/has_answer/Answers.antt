@@ -52,7 +52,7 @@ returns-in-Literal-clause-only c = λ v r m can note outside.
     let b = c.in-Literal.answer in
     let p = Compares q.0 q.1 in
     (carried (IsTrue (beq c.is_literal.result b)) v m.question p m.answer (Says b) q.2 q.3
-        (says_arm (IsTrue (beq c.is_literal.result b)) (answer_now v p) c.is_literal.result b (c.is_literal.ensures v r q.0 q.1 can q.4 q.5) (beq_same c.is_literal.result b))).0
+    (says_arm (IsTrue (beq c.is_literal.result b)) (answer_now v p) c.is_literal.result b (c.is_literal.ensures v r q.0 q.1 can q.4 q.5) (beq_same c.is_literal.result b))).0
 
 pub returns-in-Assigned-clause-only : goal.returns-in-Assigned-clause-only
 returns-in-Assigned-clause-only c = λ v r m can note outside.
@@ -60,7 +60,7 @@ returns-in-Assigned-clause-only c = λ v r m can note outside.
     let b = c.in-Assigned.answer in
     let p = IsAssigned q.0 in
     (carried (IsTrue (beq c.is_assigned.result b)) v m.question p m.answer (Says b) q.1 q.2
-        (says_arm (IsTrue (beq c.is_assigned.result b)) (answer_now v p) c.is_assigned.result b (ap Says (sym (c.is_assigned.ensures c.args.work.now v r q.0 can q.3))) (beq_same c.is_assigned.result b))).0
+    (says_arm (IsTrue (beq c.is_assigned.result b)) (answer_now v p) c.is_assigned.result b (ap Says (sym (c.is_assigned.ensures c.args.work.now v r q.0 can q.3))) (beq_same c.is_assigned.result b))).0
 
 pub returns-in-Library-clause-only : goal.returns-in-Library-clause-only
 returns-in-Library-clause-only c = λ v r m can note outside.
@@ -70,7 +70,7 @@ returns-in-Library-clause-only c = λ v r m can note outside.
     let proper = subst IsAskedOutside q.1 outside in
     let told : c.contains.result ≡ contains_text c.args.units.now.libraries c.in-Library.name = c.contains.ensures ∙ ap (contains_text c.args.units.now.libraries) c.as_str.ensures in
     (carried (IsTrue (beq c.contains.result b)) v m.question p m.answer (Says b) q.1 q.2
-        (says_arm (IsTrue (beq c.contains.result b)) (answer_now v p) c.contains.result b (ap Says (can.knows q.0 proper ∙ (ap (contains_text c.args.units.now.libraries) (sym q.3) ∙ sym told))) (beq_same c.contains.result b))).0
+    (says_arm (IsTrue (beq c.contains.result b)) (answer_now v p) c.contains.result b (ap Says (can.knows q.0 proper ∙ (ap (contains_text c.args.units.now.libraries) (sym q.3) ∙ sym told))) (beq_same c.contains.result b))).0
 
 pub returns-in-Rules-clause-only : goal.returns-in-Rules-clause-only
 returns-in-Rules-clause-only c = λ v r m can note outside same.
