@@ -22,6 +22,7 @@ use Rattle.carried_forms.specs.Carried.{asks_alike, worked_at, both_alike, IsIn,
 use Rattle.carried_forms.proofs.CarriedLaws.{carried_only}
 use Rattle.carried_forms.proofs.OldNumbers.{pairs_tell}
 use Rattle.carried_forms.proofs.ProgramUnits.{programs_told, programs_within}
+use Rattle.carried_laws.proofs.HomeTrees.{tree_goes_on}
 use Rattle.carried_laws.specs.AtWork.{IsAtWork}
 use Rattle.carried_laws.specs.Entries.{Stays, kept_as}
 use Rattle.carried_laws.specs.CarriedEntries.{came_to}
@@ -48,35 +49,6 @@ both_there r None q h = let z : false ≡ true = h in absurd cc
 both_there r (Some f) None h = let z : false ≡ true = h in absurd cc
 both_there r (Some f) (Some g) h = record { one = f; other = g; here = refl; there = refl; alike = h }
 
--- ---- the text of a form at work
-
-module _ (ds : List OpenDocument) where
-  abbrev units : List Prepared
-  units = let all = units_of (read_documents ds) in prepare all 0 all
-
-  abbrev results : List UnitResult
-  results = (scoped_work (units_of (read_documents ds)) units (known_in (read_documents ds)) (length units) scoped_before).results
-
-  text_of : (n f : ℕ) (u : UnitText) → At (unit_texts ds) n u → (x : FormText) → At u.forms f x → (w : WorkedForm) (k : IsWritten (read_documents ds) n f w)
-      → x.tree ≡ tree_of (λ s. s) (placed_in 0 0 (home_of n f k.form).first) k.form.datum
-  text_of n f u a x b w k =
-      let p = mapped_at (unit_text ds results) units n u a in
-      let e : p.0 ≡ k.unit = same_at units n p.0 k.unit p.1 k.in_program in
-      let number = unit_number (units_of (read_documents ds)) n p.0 p.1 in
-      let q = texts_at (λ m. uri_at ds (document_of results m)) p.0.number 0 p.0.forms f x (subst (λ (z : UnitText). At z.forms f x) (sym p.2) b) in
-      let d : q.form ≡ k.form = same_at k.unit.forms f q.form k.form (subst (λ (z : Prepared). At z.forms f q.form) e q.there) k.there in
-      let z : 0 + f ≡ f = omega arith in
-      sym (ap (λ (y : FormText). y.tree) q.text) ∙ (λ j. tree_of (λ s. s) (placed_in 0 0 (home_of (number j) (z j) (d j)).first) (d j).datum)
-
--- ---- homes
-
-or_none : (u f : ℕ) (d : Datum) (v g : ℕ) (e : Datum) (r : Renumbering) → r.unit u ≡ v → r.form u f ≡ g → (h i : Option Home) → (is_some h || is_some i) ≡ false
-    → (r.unit (home_or u f d h).unit ≡ (home_or v g e i).unit) × (r.form (home_or u f d h).unit (home_or u f d h).form ≡ (home_or v g e i).form)
-or_none u f d v g e r a b None None h = (a, b)
-or_none u f d v g e r a b None (Some i) h = let z : true ≡ false = h in absurd cc
-or_none u f d v g e r a b (Some i) None h = let z : true ≡ false = h in absurd cc
-or_none u f d v g e r a b (Some i) (Some k) h = let z : true ≡ false = h in absurd cc
-
 module _ (before after : List OpenDocument) (once : AreOpenOnce before) (once_after : AreOpenOnce after) (homes : AllHomesGoOn before after) where
   abbrev us : List UnitText
   us = unit_texts before
@@ -98,24 +70,8 @@ module _ (before after : List OpenDocument) (once : AreOpenOnce before) (once_af
     form_to = form_sent us vs (programs_within before once) p i q k
 
     module _ (f g : WorkedForm) (a : IsWritten (read_documents before) p.before q.0 f) (b : IsWritten (read_documents after) p.after q.1 g) where
-      home_to : let h = home_of p.before q.0 a.form in let j = home_of p.after q.1 b.form in (r.unit h.unit ≡ j.unit) × (r.form h.unit h.form ≡ j.form)
-      home_to = go (is_some a.form.home || is_some b.form.home) refl
-        where
-          go : (t : Bool) → (is_some a.form.home || is_some b.form.home) ≡ t → let h = home_of p.before q.0 a.form in let j = home_of p.after q.1 b.form in (r.unit h.unit ≡ j.unit) × (r.form h.unit h.form ≡ j.form)
-          go true e = homes p i q k a.form b.form (a.unit, a.in_program, a.there) (b.unit, b.in_program, b.there) e
-          go false e = or_none p.before q.0 a.form.datum p.after q.1 b.form.datum r unit_to form_to a.form.home b.form.home e
-
       tree_to : move_tree (change r) f.tree ≡ g.tree
-      tree_to =
-          let o = pairs_found 0 us vs p i in
-          let s = forms_same o.unit.forms o.from.unit.forms p.forms o.from.forms q k in
-          let here : At us p.before o.unit = (let e = o.before in let d : o.place ≡ p.before = omega (arith, e) in subst (λ n. At us n o.unit) d o.here) in
-          let there : At vs p.after o.from.unit = (let e = o.from.after in let d : o.from.place ≡ p.after = omega (arith, e) in subst (λ n. At vs n o.from.unit) d o.from.there) in
-          let x = text_of before p.before q.0 o.unit here s.one s.here f a in
-          let y = text_of after p.after q.1 o.from.unit there s.other s.there g b in
-          ap (move_tree (change r)) a.tree
-          ∙ trees_same r p.before p.after (home_of p.before q.0 a.form) (home_of p.after q.1 b.form) a.form.datum b.form.datum ((λ j. same_tree bytes_eq (sym x j) (sym y j)) ∙ s.same) unit_to home_to.0 home_to.1
-          ∙ sym b.tree
+      tree_to = tree_goes_on before after r p i q k f g a b unit_to form_to homes
 
       stays : asks_alike r f g ≡ true → IsAtWork p.before f → Stays p.after (g.form, g.tree) (Some (kept_as r (came_to f))) g
       stays alike at = subst (λ n. Stays n (g.form, g.tree) (Some (kept_as r (came_to f))) g) unit_to (carried_stays r old_numbers p.before f g at alike (ap (r.form p.before) a.is ∙ form_to ∙ sym b.is) tree_to)

@@ -31,23 +31,23 @@ one_more : (x y : ℕ) (t : Bool) → x ≤ y → cond t (suc x) 0 ≤ suc y
 one_more x y true l = omega (arith, l)
 one_more x y false l = omega arith
 
-front_left : (fs gs : List FormText) → common_front fs gs ≤ length fs
+pub front_left : (fs gs : List FormText) → common_front fs gs ≤ length fs
 front_left [] gs = omega arith
 front_left (f ∷ fs) [] = omega arith
 front_left (f ∷ fs) (g ∷ gs) = one_more (common_front fs gs) (length fs) (is_same_form f g) (front_left fs gs)
 
-front_right : (fs gs : List FormText) → common_front fs gs ≤ length gs
+pub front_right : (fs gs : List FormText) → common_front fs gs ≤ length gs
 front_right [] gs = omega arith
 front_right (f ∷ fs) [] = omega arith
 front_right (f ∷ fs) (g ∷ gs) = one_more (common_front fs gs) (length gs) (is_same_form f g) (front_right fs gs)
 
-record InStep (b a n : ℕ) (q : ℕ × ℕ) : Type 0 where
-  index : ℕ
-  few : index < n
-  before : q.0 ≡ b + index
-  after : q.1 ≡ a + index
+pub record InStep (b a n : ℕ) (q : ℕ × ℕ) : Type 0 where
+  pub index : ℕ
+  pub few : index < n
+  pub before : q.0 ≡ b + index
+  pub after : q.1 ≡ a + index
 
-step_in : (b a n : ℕ) (q : ℕ × ℕ) → IsIn q (in_step b a n) → InStep b a n q
+pub step_in : (b a n : ℕ) (q : ℕ × ℕ) → IsIn q (in_step b a n) → InStep b a n q
 step_in b a zero q h = absurd h
 step_in b a (suc n) q (inl e) = (let x = ap (λ (z : ℕ × ℕ). z.0) e in let y = ap (λ (z : ℕ × ℕ). z.1) e in record { index = 0; few = omega arith; before = omega (arith, x); after = omega (arith, y) })
 step_in b a (suc n) q (inr h) =
@@ -59,20 +59,20 @@ moved_at : (fs gs : List FormText) (f g m n : ℕ) → f ≡ m → g ≡ n → S
 moved_at fs gs f g m n a b h = subst (λ (z : ℕ × ℕ). SameAt fs gs z.0 z.1) (λ j. (a j, b j)) h
 
 module _ (fs gs : List FormText) where
-  abbrev front : ℕ
+  abbrev pub front : ℕ
   front = common_front fs gs
 
-  abbrev left_over : List FormText
+  abbrev pub left_over : List FormText
   left_over = drop front fs
 
-  abbrev right_over : List FormText
+  abbrev pub right_over : List FormText
   right_over = drop front gs
 
-  abbrev end : ℕ
+  abbrev pub end : ℕ
   end = common_front (reverse left_over) (reverse right_over)
 
   -- so many before the last
-  from_end : (q : ℕ × ℕ) → InStep (length fs - end) (length gs - end) end q → SameAt fs gs q.0 q.1
+  pub from_end : (q : ℕ × ℕ) → InStep (length fs - end) (length gs - end) end q → SameAt fs gs q.0 q.1
   from_end q s =
       let i = s.index in let l = s.few in let x = s.before in let y = s.after in
       let r = front_same (reverse left_over) (reverse right_over) (end - suc i) (omega (arith, l)) in

@@ -10,8 +10,10 @@ pub mod Bound  -- Where all carried forms are kept, no more macro uses are worke
 pub mod Places  -- What stands at a place of a list
 pub mod PairsSend  -- Pairs send what goes on to what it goes on as
 pub mod FormsSame  -- Forms that are paired have the same tree
+pub mod EndsKeep  -- Where forms of a kind stand at the same places of two texts with the same trees, pairs by the ends keep the places of those that they pair
 pub mod TreesSame  -- Where the trees of two texts are the same but for their homes, the tree of one as a form is that of the other under the numbers of these
 pub mod FormsWritten  -- A form at work is a form of its unit, as its text has it
+pub mod HomeTrees  -- The tree of a form that goes on is the one before under any numbers that send its unit, and the homes of forms, to what they go on as; and homes of included forms are told by their uris
 pub mod CarriedOver  -- Each carried form may be kept
 pub mod WorkedOnce  -- No two units at work have one number, nor two forms of one of them; so each form at work is found by its unit and its number
 pub mod CarriedKeeping  -- Exactly the carried forms may be kept, and then no more is worked than the work of the event

@@ -106,17 +106,20 @@ module _ (r : Renumbering) (b : HasOldNumbers r) (n : ℕ) (k : KeptForm) (f g :
       alike_before r u f.later g.later (questions_of_left u enough_turns (Ok c.left)) a ∙ (ap (have_same_answers r f.later g.later) (one ∙ sym two) ∙ told.1) in
       left_kept r (old_numbers_apart r b) u g.later (around_new r b u) (turns_move r b u) enough_turns (Ok c.left) now
 
-  stays_there : Stays (r.unit n) (g.form, g.tree) (Some (kept_as r k)) g
-  stays_there = (
-    around_new r b w,
-    around_new r b u,
-    (let e = form in let d = tree in subst (λ (x : ℕ × Tree Ident). StandsFor (r.unit n) x (kept_as r k) (around_new r b w) (around_new r b u)) (λ j. (e j, d j)) (entry_moved r b n (f.form, f.tree) k w u st)),
-    record {
-      pass = subst (λ (t : Tree Ident). Each (SameAnswer (around_new r b w) g.around) (questions_of_pass (around_new r b w) enough_turns t)) tree (pass_kept r (old_numbers_apart r b) w g.around (around_new r b w) (turns_move r b w) enough_turns f.tree pass_told);
-      rest = rest_told k.parts st.rest st.fits has.rest;
-    },
-  )
+  stands : StandsFor (r.unit n) (g.form, g.tree) (kept_as r k) (around_new r b w) (around_new r b u)
+  stands =
+      let e = form in let d = tree in
+      subst (λ (x : ℕ × Tree Ident). StandsFor (r.unit n) x (kept_as r k) (around_new r b w) (around_new r b u)) (λ j. (e j, d j)) (entry_moved r b n (f.form, f.tree) k w u st)
+
+  answers : HasAnswers (g.form, g.tree) (kept_as r k) (around_new r b w) (around_new r b u) g
+  answers = record {
+    pass = subst (λ (t : Tree Ident). Each (SameAnswer (around_new r b w) g.around) (questions_of_pass (around_new r b w) enough_turns t)) tree (pass_kept r (old_numbers_apart r b) w g.around (around_new r b w) (turns_move r b w) enough_turns f.tree pass_told);
+    rest = rest_told k.parts st.rest st.fits has.rest;
+  }
+
+  pub stays_there : StandsFor (r.unit n) (g.form, g.tree) (kept_as r k) (around_new r b w) (around_new r b u) × HasAnswers (g.form, g.tree) (kept_as r k) (around_new r b w) (around_new r b u) g
+  stays_there = (stands, answers)
 
 pub stays_on : (r : Renumbering) (b : HasOldNumbers r) (n : ℕ) (k : KeptForm) (f g : WorkedForm) → IsAtWork n f → Stays n (f.form, f.tree) (Some k) f → asks_alike r f g ≡ true → r.form n f.form ≡ g.form → move_tree (change r) f.tree ≡ g.tree
     → Stays (r.unit n) (g.form, g.tree) (Some (kept_as r k)) g
-stays_on r b n k f g at h alike form tree = stays_there r b n k f g at h.0 h.1 h.2 h.3 alike form tree
+stays_on r b n k f g at h alike form tree = let z = stays_there r b n k f g at h.0 h.1 h.2 h.3 alike form tree in (around_new r b h.0, around_new r b h.1, z.0, z.1)

@@ -1,5 +1,5 @@
 //! Laws of the definitions. Each is the contract of a function that does nothing.
-ghost use Rattle.std.specs.Prelude.{◌≡◌, ◌≤◌, ℕ, List, true, Some, length};
+ghost use Rattle.std.specs.Prelude.{◌≡◌, ◌≤◌, ℕ, List, Bool, true, Some, length};
 ghost use Rattle.scheme_model.specs.Ident.{Ident as Identifier};
 ghost use Rattle.scheme_model.specs.Trees.{Tree};
 ghost use Rattle.scheme_model.specs.Order.{Left};
@@ -16,12 +16,15 @@ ghost use Rattle.kept_forms.specs.KeptForms.{KeptForm, FormOrKept, form_of};
 ghost use Rattle.kept_forms.specs.Carried.{kept_aside, kept_parts};
 ghost use Rattle.kept_forms.specs.KeptPrograms.{Keeping, kept_program_of, ProgramKeeps, program_worked, program_not_kept};
 ghost use Rattle.carried_forms.specs.Worked.{WorkedForm, WorkedUnit, OpenDocument, AreOpenOnce, read_documents, units_at_work};
-ghost use Rattle.carried_forms.specs.Carried.{IsIn, asks_alike, carried, work};
+ghost use Rattle.carried_forms.specs.Paired.{FormText, by_ends, UnitPair};
+ghost use Rattle.carried_forms.specs.Carried.{IsIn, asks_alike, worked_at, carried, work};
 ghost use Rattle.carried_laws.specs.AtWork.{IsAtWork, AreAtWork};
 ghost use Rattle.carried_laws.specs.NotedEntries.{IsClosedForm, AreClosed, HasNotedAnswers, UnitsNoted};
 ghost use Rattle.carried_laws.specs.CarriedEntries.{came_to, KeepsAll};
 ghost use Rattle.carried_laws.specs.CarriedKeeping.{carried_keeping};
-ghost use Rattle.carried_laws.specs.CarriedOver.{AllHomesGoOn, AreOwn, CarriedOver};
+ghost use Rattle.carried_laws.specs.Homes.{At, HomesGoOn};
+ghost use Rattle.carried_laws.specs.HomeUris.{HomesOfUris, TellsByTrees, StandAlike};
+ghost use Rattle.carried_laws.specs.CarriedOver.{pairs_between, prepared_of, AllHomesGoOn, AreOwn, CarriedOver};
 ghost use Rattle.carried_laws.specs.Entries.{StandsFor, IsEntry, AreEntries, HasAnswers, Stays, FormsStay, UnitsStay, keeping_as, kept_from, aside_as, kept_parts_as, kept_as};
 
 /// What is kept of a form in surroundings under new numbers is what was kept of it there, under the new numbers; so an entry stays one
@@ -105,8 +108,27 @@ pub fn programs_keep_what_is_carried()
 {}
 
 /// An entry that may stay where a form is worked on may stay in the next program too, where the form asks alike before and after under some numbers that
-/// tell the old ones: it asked the same where it was expanded (R7RS 4.3, 5.3). So entries may be kept over any number of events.
+/// tell the old ones: it asked the same where it was expanded (R7RS 4.3, 5.3). So entries may be kept over any number of events; and all that was
+/// asked has its answers there in the surroundings for which the entry stands, under the new numbers.
 pub fn entries_stay_on()
-    ensures { (r : Renumbering) (b : HasOldNumbers r) (n : ℕ) (k : KeptForm) (f g : WorkedForm) → IsAtWork n f → Stays n (f.form, f.tree) (Some k) f → asks_alike r f g ≡ true → r.form n f.form ≡ g.form → move_tree (change r) f.tree ≡ g.tree →
+    ensures stays { (r : Renumbering) (b : HasOldNumbers r) (n : ℕ) (k : KeptForm) (f g : WorkedForm) → IsAtWork n f → Stays n (f.form, f.tree) (Some k) f → asks_alike r f g ≡ true → r.form n f.form ≡ g.form → move_tree (change r) f.tree ≡ g.tree →
         Stays (r.unit n) (g.form, g.tree) (Some (kept_as r k)) g }
+    ensures there { (r : Renumbering) (b : HasOldNumbers r) (n : ℕ) (k : KeptForm) (w u : Around) (f g : WorkedForm) → IsAtWork n f → StandsFor n (f.form, f.tree) k w u → HasAnswers (f.form, f.tree) k w u f → asks_alike r f g ≡ true → r.form n f.form ≡ g.form → move_tree (change r) f.tree ≡ g.tree →
+        StandsFor (r.unit n) (g.form, g.tree) (kept_as r k) (around_new r b w) (around_new r b u) × HasAnswers (g.form, g.tree) (kept_as r k) (around_new r b w) (around_new r b u) g }
+{}
+
+/// A form that goes on has the number and the tree that it had (R7RS 2, 5.1), under any numbers that send its unit to the one that it goes on as, its
+/// number to the one that it has there, and homes of included forms to where they are at home afterwards; and such homes are told by the uris of
+/// their texts.
+pub fn trees_go_on_at_home()
+    ensures tree { (before after : List OpenDocument) (r : Renumbering) (p : UnitPair) (q : ℕ × ℕ) (f g : WorkedForm) → IsIn p (pairs_between before after) → IsIn q p.forms →
+        worked_at (units_at_work (read_documents before)) p.before q.0 ≡ Some f → worked_at (units_at_work (read_documents after)) p.after q.1 ≡ Some g → r.unit p.before ≡ p.after → r.form p.before q.0 ≡ q.1 →
+        HomesGoOn r (prepared_of before) (prepared_of after) (pairs_between before after) → (r.form p.before f.form ≡ g.form) × (move_tree (change r) f.tree ≡ g.tree) }
+    ensures homes { (before after : List OpenDocument) (r : Renumbering) → HomesOfUris r before after → HomesGoOn r (prepared_of before) (prepared_of after) (pairs_between before after) }
+{}
+
+/// Where forms of a kind that is told by their trees, such as all that aren't lists that include, stand at the same places of two texts with the same
+/// trees, each of them that is paired by the ends keeps its place.
+pub fn ends_keep_their_places()
+    ensures { (kind : FormText → Bool) (fs gs : List FormText) (q : ℕ × ℕ) (f : FormText) → TellsByTrees kind → StandAlike kind fs gs → IsIn q (by_ends fs gs) → At fs q.0 f → kind f ≡ true → q.1 ≡ q.0 }
 {}

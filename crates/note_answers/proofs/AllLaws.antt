@@ -7,16 +7,16 @@ use Rattle.form_notes.specs.Noted.{Noted, Since}
 use Rattle.form_notes.specs.Standing.{IsNote, HaveNotes}
 use Rattle.form_notes.specs.declared.notes.Note.{Note}
 use Rattle.unit_scopes.specs.declared.scope.UnitScope.{UnitScope}
-use Rattle.note_answers.specs.Answered.{answer_now, IsAskedOutside, CanAsk, CanAskAll, HasAnswer, HaveAnswers, IsDefinition, IsAtStart}
+use Rattle.note_answers.specs.Answered.{answer_now, IsAskedOutside, CanAsk, AreAskedOutside, HasAnswer, HaveAnswers, IsDefinition, IsAtStart}
 
-module _ (work : Work) (u : UnitScope) (v : Around) (r : Since) (xs : List Note) (ms : List Noted) (can : CanAsk work u v r) (have : HaveNotes work.symbols r xs ms) (all : CanAskAll work u v r xs ms) where
+module _ (work : Work) (u : UnitScope) (v : Around) (r : Since) (xs : List Note) (ms : List Noted) (can : CanAsk work u v r) (have : HaveNotes work.symbols r xs ms) (outside : AreAskedOutside ms) where
   pub all_have : All (λ (x : Note). x.behind ≡ 0 → HasAnswer work u x) xs → HaveAnswers v ms
   all_have each m has start =
       let x = have.all m has in
       let note : IsNote work.symbols r x.0 m = x.2 in
       let at : (k : ℕ) × (k < length xs) × (slice_index_or xs k x.0 ≡ x.0) = x.1 in
       let here : x.0.behind ≡ 0 → HasAnswer work u x.0 = subst (λ (y : Note). y.behind ≡ 0 → HasAnswer work u y) at.2 (each at.0 x.0 at.1) in
-      here (note.0 ∙ start.0) v r m can note (all.outside m has start) (all.editions x.0 x.1)
+      here (note.0 ∙ start.0) v r m can note (outside m has start)
 
   -- one that hasn't
   pub one_has_none : (x : Note) → Contains xs x → x.behind ≡ 0 → ((m : Noted) → IsNote work.symbols r x m → IsDefinition m.question → ⊥) →
@@ -25,4 +25,4 @@ module _ (work : Work) (u : UnitScope) (v : Around) (r : Since) (xs : List Note)
       let m = have.alone x there in
       let note : IsNote work.symbols r x m.0 = m.2 in
       let start : IsAtStart m.0 = (sym note.0 ∙ behind, other m.0 note) in
-      lacks m.0 note (all.outside m.0 m.1 start) (have_all m.0 m.1 start)
+      lacks m.0 note (outside m.0 m.1 start) (have_all m.0 m.1 start)

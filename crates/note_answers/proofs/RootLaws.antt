@@ -89,7 +89,7 @@ module _ (names : Names) where
   any_form u f v g (code.Free n) (model.Free x) lasts h = h
 
   -- a number stands for one meaning
-  once : (u f : ℕ) (c : Meaning) (l m : model.Meaning) → IsMeaning names u f c l → IsMeaning names u f c m → l ≡ m
+  pub once : (u f : ℕ) (c : Meaning) (l m : model.Meaning) → IsMeaning names u f c l → IsMeaning names u f c m → l ≡ m
   once u f (code.Local n) l m h k = h ∙ sym k
   once u f (code.Global w n) (model.Global x i) (model.Global y j) h k = let e = same_Some i j (sym h.1 ∙ k.1) in λ t. model.Global ((sym h.0 ∙ k.0) t) (e t)
   once u f (code.Global w n) (model.Global x i) (model.Local v) h k = absurd k
@@ -268,11 +268,16 @@ same_form ms names u f g h (code.Global w n) m lasts is = refl
 same_form ms names u f g h (code.Standard n) m lasts is = refl
 same_form ms names u f g h (code.Free n) m lasts is = refl
 
+-- the edition of a macro tells its rules
+pub rules_only : (P : Type 0) (work : Work) (u : UnitScope) (v : Around) (r : Since) (c : Meaning) (m : model.Meaning) (e form : ℕ) → CanAsk work u v r → is_local m ≡ false → IsMeaning work.symbols r.unit r.form c m → P ↔ (edition_in u.macros form c ≡ e)
+    → P → answer_now v (UsesRules m) ≡ Expands (r.editions e)
+rules_only P work u v r c m e form can lasts is same p = ap Expands (sym (can.editions.tells form c m (any_form work.symbols r.unit r.form v.state.unit form c m lasts is) lasts) ∙ ap r.editions (same.0 p))
+
 pub rules_arm : (P : Type 0) (work : Work) (u : UnitScope) (v : Around) (r : Since) (c : Meaning) (m : model.Meaning) (e form : ℕ) → CanAsk work u v r → is_local m ≡ false → IsMeaning work.symbols r.unit r.form c m → KeepsEdition work u v r (questions.Rules c e) →
     P ↔ (edition_in u.macros form c ≡ e) → P ↔ (answer_now v (UsesRules m) ≡ Expands (r.editions e))
 rules_arm P work u v r c m e form can lasts is keeps same =
     let here : IsMeaning work.symbols v.state.unit v.state.form c m = any_form work.symbols r.unit r.form v.state.unit v.state.form c m lasts is in
     let told = can.editions.tells form c m (any_form work.symbols r.unit r.form v.state.unit form c m lasts is) lasts in (
-      λ p. ap Expands (sym told ∙ ap r.editions (same.0 p)),
+      rules_only P work u v r c m e form can lasts is same,
       λ k. same.1 (same_form u.macros work.symbols r.unit r.form form v.state.form c m lasts is ∙ keeps m here (sym ((expands_same (option_map bare_macro (macro_at v.state.macros m)) (r.editions e)).0 k))),
     )

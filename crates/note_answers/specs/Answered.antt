@@ -57,7 +57,7 @@ KeepsEdition work u v r (code.Definition n o) = Unit {0}
 -- what a note tells has its answer still, wherever it can be asked outside of all forms
 abbrev pub HasAnswer : Work → UnitScope → code_note.Note → Type 0
 HasAnswer work u x =
-    (v : Around) (r : Since) (m : Noted) → CanAsk work u v r → IsNote work.symbols r x m → IsAskedOutside m.question → KeepsEdition work u v r x.question → answer_now v m.question ≡ m.answer
+    (v : Around) (r : Since) (m : Noted) → CanAsk work u v r → IsNote work.symbols r x m → IsAskedOutside m.question → answer_now v m.question ≡ m.answer
 
 -- whether a unit defines a variable, by the table of what it defines as keywords
 abbrev pub variable_by : Option Bool → Bool
@@ -78,9 +78,12 @@ IsDefinition (Defines fs x r ns) = Unit {0}
 abbrev pub IsAtStart : Noted → Type 0
 IsAtStart m = (m.behind ≡ 0) × (IsDefinition m.question → ⊥)
 
+abbrev pub AreAskedOutside : List Noted → Type 0
+AreAskedOutside ms = (m : Noted) → Contains ms m → IsAtStart m → IsAskedOutside m.question
+
 -- what was asked at the start is asked outside of all forms, and macros keep their editions
 pub record CanAskAll (work : Work) (u : UnitScope) (v : Around) (r : Since) (xs : List code_note.Note) (ms : List Noted) : Type 0 where
-  pub outside : (m : Noted) → Contains ms m → IsAtStart m → IsAskedOutside m.question
+  pub outside : AreAskedOutside ms
   pub editions : (x : code_note.Note) → Contains xs x → KeepsEdition work u v r x.question
 
 -- what was asked at the start has its answers

@@ -15,7 +15,7 @@ ghost use Rattle.unit_scopes.specs.Macros.{macro_in};
 ghost use Rattle.unit_scopes.specs.Used.{meanings_equal};
 ghost use Rattle.form_notes.specs.Noted.{Noted, Since};
 ghost use Rattle.form_notes.specs.Standing.{IsNote, HaveNotes};
-ghost use Rattle.note_answers.specs.Answered.{answer_now, CanAsk, CanAskAll, HaveAnswers, IsAskedOutside, IsDefinition, KeepsEdition, variable_by};
+ghost use Rattle.note_answers.specs.Answered.{answer_now, CanAsk, CanAskAll, AreAskedOutside, HaveAnswers, IsAskedOutside, IsDefinition, KeepsEdition, variable_by};
 
 use form_notes::{Note, Question};
 use syntax_tree::meaning::Meaning;
@@ -27,8 +27,9 @@ use unit_scopes::UnitScope;
 /// Whether all that a form asked before it defined anything has its answers still, but for how definitions end.
 pub fn still_good(units: &UnitScope, work: &Work, notes: &[Note]) -> bool
     requires { (v : Around) × (r : Since) × CanAsk work.now units.now v r × ((ms : List Noted) × HaveNotes work.now.symbols r notes.now ms) }
-    ensures { (v : Around) (r : Since) (ms : List Noted) → CanAsk work.now units.now v r → HaveNotes work.now.symbols r notes.now ms → CanAskAll work.now units.now v r notes.now ms →
+    ensures exact { (v : Around) (r : Since) (ms : List Noted) → CanAsk work.now units.now v r → HaveNotes work.now.symbols r notes.now ms → CanAskAll work.now units.now v r notes.now ms →
         IsTrue result ↔ HaveAnswers v ms }
+    ensures only { (v : Around) (r : Since) (ms : List Noted) → CanAsk work.now units.now v r → HaveNotes work.now.symbols r notes.now ms → AreAskedOutside ms → IsTrue result → HaveAnswers v ms }
 {
     for note in notes {
         if note.behind == 0 && !has_answer(units, work, note) {
@@ -43,6 +44,7 @@ pub fn has_answer(units: &UnitScope, work: &Work, note: &Note) -> bool
     requires { (v : Around) × (r : Since) × CanAsk work.now units.now v r × ((m : Noted) × IsNote work.now.symbols r note.now m) }
     ensures answer { (v : Around) (r : Since) (m : Noted) → CanAsk work.now units.now v r → IsNote work.now.symbols r note.now m → IsAskedOutside m.question → KeepsEdition work.now units.now v r note.now.question →
         IsTrue result ↔ (answer_now v m.question ≡ m.answer) }
+    ensures only { (v : Around) (r : Since) (m : Noted) → CanAsk work.now units.now v r → IsNote work.now.symbols r note.now m → IsAskedOutside m.question → IsTrue result → answer_now v m.question ≡ m.answer }
     ensures ends { (r : Since) (m : Noted) → IsNote work.now.symbols r note.now m → IsDefinition m.question → IsTrue result }
 {
     match &note.question {

@@ -2,5 +2,6 @@
 #![tactic(auto)]
 
 mod answers;
+pub mod laws;
 
 pub use answers::{has_answer, still_good};
