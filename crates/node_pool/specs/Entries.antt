@@ -1,5 +1,6 @@
--- How the vacant entries of a vector are linked.
-use Rattle.std.specs.Prelude.{◌≡◌, ℕ, zero, suc, ◌+◌, List, map, length, Option, Some, None, is_some, count_by, slice_get}
+-- How the vacant entries of a vector are linked, and how many more values it has memory for.
+use Rattle.std.specs.Prelude.{◌≡◌, ℕ, zero, suc, ◌+◌, ◌≤◌, List, map, length, Option, Some, None, is_some, count_by, slice_get, Vec, vec_capacity}
+use Rattle.std.specs.declared.alloc.Global.{Global}
 use Rattle.node_pool.specs.declared.slots.Entry.{Entry}
 use Rattle.node_pool.specs.declared.slots.Entry.TheVariants.{Vacant, Occupied}
 
@@ -20,3 +21,8 @@ module _ {T : Type 0} where
     pub vacant : ℕ
     pub total : live + vacant ≡ length es
     pub linked : AreVacant es vacant next
+
+  -- besides, the vector has memory for as many more values as were promised a slot
+  pub record AreSlots (es : Vec (Entry T) Global) (live next spare : ℕ) : Type 0 where
+    pub linked : IsLinked es.items live next
+    pub room : live + spare ≤ vec_capacity es

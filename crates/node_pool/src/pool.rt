@@ -1,5 +1,5 @@
 //! The pool: nodes by ids, in regions that go back to a mark and end.
-ghost use Rattle.std.specs.Prelude.{◌≡◌, ◌≢◌, ℕ, ◌+◌, ◌-◌, ◌^◌, ◌<◌, ◌≤◌, ◌↔◌, Err, Some, None, is_some, IsSome, IsOk, IfOk, OnOk, OnErr};
+ghost use Rattle.std.specs.Prelude.{◌≡◌, ◌≢◌, ℕ, ◌+◌, ◌-◌, ◌^◌, ◌<◌, ◌≤◌, ◌↔◌, min, Err, Some, None, is_some, IsSome, IsOk, IfOk, OnOk, OnErr};
 ghost use Rattle.std.specs.FinMap as map;
 ghost use Rattle.node_pool.specs.NodePool.{Lived, Nodes, IsPut, back_to};
 ghost use Rattle.node_pool.specs.Pools.{live_count, node_at, IsLive, IsOpened, count_in, lived_in, Keeps, Reaches, HasRanks, OnlyAdds};
@@ -171,6 +171,21 @@ impl<N: Drop> Pool<N> {
     {
         self.nodes.reserve(n as usize)?;
         Ok(())
+    }
+
+    /// How many puts take no memory. It takes none.
+    pub fn spare(&self) -> usize
+        ensures { result ≡ self.now.spare }
+    {
+        self.nodes.spare()
+    }
+
+    /// From now on no more than `n` puts are promised that they take no memory: what was reserved, or came of nodes that went, is
+    /// given back down to this. It takes no memory.
+    pub fn give_back(&mut self, n: usize)
+        ensures { self.new ≡ record self.old { spare = min n self.old.spare } }
+    {
+        self.nodes.give_back(n);
     }
 
     /// The node of an id. It takes no memory.

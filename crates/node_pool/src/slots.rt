@@ -1,5 +1,5 @@
 //! A vector of slots, each of which holds a value or is vacant. The vacant ones are linked, and are filled before the vector grows.
-ghost use Rattle.std.specs.Prelude.{◌≡◌, ◌+◌, ◌≤◌, [], length, count_by, is_some, slice_set, IsSome, IsOk, Some, IfOk, OnOk, OnErr};
+ghost use Rattle.std.specs.Prelude.{◌≡◌, ◌+◌, ◌≤◌, [], length, min, count_by, is_some, slice_set, IsSome, IsOk, Some, IfOk, OnOk, OnErr};
 ghost use Rattle.node_pool.specs.SlotLists.{at, IsFilled};
 
 use crate::faults::Mem;
@@ -15,6 +15,8 @@ pub(crate) struct Slots<T> {
     live: usize,
     // The first vacant entry, or `entries.len()` where there is none.
     next: usize,
+    // How many more values are promised a slot without memory.
+    spare: usize,
 }
 
 #[derive(Drop)]
@@ -25,18 +27,18 @@ enum Entry<T> {
 }
 
 impl<T> Model for Slots<T> {
-    ghost use Rattle.std.specs.Prelude.{◌-◌, map, vec_capacity};
+    ghost use Rattle.std.specs.Prelude.{map};
     ghost use Rattle.node_pool.specs.SlotLists.{SlotList, slots_code};
 
     ghost Value = { SlotList T };
 
     ghost coded = { slots_code T.code };
 
-    ghost use Rattle.node_pool.specs.Entries.{value_of, IsLinked};
+    ghost use Rattle.node_pool.specs.Entries.{value_of, AreSlots};
 
-    ghost view = { λ s. record { slots = map value_of s.entries.items; spare = vec_capacity s.entries - s.live } };
+    ghost view = { λ s. record { slots = map value_of s.entries.items; spare = s.spare } };
 
-    ghost invariant = { λ s. IsLinked s.entries.items s.live s.next };
+    ghost invariant = { λ s. AreSlots s.entries s.live s.next s.spare };
 }
 
 impl<T: Drop> Slots<T> {
@@ -48,6 +50,7 @@ impl<T: Drop> Slots<T> {
             entries: Vec::new(alloc),
             live: 0,
             next: 0,
+            spare: 0,
         }
     }
 
@@ -72,11 +75,30 @@ impl<T: Drop> Slots<T> {
         ensures had_room { n ≤ self.old.spare → IsOk result }
         ensures slots { self.new.slots ≡ self.old.slots }
     {
+        if self.spare >= n {
+            return Ok(());
+        }
         if self.entries.capacity() - self.live < n {
             let missing = n - (self.entries.len() - self.live);
             self.entries.reserve(missing)?;
         }
+        self.spare = n;
         Ok(())
+    }
+
+    /// How many more values are promised a slot without memory.
+    pub(crate) fn spare(&self) -> usize
+        ensures { result ≡ self.now.spare }
+    {
+        self.spare
+    }
+
+    /// From now on no more than `n` values are promised a slot without memory.
+    pub(crate) fn give_back(&mut self, n: usize)
+        ensures spare { self.new.spare ≡ min n self.old.spare }
+        ensures slots { self.new.slots ≡ self.old.slots }
+    {
+        self.spare = self.spare.min(n);
     }
 
     /// Fills a vacant slot, or makes one where each holds a value.
@@ -91,10 +113,12 @@ impl<T: Drop> Slots<T> {
             self.entries.reserve(1)?;
             self.entries.push_reserved(Entry::Occupied(value));
             self.live += 1;
+            self.spare = self.spare.saturating_sub(1);
             self.next = number + 1;
             return Ok(number);
         }
         self.live += 1;
+        self.spare = self.spare.saturating_sub(1);
         match mem::replace(&mut self.entries[number], Entry::Occupied(value)) {
             Entry::Vacant(next) => self.next = next,
             Entry::Occupied(_) => unreachable!(),
@@ -113,6 +137,7 @@ impl<T: Drop> Slots<T> {
         match mem::replace(&mut self.entries[number], vacant) {
             Entry::Occupied(value) => {
                 self.live -= 1;
+                self.spare += 1;
                 self.next = number;
                 value
             }

@@ -1,6 +1,7 @@
 pub mod Places  -- Lists by their places
 pub mod TableLaws  -- What the tables of symbols and identifiers stand for, as they grow
 pub mod TableSteps  -- The invariant of the tables of symbols and identifiers, kept at each call
+pub mod ShorterTables  -- Tables that go back to their first symbols and identifiers
 pub mod EntrySteps  -- What the insertion of an identifier makes of the tables, whether it is there or not
 pub mod SeenLaws  -- What is found in a map of which something is seen
 pub mod NodeLaws  -- The nodes as a map, without the measures that the pool keeps with them

@@ -25,7 +25,7 @@ length-after symbols is (x ∷ xs) =
     omega (arith, length-after symbols (is ++ next_ident symbols is x ∷ []) xs, length-append is (next_ident symbols is x ∷ []))
 
 -- what stands stays in front
-after-front : (symbols : List (List ℕ)) (is : List Identifier) (xs : List Ident) → (more : List Identifier) × (idents_after symbols is xs ≡ is ++ more)
+pub after-front : (symbols : List (List ℕ)) (is : List Identifier) (xs : List Ident) → (more : List Identifier) × (idents_after symbols is xs ≡ is ++ more)
 after-front symbols is [] = ([], sym (append-nil is))
 after-front symbols is (x ∷ xs) =
     let r = after-front symbols (is ++ next_ident symbols is x ∷ []) xs in

@@ -4,7 +4,7 @@ use Rattle.std.specs.List.{list_any}
 use Rattle.std.specs.Str.{bytes_eq}
 use Rattle.std.proofs.Common.{ap}
 use Rattle.std.specs.Coded.{Coded, code_by, coded×, coded_ℕ, coded_list}
-use Rattle.scheme_model.specs.Ident.{Ident as Identifier, Written, Inserted, same_ident}
+use Rattle.scheme_model.specs.Ident.{Ident as Identifier, Written, Inserted, same_ident, symbol_of}
 
 -- the symbols, each as its characters in UTF-8, and the identifiers
 pub record Names : Type 0 where
@@ -29,6 +29,10 @@ with_ident idents i = with_new same_ident idents i
 pub record KeepsNames (old new : Names) : Type 0 where
   pub symbols : (n : ℕ) (s : List ℕ) → slice_get old.symbols n ≡ Some s → slice_get new.symbols n ≡ Some s
   pub idents : (n : ℕ) (i : Identifier) → slice_get old.idents n ≡ Some i → slice_get new.idents n ≡ Some i
+
+-- of so many identifiers, the first ones, each has its symbol among the first symbols, so many
+abbrev pub StandBeside : Names → (symbols idents : ℕ) → Type 0
+StandBeside names symbols idents = (n : ℕ) (i : Identifier) → n < idents → slice_get names.idents n ≡ Some i → (k : ℕ) × (k < symbols) × (slice_get names.symbols k ≡ Some (symbol_of i))
 
 -- an identifier is stored as its numbers of uses, the last use first, with its unit and its symbol
 abbrev uses : Identifier → List (ℕ × (ℕ × ℕ))

@@ -1,10 +1,10 @@
 //! Symbols and identifiers by number. A number is a place in a table, so equal symbols have one number, and so do
 //! equal identifiers (R7RS 4.3).
-ghost use Rattle.std.specs.Prelude.{◌≡◌, ◌<◌, ℕ, [], length, slice_get, Some, IfOk, OnOk, OnErr};
+ghost use Rattle.std.specs.Prelude.{◌≡◌, ◌<◌, ◌≤◌, ℕ, [], length, take, slice_get, Some, IfOk, OnOk, OnErr};
 ghost use Rattle.std.specs.Option.{option_map};
 ghost use Rattle.scheme_model.specs.Identifiers.{Number};
 ghost use Rattle.scheme_model.specs.Ident.{Ident as Identifier, Inserted, symbol_of};
-ghost use Rattle.syntax_tree.specs.Names.{Names, AreToldApart, KeepsNames, with_symbol, with_ident};
+ghost use Rattle.syntax_tree.specs.Names.{Names, AreToldApart, KeepsNames, StandBeside, with_symbol, with_ident};
 ghost use Rattle.syntax_tree.specs.Numbered.{ident_of, IsPlaced};
 ghost use Rattle.syntax_tree.specs.Hashed.{half, written_code, inserted_code};
 
@@ -203,6 +203,26 @@ impl Symbols {
             (m : ℕ) × (m < n) × (slice_get self.now.idents m ≡ Some i) }
     {
         let _idents = &self.idents;
+    }
+
+    /// The symbol of each identifier is in the table of symbols.
+    pub fn symbols_stand(&self)
+        ensures { StandBeside self.now (length self.now.symbols) (length self.now.idents) }
+    {
+        let _idents = &self.idents;
+    }
+
+    /// The tables go back to their first symbols and identifiers, so many, where the symbols of these are among those. It takes no
+    /// memory, and time by what goes.
+    pub fn back_to(&mut self, symbols: usize, idents: usize)
+        requires few_symbols { symbols ≤ length self.old.symbols }
+        requires few_idents { idents ≤ length self.old.idents }
+        requires beside { StandBeside self.old symbols idents }
+        ensures symbols { self.new.symbols ≡ take symbols self.old.symbols }
+        ensures idents { self.new.idents ≡ take idents self.old.idents }
+    {
+        self.names.truncate(symbols);
+        self.idents.truncate(idents);
     }
 
     /// The symbol innermost in an identifier that may be new.

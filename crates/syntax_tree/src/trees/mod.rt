@@ -1,5 +1,5 @@
 //! Trees by number. A node is kept with the size and the depth of its tree, and trees may share parts.
-ghost use Rattle.std.specs.Prelude.{◌≡◌, ◌≢◌, ℕ, ◌+◌, ◌^◌, ◌≤◌, ◌↔◌, [], Err, Some, IsSome, IsOk, IfOk, OnOk, OnErr};
+ghost use Rattle.std.specs.Prelude.{◌≡◌, ◌≢◌, ℕ, ◌+◌, ◌^◌, ◌≤◌, ◌↔◌, [], min, Err, Some, IsSome, IsOk, IfOk, OnOk, OnErr};
 ghost use Rattle.std.specs.FinMap as map;
 ghost use Rattle.scheme_model.specs.Trees.{Tree as ModelTree};
 ghost use Rattle.scheme_model.specs.Measures.{tree_size, tree_depth};
@@ -115,6 +115,22 @@ impl Work {
         ensures keeps { KeepsTrees self.old self.new }
     {
         Ok(self.trees.reserve(n)?)
+    }
+
+    /// How many nodes can be added without memory. It takes none.
+    pub fn spare(&self) -> usize
+        ensures { result ≡ self.now.trees.spare }
+    {
+        self.trees.spare()
+    }
+
+    /// From now on no more than `n` nodes are promised that they are added without memory; all else is as before. It takes none.
+    pub fn give_back(&mut self, n: usize)
+        ensures trees { self.new.trees ≡ record self.old.trees { spare = min n self.old.trees.spare } }
+        ensures symbols { self.new.symbols ≡ self.old.symbols }
+        ensures keeps { KeepsTrees self.old self.new }
+    {
+        self.trees.give_back(n);
     }
 
     /// The node of a tree. It takes no memory.

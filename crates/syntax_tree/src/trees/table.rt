@@ -1,5 +1,5 @@
 //! The table of nodes, and its regions.
-ghost use Rattle.std.specs.Prelude.{◌≡◌, ◌≢◌, ℕ, ◌+◌, ◌^◌, ◌<◌, ◌≤◌, ◌↔◌, [], Err, Some, None, length, IsSome, IsOk, IfOk, OnOk, OnErr};
+ghost use Rattle.std.specs.Prelude.{◌≡◌, ◌≢◌, ℕ, ◌+◌, ◌^◌, ◌<◌, ◌≤◌, ◌↔◌, [], min, Err, Some, None, length, IsSome, IsOk, IfOk, OnOk, OnErr};
 ghost use Rattle.std.specs.FinMap as map;
 ghost use Rattle.scheme_model.specs.Trees.{Tree as ModelTree};
 ghost use Rattle.scheme_model.specs.Measures.{tree_size, tree_depth};
@@ -161,6 +161,20 @@ impl Trees {
             return Err(Memory);
         }
         Ok(())
+    }
+
+    /// How many nodes can be added without memory.
+    pub(crate) fn spare(&self) -> usize
+        ensures { result ≡ self.now.spare }
+    {
+        self.pool.spare()
+    }
+
+    /// From now on no more than `n` nodes are promised that they are added without memory.
+    pub(crate) fn give_back(&mut self, n: usize)
+        ensures { self.new ≡ record self.old { spare = min n self.old.spare } }
+    {
+        self.pool.give_back(n);
     }
 
     /// The node of a number.

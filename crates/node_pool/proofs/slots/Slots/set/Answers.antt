@@ -5,7 +5,7 @@ use Rattle.node_pool.proofs.slots.Slots.set.Goals as goal
 pub invariant_of-self : goal.invariant_of-self
 invariant_of-self g c =
     let found = occupied_at c.self.inside.entries.items c.args.number (rw (← c.self.view_is) at c.requires) in
-    linked_rewrite _ _ _ c.args.number found.0 c.args.value c.self.invariant found.1
+    record { linked = linked_rewrite _ _ _ c.args.number found.0 c.args.value c.self.invariant.linked found.1; room = c.self.invariant.room }
 
 pub returns-clause-slots : goal.returns-clause-slots
 returns-clause-slots g c = rw (← c.self.view_is, map-set)
