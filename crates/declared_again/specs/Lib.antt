@@ -1,2 +1,1 @@
 pub mod Endings  -- How the definitions of a form in its unit end, and what those that stand make (R7RS 5.3)
-pub mod Parts  -- What is kept of a form that was gone through (R7RS 5.3)

@@ -2,6 +2,3 @@
 #![tactic(auto)]
 
 pub mod laws;
-pub mod parts;
-
-pub use parts::{DeclaredPart, KeptMacro, OwnNote, take_part};

@@ -30,10 +30,10 @@ use Rattle.unit_scopes.specs.declared.asked.Note as unit_note
 use Rattle.unit_scopes.specs.declared.asked.Note.TheVariants as unit_notes
 use Rattle.unit_scopes.specs.declared.macros.Macro.{Macro}
 use Rattle.unit_scopes.specs.declared.macros.Macros.{Macros}
-use Rattle.declared_again.specs.declared.parts.DeclaredPart.{DeclaredPart}
-use Rattle.declared_again.specs.declared.parts.KeptMacro.{KeptMacro}
-use Rattle.declared_again.specs.declared.parts.OwnNote as own_note
-use Rattle.declared_again.specs.declared.parts.OwnNote.TheVariants as own
+use Rattle.declared_parts.specs.declared.parts.DeclaredPart.{DeclaredPart}
+use Rattle.declared_parts.specs.declared.parts.KeptMacro.{KeptMacro}
+use Rattle.declared_parts.specs.declared.parts.OwnNote as own_note
+use Rattle.declared_parts.specs.declared.parts.OwnNote.TheVariants as own
 
 -- ---- what the form looked up and compared
 

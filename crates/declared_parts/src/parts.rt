@@ -7,7 +7,7 @@ ghost use Rattle.form_notes.specs.Noted.{Noted, Since};
 ghost use Rattle.unit_scopes.specs.Editions.{EditionsTell};
 ghost use Rattle.unit_scopes.specs.Forgotten.{AreAtRoot};
 ghost use Rattle.unit_scopes.specs.Units.{UnitStands};
-ghost use Rattle.declared_again.specs.Parts.{HasDeclared, IsPart, MacrosThere, kept_as, keyword_if, keyword_made, macro_taken, macros_taken, without_scopes};
+ghost use Rattle.declared_parts.specs.Parts.{HasDeclared, IsPart, MacrosThere, kept_as, keyword_if, keyword_made, macro_taken, macros_taken, without_scopes};
 
 use form_notes::{Definition, Note, Notes, Noting, Outcome, Question};
 use ls_base::{Items, Mem};
