@@ -26,8 +26,8 @@ place-requires c =
 pub keep-requires : goal.keep-requires
 keep-requires c = subst IsBound (sym c.next_meaning-meaning.ensures.value) (is_bound_here c.args.self.now c.args.spot.in_body c.args.name.ident)
 
-pub returns-in_ok-keep : goal.returns-in_ok-keep
-returns-in_ok-keep c =
+pub returns : goal.returns
+returns c =
     let u = c.args.self.now in
     let spot = c.args.spot in
     let name = c.args.name in
