@@ -1,1 +1,11 @@
 pub mod PartLaws  -- What is taken of a form that was gone through stands for what it left in its unit
+pub mod EachLaws  -- What holds of each of a list holds of all that it contains
+pub mod NextMoments  -- The definitions that are noted of a form
+pub mod SpokenRoot  -- A note at the root that is told otherwise by a definition of the unit has its identifier, or one that uses inserted in its place
+pub mod Settled  -- What isn't local of a form's surroundings and of what it has made by a moment
+pub mod LaterNotes  -- A note that is no definition's
+pub mod SameEnds  -- A definition of a form ends where it is declared again as it does by the questions of the form
+pub mod MadeNext  -- The form's next definition is made
+pub mod UndoneLaws  -- Definitions that are taken back
+pub mod StartGoing  -- Where a form begins to be declared again, nothing is made yet
+pub mod OwnLaws  -- A form's own notes, in the unit's own scope
