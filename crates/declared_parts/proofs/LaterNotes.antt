@@ -76,12 +76,12 @@ asked_outside (Requires l) h = absurd h
 asked_outside (Defines fs x r ns) h = h
 
 no_rules : (q : Question) → Looks q → (r : Question) → (Looks r → ⊥) → bare_question q ≡ r → ⊥
-no_rules (LooksUp i) h r no e = no (subst Looks e tt)
-no_rules (UsesRules m) h r no e = h
-no_rules (Compares l i) h r no e = no (subst Looks e tt)
-no_rules (IsAssigned i) h r no e = h
-no_rules (Requires l) h r no e = h
-no_rules (Defines fs x r ns) h p no e = h
+no_rules (LooksUp i) h r non e = non (subst Looks e tt)
+no_rules (UsesRules m) h r non e = h
+no_rules (Compares l i) h r non e = non (subst Looks e tt)
+no_rules (IsAssigned i) h r non e = h
+no_rules (Requires l) h r non e = h
+no_rules (Defines fs x r ns) h p non e = h
 
 -- ---- the note
 

@@ -9,3 +9,10 @@ pub mod MadeNext  -- The form's next definition is made
 pub mod UndoneLaws  -- Definitions that are taken back
 pub mod StartGoing  -- Where a form begins to be declared again, nothing is made yet
 pub mod OwnLaws  -- A form's own notes, in the unit's own scope
+pub mod FormFacts  -- What is known of the noted questions of a form that is declared again
+pub mod GoNext  -- The next definition of a form that is declared again
+pub mod EndsLaws  -- A definition is refused by the form's own notes, or by those of its unit before the form
+pub mod GoOn  -- A form's next definition is made: all that was known where it goes on is known behind it
+pub mod Stepping  -- A note of a definition, where a form is declared again
+pub mod EndGoing  -- All notes of a form tell what they told, and all its definitions are made again; or one doesn't
+pub mod LaterGoing  -- A note that is no definition's, where a form is declared again

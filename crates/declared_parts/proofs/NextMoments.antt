@@ -8,7 +8,7 @@ use Rattle.scheme_model.specs.ExpansionFaults.{Named}
 use Rattle.scheme_model.specs.Meaning.{Global}
 use Rattle.scheme_model.specs.RulesShape.{Rules}
 use Rattle.scheme_model.specs.Order.{Note, is_some}
-use Rattle.scheme_model.specs.Substitution.{Table}
+use Rattle.scheme_model.specs.Substitution.{Defined, Table}
 use Rattle.scheme_model.specs.ScopedExpansion.{Frames, FramedIdent, ScopedMacro}
 use Rattle.scheme_model.specs.Questions.{Moment, Around, found, Outcome, Stands, Redefines, StoodBefore, Question, LooksUp, UsesRules, Compares, IsAssigned, Requires, Defines, unit_outcome}
 use Rattle.scheme_model.specs.FormsAlike.{set_aside_asking}
@@ -50,7 +50,7 @@ module _ (w : Around) (e : Ending) where
   macros_before Redefines ks zs h = h
   macros_before StoodBefore ks zs h = h
 
-found_macros : (w : Around) (x : Named Ident) (r : Option (Rules Ident)) (fs : Frames) (n : Moment) (ks : List ScopedMacro) → macros_outside n.macros ≡ ks →
+pub found_macros : (w : Around) (x : Named Ident) (r : Option (Rules Ident)) (fs : Frames) (n : Moment) (ks : List ScopedMacro) → macros_outside n.macros ≡ ks →
     macros_outside (found w None x r fs n).macros ≡ macros_if Stands w (record { moment = n; frames = fs; name = x; rules = r; notes = [] }) ks
 found_macros w x None fs n ks e = e
 found_macros w x (Some r) fs n ks e = ap (λ l. record { meaning = Global w.state.unit x.name; frames = fs; rules = r } ∷ l) e
@@ -93,13 +93,13 @@ module _ (w : Around) (m : Moment) (own : List (Note FramedIdent)) where
   module _ (n : Moment) (e : Ending) (at : e.moment ≡ n) where
     stood : (ts : Table) → n.table ≡ ts → IsEnd (table_if (ending_in w e) w e ts) m.table → ending_in w e ≡ Stands → IsEnd (found w None e.name e.rules e.frames n).table m.table
     stood ts told h o =
-        let d = record { unit = w.state.unit; form = w.state.form; ident = e.name.name; keyword = is_some e.rules; occ = e.name.occ } in
+        let d : Defined = record { unit = w.state.unit; form = w.state.form; ident = e.name.name; keyword = is_some e.rules; occ = e.name.occ } in
         end_of (d ∷ ts) (d ∷ n.table) m.table (ap (λ l. d ∷ l) (sym told)) (subst (λ (x : Outcome). IsEnd (table_if x w e ts) m.table) o h)
 
     kept : (ks : List ScopedMacro) → macros_outside n.macros ≡ ks → IsEnd (macros_if (ending_in w e) w e ks) (macros_outside m.macros) → ending_in w e ≡ Stands → IsEnd (macros_outside (found w None e.name e.rules e.frames n).macros) (macros_outside m.macros)
     kept ks told h o = end_of (macros_if Stands w e ks) (macros_outside (found w None e.name e.rules e.frames n).macros) (macros_outside m.macros) (sym (found_macros w e.name e.rules e.frames n ks told)) (subst (λ (x : Outcome). IsEnd (macros_if x w e ks) (macros_outside m.macros)) o h)
 
-  all_are : (qs : List (Moment × Question)) (ms : List (Note FramedIdent)) → MadeAtEach w qs → MadeInOrder (endings qs) ms → IsEarlier ms own → IsEnd (table_made w (endings qs)) m.table → IsEnd (macros_made w (endings qs)) (macros_outside m.macros) →
+  pub all_are : (qs : List (Moment × Question)) (ms : List (Note FramedIdent)) → MadeAtEach w qs → MadeInOrder (endings qs) ms → IsEarlier ms own → IsEnd (table_made w (endings qs)) m.table → IsEnd (macros_made w (endings qs)) (macros_outside m.macros) →
       Each (λ (q : Moment × Question). AtRoot q.0) qs → Each (λ (q : Moment × Question). IsBefore q.0 m) qs → Each P (all_noted w qs)
   all_are [] ms made order early table macros root before = tt
   all_are ((n, LooksUp i) ∷ qs) ms made order early table macros root before = each_both P (noted w (n, LooksUp i)) (all_noted w qs) (none_of _ _ (n, LooksUp i) _ tt (λ k. tt)) (all_are qs ms made.1 order early table macros root.1 before.1)
@@ -136,12 +136,18 @@ IsLast w ts (n, Requires l) = ⊥
 IsLast w ts (n, Defines fs x r ns) = (unit_outcome w n fs x r ns ≡ Stands) × (suc (length n.table) ≡ length ts)
 
 module _ (w : Around) where
-  abbrev HasLast : List (Moment × Question) → Table → Type 0
+  abbrev pub HasLast : List (Moment × Question) → Table → Type 0
   HasLast qs ts = (length ts ≡ 0) ⊎ ((q : Moment × Question) × Contains qs q × IsLast w ts q)
 
   among : (qs rs : List (Moment × Question)) (ts : Table) → HasLast rs ts → HasLast (qs ++ rs) ts
   among qs rs ts (inl none) = inl none
   among qs rs ts (inr h) = inr (h.0, Contains-append_right qs rs h.0 h.1, h.2)
+
+  ends_by : (n : Moment) (e : Ending) (qs : List (Moment × Question)) (ts : Table) → n.table ≡ ts → HasLast qs ts → (o : Outcome) → unit_outcome w n e.frames e.name e.rules e.notes ≡ o →
+      HasLast ((n, Defines e.frames e.name e.rules e.notes) ∷ qs) (table_if o w e ts)
+  ends_by n e qs ts told rest Stands o = inr ((n, Defines e.frames e.name e.rules e.notes), (zero, omega arith, refl), (o, ap (λ (l : Table). suc (length l)) told))
+  ends_by n e qs ts told rest Redefines o = among ((n, Defines e.frames e.name e.rules e.notes) ∷ []) qs ts rest
+  ends_by n e qs ts told rest StoodBefore o = among ((n, Defines e.frames e.name e.rules e.notes) ∷ []) qs ts rest
 
   -- nothing is made, or the last that stands is noted
   pub last_made : (qs : List (Moment × Question)) → MadeAtEach w qs → HasLast (all_noted w qs) (table_made w (endings qs))
@@ -151,15 +157,5 @@ module _ (w : Around) where
   last_made ((n, Compares l i) ∷ qs) made = among (noted w (n, Compares l i)) (all_noted w qs) (table_made w (endings qs)) (last_made qs made.1)
   last_made ((n, IsAssigned i) ∷ qs) made = among (noted w (n, IsAssigned i)) (all_noted w qs) (table_made w (endings qs)) (last_made qs made.1)
   last_made ((n, Requires l) ∷ qs) made = among (noted w (n, Requires l)) (all_noted w qs) (table_made w (endings qs)) (last_made qs made.1)
-  last_made ((n, Defines fs x r ns) ∷ qs) made = by (unit_outcome w n fs x r ns) refl
-    where
-      e : Ending
-      e = record { moment = n; frames = fs; name = x; rules = r; notes = ns }
-
-      ts : Table
-      ts = table_made w (endings qs)
-
-      by : (o : Outcome) → unit_outcome w n fs x r ns ≡ o → HasLast ((n, Defines fs x r ns) ∷ all_noted w qs) (table_if o w e ts)
-      by Stands o = inr ((n, Defines fs x r ns), (zero, omega arith, refl), (o, ap (λ (l : Table). suc (length l)) made.0.0))
-      by Redefines o = among ((n, Defines fs x r ns) ∷ []) (all_noted w qs) ts (last_made qs made.1)
-      by StoodBefore o = among ((n, Defines fs x r ns) ∷ []) (all_noted w qs) ts (last_made qs made.1)
+  last_made ((n, Defines fs x r ns) ∷ qs) made =
+      ends_by n (record { moment = n; frames = fs; name = x; rules = r; notes = ns }) (all_noted w qs) (table_made w (endings qs)) made.0.0 (last_made qs made.1) (unit_outcome w n fs x r ns) refl

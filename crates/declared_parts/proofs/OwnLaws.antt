@@ -36,11 +36,8 @@ matched_length P (x ∷ xs) [] h = absurd h
 matched_length P (x ∷ xs) (y ∷ ys) h = ap suc (matched_length P xs ys h.1)
 
 pub matched_take : {X Y : Type 0} (P : X → Y → Type 0) (xs : List X) (ys : List Y) (n : ℕ) → AllMatch P xs ys → AllMatch P (take n xs) (take n ys)
-matched_take P [] [] n h = subst (λ l. AllMatch P (take n []) l) (sym (take_none n)) (subst (λ l. AllMatch P l []) (sym (take_none n)) tt)
-  where
-    take_none : {Z : Type 0} (m : ℕ) → take {Z} m [] ≡ []
-    take_none zero = refl
-    take_none (suc m) = refl
+matched_take P [] [] zero h = tt
+matched_take P [] [] (suc n) h = tt
 matched_take P [] (y ∷ ys) n h = absurd h
 matched_take P (x ∷ xs) [] n h = absurd h
 matched_take P (x ∷ xs) (y ∷ ys) zero h = tt
@@ -74,7 +71,7 @@ pub note_within : (names : Names) (root : ℕ) (o : code.OwnNote) (m : Note Fram
 note_within names root (own.LookedUp i h k) (LookedUp p head keyword) is = (slice_get_within names.idents i p.ident is.0, tt)
 note_within names root (own.LookedUp i h k) (Compared p q held) is = absurd is
 note_within names root (own.Compared l i h) (LookedUp p head keyword) is = absurd is
-note_within names root (own.Compared l i h) (Compared p q held) is = (slice_get_within names.idents l p.ident is.0, slice_get_within names.idents i q.ident is.2, tt)
+note_within names root (own.Compared l i h) (Compared p q held) is = (slice_get_within names.idents l p.ident is.0, (slice_get_within names.idents i q.ident is.2, tt))
 
 -- ---- at the root
 
@@ -107,6 +104,14 @@ unit_root (m ∷ ms) h = (note_root m ms h, unit_root ms h.1)
 
 -- ---- so many of them
 
+length_last : (xs : List (Note FramedIdent)) (x : Note FramedIdent) → length (xs ++ x ∷ []) ≡ suc (length xs)
+length_last [] x = refl
+length_last (y ∷ ys) x = ap suc (length_last ys x)
+
+length_turned : (xs : List (Note FramedIdent)) → length xs ≡ length (reverse xs)
+length_turned [] = refl
+length_turned (x ∷ xs) = ap suc (length_turned xs) ∙ (sym (length_last (reverse xs) x) ∙ ap length (sym (reverse-append (x ∷ []) xs)))
+
 -- those by an earlier definition are the first of them
 pub first_earlier : (ns ms : List (Note FramedIdent)) → IsEarlier ns ms → notes_first (length ns) ms ≡ ns
 first_earlier ns ms h =
@@ -120,17 +125,30 @@ first_earlier ns ms h =
     taken_front (x ∷ xs) ys zero e = let z : 0 ≡ suc (length xs) = e in absurd (omega (arith, z))
     taken_front (x ∷ xs) ys (suc n) e = let z : suc n ≡ suc (length xs) = e in ap (λ l. x ∷ l) (taken_front xs ys n (omega (arith, z)))
 
-    length_turned : (xs : List (Note FramedIdent)) → length xs ≡ length (reverse xs)
-    length_turned [] = refl
-    length_turned (x ∷ xs) = ap suc (length_turned xs) ∙ (sym (length_push (reverse xs) x) ∙ ap length (sym (reverse-append (x ∷ []) xs)))
-
-    length_push : (xs : List (Note FramedIdent)) (x : Note FramedIdent) → length (xs ++ x ∷ []) ≡ suc (length xs)
-    length_push [] x = refl
-    length_push (y ∷ ys) x = ap suc (length_push ys x)
-
 pub earlier_few : (ns ms : List (Note FramedIdent)) → IsEarlier ns ms → length ns ≤ length ms
 earlier_few ns ms h = subst (λ (l : List (Note FramedIdent)). length ns ≤ length l) (sym h.1) (front h.0)
   where
     front : (xs : List (Note FramedIdent)) → length ns ≤ length (xs ++ ns)
     front [] = omega arith
     front (x ∷ xs) = let rest = front xs in omega (arith, rest)
+
+-- ---- more of them
+
+abbrev no_notes : List (Note FramedIdent)
+no_notes = []
+
+take_none : (m : ℕ) → take m no_notes ≡ []
+take_none zero = refl
+take_none (suc m) = refl
+
+pub taken_on : (xs : List (Note FramedIdent)) (a n : ℕ) → a ≤ n → take n xs ≡ take a xs ++ take (n - a) (drop a xs)
+taken_on xs zero n le = ap (λ m. take m xs) (omega arith)
+taken_on [] (suc a) zero le = absurd (omega (arith, le))
+taken_on [] (suc a) (suc n) le = sym (take_none (n - a))
+taken_on (x ∷ xs) (suc a) zero le = absurd (omega (arith, le))
+taken_on (x ∷ xs) (suc a) (suc n) le = ap (λ l. x ∷ l) (taken_on xs a n (omega (arith, le)))
+
+pub first_on : (own : List (Note FramedIdent)) (a n : ℕ) → a ≤ n → reverse (take (n - a) (drop a (reverse own))) ++ notes_first a own ≡ notes_first n own
+first_on own a n le =
+    let os = reverse own in
+    sym (reverse-append (take a os) (take (n - a) (drop a os))) ∙ ap reverse (sym (taken_on os a n le))

@@ -36,16 +36,16 @@ use Rattle.declared_parts.proofs.SpokenRoot.{any_spoken}
 -- ---- the question of a note of a definition
 
 -- this definition, in view of so many notes of the form
-pub record IsOf (names : Names) (d : Definition) (w : Around) (q : Moment × Question) (ends : Outcome) : Type 0 where
+pub record IsOf (names : Names) (d : Definition) (w : Around) (q : Moment × Question) (o : Outcome) : Type 0 where
   pub frames : Frames
   pub name : Named Ident
   pub rules : Option (Rules Ident)
   pub notes : List (Note FramedIdent)
   pub question : q.1 ≡ Defines frames name rules notes
-  pub ends : unit_outcome w q.0 frames name rules notes ≡ ends
+  pub ends : unit_outcome w q.0 frames name rules notes ≡ o
   pub is : IsDefinitionOf names d name rules notes
 
-name_in : Named Ident → Question → Named Ident
+abbrev name_in : Named Ident → Question → Named Ident
 name_in d (LooksUp i) = d
 name_in d (UsesRules m) = d
 name_in d (Compares l i) = d
@@ -53,7 +53,7 @@ name_in d (IsAssigned i) = d
 name_in d (Requires l) = d
 name_in d (Defines fs x r ns) = x
 
-rules_in : Question → Option (Rules Ident)
+abbrev rules_in : Question → Option (Rules Ident)
 rules_in (LooksUp i) = None
 rules_in (UsesRules m) = None
 rules_in (Compares l i) = None
@@ -61,7 +61,7 @@ rules_in (IsAssigned i) = None
 rules_in (Requires l) = None
 rules_in (Defines fs x r ns) = r
 
-count_in : Question → ℕ
+abbrev count_in : Question → ℕ
 count_in (LooksUp i) = 0
 count_in (UsesRules m) = 0
 count_in (Compares l i) = 0
@@ -69,7 +69,7 @@ count_in (IsAssigned i) = 0
 count_in (Requires l) = 0
 count_in (Defines fs x r ns) = length ns
 
-ended : Answer → Outcome
+abbrev pub ended : Answer → Outcome
 ended (Means m k) = Stands
 ended (Expands t) = Stands
 ended (Says b) = Stands
@@ -80,7 +80,7 @@ map_length f [] = refl
 map_length f (x ∷ xs) = ap suc (map_length f xs)
 
 other_question : {P : Type 0} (q p : Question) → is_definition q ≡ false → is_definition p ≡ true → q ≡ p → P
-other_question q p no yes e = let never : false ≡ true = sym no ∙ (ap is_definition e ∙ yes) in absurd cc
+other_question q p none some e = let never : false ≡ true = sym none ∙ (ap is_definition e ∙ some) in absurd cc
 
 module _ (names : Names) (r : Since) (d : Definition) (o : code_outcome.Outcome) (w : Around) (n : Moment) where
   pub told_definition : (q : Question) → IsQuestion names r (code.Definition d o) (bare_question q) (answer w n q) → IsOf names d w (n, q) (outcome_as o)
@@ -110,7 +110,7 @@ module _ (names : Names) (r : Since) (d : Definition) (o : code_outcome.Outcome)
 
 -- ---- how it ends
 
-outcome_code : Outcome → code_outcome.Outcome
+abbrev outcome_code : Outcome → code_outcome.Outcome
 outcome_code Stands = outcomes.Stands
 outcome_code Redefines = outcomes.Redefines
 outcome_code StoodBefore = outcomes.StoodBefore

@@ -39,19 +39,19 @@ module _ (v : Around) (others : ImportsOthers v.state) (n : Moment) (x : Named I
 
   -- what another unit has
   another : (w : ℕ) (j : Ident) (b : Bool) → (w == v.state.unit) ≡ b → (w ≡ v.state.unit → ⊥) → (b && same_ident j x.name) ≡ false
-  another w j true e no = absurd (no (eqb-true w v.state.unit e))
-  another w j false e no = refl
+  another w j true e non = absurd (non (eqb-true w v.state.unit e))
+  another w j false e non = refl
 
   imported : (m : Meaning) → ((i : Ident) → m ≡ Global v.state.unit i → ⊥) → IsOther m
-  imported (Local k) no = refl
-  imported (Global w j) no = another w j (w == v.state.unit) refl (λ e. no j (λ t. Global (e t) j))
-  imported (Standard s) no = refl
-  imported (Free s) no = refl
+  imported (Local k) non = refl
+  imported (Global w j) non = another w j (w == v.state.unit) refl (λ e. non j (λ t. Global (e t) j))
+  imported (Standard s) non = refl
+  imported (Free s) non = refl
 
   given : (o : Option Defined) (u : ℕ) (i : Ident) (e : Option Meaning) (other : Meaning) → same_ident x.name i ≡ false → ((j : Ident) → e ≡ Some (Global v.state.unit j) → ⊥) → IsOther other → IsOther (given_or (defined_or o u i e) other)
-  given (Some d) u i e other apart no rest = and_false (u == v.state.unit) (same_ident i x.name) (same_turned i x.name ∙ apart)
-  given None u i None other apart no rest = rest
-  given None u i (Some m) other apart no rest = imported m (λ j is. no j (ap Some is))
+  given (Some d) u i e other apart non rest = and_false (u == v.state.unit) (same_ident i x.name) (same_turned i x.name ∙ apart)
+  given None u i None other apart non rest = rest
+  given None u i (Some m) other apart non rest = imported m (λ j is. non j (ap Some is))
 
   pub unspoken : (i : Ident) → is_inside x.name i ≡ false → IsOther (means_outside after.table v.state.entry [] [] i)
   unspoken (Written u s) h = given (defined_in after.table u (Written u s)) u (Written u s) (v.state.entry u s) (Free s) h (λ j. others u s j) refl

@@ -37,7 +37,7 @@ use Rattle.declared_parts.proofs.Settled.{with_counts, settled_is, settled_told,
 
 -- ---- the form
 
-nothing : Moment
+abbrev nothing : Moment
 nothing = record { locals = 0; uses = 0; nodes = 0; bodies = 0; keywords = []; met = []; table = []; macros = []; places = []; definitions = [] }
 
 few_at_first : (b : Budget) → b ≡ record { uses = 0; nodes = 0; locals = 0 } → b.locals ≤ 2 ^ 44 * (b.nodes + 1)

@@ -72,7 +72,7 @@ module _ (work : Work) (u v : UnitScope) (h : IsBack u v) (ls : List Frames) (s 
 pub back_itself : (u : UnitScope) → IsBack u u
 back_itself u = record { rest = record { unit = refl; kind = refl; root = refl; libraries = refl; asked = refl }; env = refl; defined = λ n. refl; count = refl; macros = λ form m. refl }
 
-rest_on : (t u v : UnitScope) → SameRest t u → SameRest u v → SameRest t v
+pub rest_on : (t u v : UnitScope) → SameRest t u → SameRest u v → SameRest t v
 rest_on t u v p q = record { unit = q.unit ∙ p.unit; kind = q.kind ∙ p.kind; root = q.root ∙ p.root; libraries = q.libraries ∙ p.libraries; asked = q.asked ∙ p.asked }
 
 back_on : (t u v : UnitScope) → IsBack t u → IsBack u v → IsBack t v
@@ -89,7 +89,7 @@ defines_on t u v x p q = record {
   count = q.count ∙ p.count;
   none = p.none;
   others = λ form m apart. q.macros form m ∙ p.others form m apart;
-  plain = λ no form m. q.macros form m ∙ p.plain no form m;
+  plain = λ none form m. q.macros form m ∙ p.plain none form m;
 }
 
 pub defined_on : (t u v : UnitScope) (xs : List Made) → AreDefined t u xs → IsBack u v → AreDefined t v xs

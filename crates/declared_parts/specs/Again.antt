@@ -76,13 +76,13 @@ pub record ComesAgain (x : Again) : Type 0 where
   pub new : IsFresh x.now.state x.now.state.form
 
 -- what is kept is that of the form, where it was gone through
-pub record IsKeptOf (work : Work) (part : DeclaredPart) (editions : ℕ → Option (Transformer Frames Ident)) (x : Again) : Type 0 where
+pub record IsKeptOf (work : Work) (kept : DeclaredPart) (editions : ℕ → Option (Transformer Frames Ident)) (x : Again) : Type 0 where
   pub noted : List Noted
-  pub part : IsPart work (since_of x.before editions) part (own_notes x) noted
+  pub part : IsPart work (since_of x.before editions) kept (own_notes x) noted
   pub told : map bare_noted noted ≡ map (told x.before) (noted_of x)
 
 -- the open unit stands for what is around the form, and each of its scopes is a unit's own
-pub record CanDeclare (work : Work) (u : UnitScope) (number : ℕ) (part : DeclaredPart) : Type 0 where
+pub record CanDeclare (work : Work) (u : UnitScope) (form : ℕ) (part : DeclaredPart) : Type 0 where
   pub again : Again
   pub comes : ComesAgain again
   pub editions : ℕ → Option (Transformer Frames Ident)
@@ -92,7 +92,7 @@ pub record CanDeclare (work : Work) (u : UnitScope) (number : ℕ) (part : Decla
   pub own : AllOwn u
   pub tells : EditionsTell work.symbols u.macros again.now.state editions
   pub knows : Knows u.libraries again.now.known
-  pub number : number ≡ again.now.state.form
+  pub number : form ≡ again.now.state.form
 
 -- ---- what calls leave
 

@@ -104,8 +104,8 @@ pub record CanSetOwn (work : Work) (u : UnitScope) (part : DeclaredPart) (ls : L
 -- ---- its macros
 
 -- one of them in a scope
-pub record IsMacroIn (scope : ℕ) (k : KeptMacro) (m : Macro) : Type 0 where
-  pub scope : m.scope ≡ scope
+pub record IsMacroIn (root : ℕ) (k : KeptMacro) (m : Macro) : Type 0 where
+  pub scope : m.scope ≡ root
   pub rules : m.rules ≡ k.rules
   pub leaves : m.leaves.items ≡ k.leaves
   pub edition : m.edition ≡ k.edition
@@ -145,10 +145,10 @@ pub record GoesOn (work : Work) (old : UnitScope) (number : ℕ) (part : Declare
 -- ---- a definition
 
 -- a definition of this name, in view of these notes of the form and those of the unit before it, in a state that the scopes stand for
-pub record CanEnd (work : Work) (u : UnitScope) (d : Definition) (own : Asked) (ls : List Frames) (s : ScopedState) (x : Named Ident) (ns ms : List (Note FramedIdent)) : Type 0 where
+pub record CanEnd (work : Work) (u : UnitScope) (d : Definition) (asked : Asked) (ls : List Frames) (s : ScopedState) (x : Named Ident) (ns ms : List (Note FramedIdent)) : Type 0 where
   pub stands : Stands work u ls s
   pub is : IsName work (name_of d) x
-  pub own : NotesFor work ls own ns
+  pub own : NotesFor work ls asked ns
   pub notes : NotesFor work ls u.asked ms
 
 -- the macro of a keyword has these rules, and none has a variable
@@ -178,8 +178,8 @@ KeptFrom work u number part can n xs = AllMatch (IsKeptMacro work (since_of can.
 
 -- ---- where it begins, and how it goes
 
-pub record IsNewForm (number : ℕ) (f : FormAtWork) : Type 0 where
-  pub number : f.number ≡ number
+pub record IsNewForm (n : ℕ) (f : FormAtWork) : Type 0 where
+  pub number : f.number ≡ n
   pub budget : f.budget ≡ record { uses = 0; nodes = 0; locals = 0 }
   pub definitions : f.trace.definitions ≡ []
   pub keywords : f.trace.keywords ≡ []

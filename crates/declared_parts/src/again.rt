@@ -92,7 +92,8 @@ fn go_on(units: &mut UnitScope, work: &Work, part: &DeclaredPart, going: &mut Go
     requires { (old : AnyUnits) × (n : ℕ) × (can : CanDeclare work.now old n part.now) × GoesOn work.now old n part.now can units.old going.old 0 × (going.old.macros ≡ 0) }
     ensures { (old : AnyUnits) (n : ℕ) (can : CanDeclare work.now old n part.now) → GoesOn work.now old n part.now can units.old going.old 0 → going.old.macros ≡ 0 → HasGone work.now old n part.now can units.new going.new result }
 {
-    for note in part.notes.as_slice() {
+    let notes = part.notes.as_slice();
+    for note in notes {
         if !goes_again(units, work, part, note, going)? {
             return Ok(false);
         }

@@ -1,5 +1,5 @@
 //! A definition of a form that is declared again (R7RS 5.3): it ends as it did, and is made where it stands.
-ghost use Rattle.std.specs.Prelude.{◌≡◌, ℕ, ◌+◌, ◌<◌, ◌++◌, List, [], ◌∷◌, length, reverse, slice_get, true, Option, None, IfOk, OnOk, if◌then◌else◌};
+ghost use Rattle.std.specs.Prelude.{◌≡◌, ℕ, ◌+◌, ◌≤◌, ◌<◌, ◌++◌, List, [], ◌∷◌, length, reverse, slice_get, true, Option, None, IfOk, OnOk, if◌then◌else◌};
 ghost use Rattle.scheme_model.specs.ExpansionFaults.{Named};
 ghost use Rattle.scheme_model.specs.Ident.{Ident as Identifier};
 ghost use Rattle.scheme_model.specs.Order.{Note as ModelNote, is_some};
@@ -12,6 +12,7 @@ ghost use Rattle.form_notes.specs.declared.notes.Note.{Note as AnyNote};
 ghost use Rattle.unit_scopes.specs.Defining.{outcome_here};
 ghost use Rattle.unit_scopes.specs.Kept.{NotesFor};
 ghost use Rattle.unit_scopes.specs.Outcomes.{At};
+ghost use Rattle.syntax_tree.specs.declared.trees.Work.{Work as AnyWork};
 ghost use Rattle.unit_scopes.specs.declared.scope.UnitScope.{UnitScope as AnyUnits};
 ghost use Rattle.declared_parts.specs.Again.{CanDeclare};
 ghost use Rattle.declared_parts.specs.Going.{name_of, note_of, note_at, own_spot, CanEnd, CanSetOwn, GoesOn, HasGoneBy, KeptFrom, IsMacroIn, IsNext, IsNextMacro, OwnSoFar, Tells};
@@ -60,19 +61,35 @@ pub fn defines_again(
 }
 
 /// Goes to so many of the form's own notes.
-fn own_until(units: &UnitScope, work: &Work, part: &DeclaredPart, asked: usize, going: &mut Going) -> Mem<()>
+fn own_until(
+    units: &UnitScope,
+    work: &Work,
+    part: &DeclaredPart,
+    asked: usize,
+    going: &mut Going,
+) -> Mem<()>
     requires { (ls : List Frames) × (own : List (ModelNote FramedIdent)) × CanSetOwn work.now units.now part.now ls own asked going.old }
     ensures rest { OnOk result (going.new ≡ record going.old { own = going.new.own; asked = asked }) }
     ensures own { (ls : List Frames) (own : List (ModelNote FramedIdent)) → CanSetOwn work.now units.now part.now ls own asked going.old → OnOk result (OwnSoFar work.now ls own going.new.own asked) }
 {
-    if asked < going.asked {
-        going.own = Asked::new(units.alloc);
-        going.asked = 0;
-    }
-    let asked_since = &part.asked.as_slice()[going.asked..asked];
-    own_in(&mut going.own, work, units.root, asked_since)?;
+    go_back(units, asked, going);
+    let since = &part.asked.as_slice()[going.asked..asked];
+    own_in(&mut going.own, work, units.root, since)?;
     going.asked = asked;
     Ok(())
+}
+
+/// Goes to the first of the form's own notes, where there are more by now than so many.
+fn go_back(units: &UnitScope, asked: usize, going: &mut Going)
+    ensures few { going.new.asked ≤ asked }
+    ensures rest { going.new ≡ record going.old { own = going.new.own; asked = going.new.asked } }
+    ensures own { (work : AnyWork) (ls : List Frames) (own : List (ModelNote FramedIdent)) → OwnSoFar work ls own going.old.own going.old.asked → OwnSoFar work ls own going.new.own going.new.asked }
+{
+    if going.asked <= asked {
+        return;
+    }
+    going.own = Asked::new(units.alloc);
+    going.asked = 0;
 }
 
 /// Adds notes of what was asked in a unit itself.
@@ -115,6 +132,7 @@ fn make_again(
         IsNext work.now can.again can.editions h.moment definition (slice_get part.now.macros going.old.macros) → OnOk result (GoesOn work.now old n part.now can units.new going.new (made + 1)) }
     ensures macros { OnOk result (going.new.macros ≡ (if definition.keyword then going.old.macros + 1 else going.old.macros)) }
 {
+    work.symbols.told_apart();
     let before = units.env.bound(units.root, definition.ident);
     going.made.push(Made {
         ident: definition.ident,
@@ -123,7 +141,7 @@ fn make_again(
     })?;
     let kept = next_macro(units, part, definition.keyword, going)?;
     let spot = root_of(units);
-    units.make(work, spot, name_of(definition), kept, true)
+    Ok(units.make(work, spot, name_of(definition), kept, true)?)
 }
 
 /// The form's next macro, in the unit's own scope, where a keyword is defined.

@@ -34,7 +34,8 @@ fn take_one(units: &mut UnitScope, made: Made)
 {
     units.env.put_back(units.root, made.ident, made.before);
     units.defined.remove(&made.ident);
-    if made.keyword {
-        units.macros.take(units.unit, made.ident);
+    if !made.keyword {
+        return;
     }
+    units.macros.take(units.unit, made.ident);
 }
