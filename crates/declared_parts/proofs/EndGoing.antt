@@ -5,8 +5,9 @@ use Rattle.std.specs.List.{All}
 use Rattle.std.proofs.lemmas.List.{at_drop_more, drop_all, take_all}
 use Rattle.std.proofs.lemmas.List.Elements.{All-more, All-contains, Contains-get_or}
 use Rattle.scheme_model.specs.Ident.{Ident}
-use Rattle.scheme_model.specs.Questions.{Moment, Around, Outcome, Stands, Redefines, StoodBefore, Question, LooksUp, UsesRules, Compares, IsAssigned, Requires, Defines, answer, unit_outcome}
+use Rattle.scheme_model.specs.Questions.{Moment, Around, found, Outcome, Stands, Redefines, StoodBefore, Question, LooksUp, UsesRules, Compares, IsAssigned, Requires, Defines, answer, unit_outcome}
 use Rattle.scheme_model.specs.Substitution.{Table}
+use Rattle.scheme_model.specs.ScopedExpansion.{ScopedMacro}
 use Rattle.form_laws.specs.Begins.{Each}
 use Rattle.forgotten_locals.specs.Outside.{macros_outside}
 use Rattle.syntax_tree.specs.Names.{Names}
@@ -24,14 +25,14 @@ use Rattle.note_laws.specs.Told.{bare_question, bare_noted, told, since_of}
 use Rattle.note_laws.specs.Tested.{is_definition}
 use Rattle.note_laws.proofs.BareNotes.{notes_bare}
 use Rattle.note_laws.proofs.TestedNotes.{definition_bare}
-use Rattle.declared_parts.specs.Again.{Again, moment_of, noted_of, AreSameLater, SameLater, CanDeclare}
+use Rattle.declared_parts.specs.Again.{Again, moment_of, own_notes, noted_of, AreSameLater, SameLater, CanDeclare}
 use Rattle.declared_parts.specs.Going.{Tells, TellsSame, TellsOther, definition_in, GoesOn, KeptFrom, HasGoneBy, HasGone}
 use Rattle.declared_parts.specs.declared.again.Going.{Going}
 use Rattle.declared_parts.specs.declared.parts.DeclaredPart.{DeclaredPart}
 use Rattle.declared_parts.proofs.EachLaws.{each_contained, contained_each, contained_map, map_contained}
-use Rattle.declared_parts.proofs.FormFacts.{last}
+use Rattle.declared_parts.proofs.FormFacts.{definitions, last, as_many}
 use Rattle.declared_parts.proofs.LaterNotes.{none_is_told}
-use Rattle.declared_parts.proofs.NextMoments.{HasLast, IsLast}
+use Rattle.declared_parts.proofs.NextMoments.{IfDefinition, HasLast, IsLast}
 use Rattle.declared_parts.proofs.SameEnds.{IsOf, told_definition, same_code}
 
 -- ---- definitions that are made along the notes
@@ -81,8 +82,22 @@ outcome_in w n (IsAssigned i) = Stands
 outcome_in w n (Requires l) = Stands
 outcome_in w n (Defines fs x r ns) = unit_outcome w n fs x r ns
 
-true_false : true ≡ false → ⊥
+pub true_false : true ≡ false → ⊥
 true_false h = cc
+
+end_whole : {X : Type 0} (xs ys : List X) → IsEnd xs ys → length xs ≡ length ys → ys ≡ xs
+end_whole {X} xs ys h e = by h.0 h.1
+  where
+    by : (zs : List X) → ys ≡ zs ++ xs → ys ≡ xs
+    by [] is = is
+    by (z ∷ zs) is = let long = length-append zs xs in let all : length ys ≡ suc (length (zs ++ xs)) = ap (λ (l : List X). length l) is in absurd (omega (arith, long, all, e))
+
+end_none : {X : Type 0} (xs ys : List X) → IsEnd xs ys → ys ≡ [] → ys ≡ xs
+end_none {X} xs ys h none = by h.0 h.1
+  where
+    by : (zs : List X) → ys ≡ zs ++ xs → ys ≡ xs
+    by [] is = is
+    by (z ∷ zs) is = let never : z ∷ (zs ++ xs) ≡ [] = sym is ∙ none in absurd cc
 
 -- ---- notes and questions
 
@@ -114,26 +129,26 @@ module _ (work : Work) (old : UnitScope) (number : ℕ) (part : DeclaredPart) (c
 
   -- ---- all are made
 
-  last_long : (ts : Table) (n : Moment) (q : Question) → IsLast w ts (n, q) → suc (length n.table) ≡ length ts
-  last_long ts n (LooksUp i) h = absurd h
-  last_long ts n (UsesRules k) h = absurd h
-  last_long ts n (Compares l i) h = absurd h
-  last_long ts n (IsAssigned i) h = absurd h
-  last_long ts n (Requires l) h = absurd h
-  last_long ts n (Defines fs x rs ns) h = h.1
+  last_long : (ts : Table) (ks : List ScopedMacro) (n : Moment) (q : Question) → IsLast w ts ks (n, q) → suc (length n.table) ≡ length ts
+  last_long ts ks n (LooksUp i) h = absurd h
+  last_long ts ks n (UsesRules k) h = absurd h
+  last_long ts ks n (Compares l i) h = absurd h
+  last_long ts ks n (IsAssigned i) h = absurd h
+  last_long ts ks n (Requires l) h = absurd h
+  last_long ts ks n (Defines fs x rs ns) h = h.1
 
-  stood_so : (names : Names) (x : code_question.Question) (behind : ℕ) (n : Moment) (q : Question) (ts : Table) → IsLast w ts (n, q) → IsQuestion names r x (bare_question q) (answer w n q) → StoodBy x behind
-  stood_so names x behind n (LooksUp i) ts h e = absurd h
-  stood_so names x behind n (UsesRules k) ts h e = absurd h
-  stood_so names x behind n (Compares l i) ts h e = absurd h
-  stood_so names x behind n (IsAssigned i) ts h e = absurd h
-  stood_so names x behind n (Requires l) ts h e = absurd h
-  stood_so names (code.Lookup i m k) behind n (Defines fs y rs ns) ts h e = absurd (true_false (none_is_told names r (code.Lookup i m k) w (n, Defines fs y rs ns) refl e))
-  stood_so names (code.Literal l i b) behind n (Defines fs y rs ns) ts h e = absurd (true_false (none_is_told names r (code.Literal l i b) w (n, Defines fs y rs ns) refl e))
-  stood_so names (code.Rules m t) behind n (Defines fs y rs ns) ts h e = absurd (true_false (none_is_told names r (code.Rules m t) w (n, Defines fs y rs ns) refl e))
-  stood_so names (code.Assigned i b) behind n (Defines fs y rs ns) ts h e = absurd (true_false (none_is_told names r (code.Assigned i b) w (n, Defines fs y rs ns) refl e))
-  stood_so names (code.Library l b) behind n (Defines fs y rs ns) ts h e = absurd (true_false (none_is_told names r (code.Library l b) w (n, Defines fs y rs ns) refl e))
-  stood_so names (code.Definition d o) behind n (Defines fs y rs ns) ts h e =
+  stood_so : (names : Names) (x : code_question.Question) (behind : ℕ) (n : Moment) (q : Question) (ts : Table) (ks : List ScopedMacro) → IsLast w ts ks (n, q) → IsQuestion names r x (bare_question q) (answer w n q) → StoodBy x behind
+  stood_so names x behind n (LooksUp i) ts ks h e = absurd h
+  stood_so names x behind n (UsesRules k) ts ks h e = absurd h
+  stood_so names x behind n (Compares l i) ts ks h e = absurd h
+  stood_so names x behind n (IsAssigned i) ts ks h e = absurd h
+  stood_so names x behind n (Requires l) ts ks h e = absurd h
+  stood_so names (code.Lookup i m k) behind n (Defines fs y rs ns) ts ks h e = absurd (true_false (none_is_told names r (code.Lookup i m k) w (n, Defines fs y rs ns) refl e))
+  stood_so names (code.Literal l i b) behind n (Defines fs y rs ns) ts ks h e = absurd (true_false (none_is_told names r (code.Literal l i b) w (n, Defines fs y rs ns) refl e))
+  stood_so names (code.Rules m t) behind n (Defines fs y rs ns) ts ks h e = absurd (true_false (none_is_told names r (code.Rules m t) w (n, Defines fs y rs ns) refl e))
+  stood_so names (code.Assigned i b) behind n (Defines fs y rs ns) ts ks h e = absurd (true_false (none_is_told names r (code.Assigned i b) w (n, Defines fs y rs ns) refl e))
+  stood_so names (code.Library l b) behind n (Defines fs y rs ns) ts ks h e = absurd (true_false (none_is_told names r (code.Library l b) w (n, Defines fs y rs ns) refl e))
+  stood_so names (code.Definition d o) behind n (Defines fs y rs ns) ts ks h e =
       let f = told_definition names r d o w n (Defines fs y rs ns) e in
       let stands : o ≡ outcomes.Stands = same_code o outcomes.Stands (sym f.ends ∙ (sym (ap (outcome_in w n) f.question) ∙ h.0)) in
       subst (λ (p : code_outcome.Outcome). StoodBy (code.Definition d p) behind) (sym stands) tt
@@ -145,14 +160,36 @@ module _ (work : Work) (old : UnitScope) (number : ℕ) (part : DeclaredPart) (c
       let count = h.count in
       by few count (last can.again can.comes)
     where
-      by : length h.moment.table ≤ length (moment_of can.again).table → length h.moment.table ≡ made → HasLast w (noted_of can.again) (moment_of can.again).table → made ≡ length (moment_of can.again).table
-      by few count (inl none) = omega (arith, few, count, none)
+      by : length h.moment.table ≤ length (moment_of can.again).table → length h.moment.table ≡ made → HasLast w (noted_of can.again) (moment_of can.again).table (macros_outside (moment_of can.again).macros) → made ≡ length (moment_of can.again).table
+      by few count (inl none) = let empty = none.0 in omega (arith, few, count, empty)
       by few count (inr q) =
           let x = some_note q.0 q.1 in
-          let past = rises_past part.notes 0 can.kept.part.made can.kept.part.order x.0 x.1 (stood_so work.symbols x.0.question x.0.behind q.0.0 q.0.1 (moment_of can.again).table q.2 x.2.1.1) in
+          let past = rises_past part.notes 0 can.kept.part.made can.kept.part.order x.0 x.1 (stood_so work.symbols x.0.question x.0.behind q.0.0 q.0.1 (moment_of can.again).table (macros_outside (moment_of can.again).macros) q.2 x.2.1.1) in
           let behind : x.0.behind ≡ length q.0.0.table = x.2.1.0 in
-          let long = last_long (moment_of can.again).table q.0.0 q.0.1 q.2 in
+          let long = last_long (moment_of can.again).table (macros_outside (moment_of can.again).macros) q.0.0 q.0.1 q.2 in
           omega (arith, few, count, past, behind, long, end)
+
+  -- then it is at the form's last moment, but for what is local
+  is_whole : (m : Moment) → IsBefore m (moment_of can.again) → length m.table ≡ length (moment_of can.again).table → HasLast w (noted_of can.again) (moment_of can.again).table (macros_outside (moment_of can.again).macros) →
+      ((moment_of can.again).table ≡ m.table) × (macros_outside (moment_of can.again).macros ≡ macros_outside m.macros)
+  is_whole m before count (inl none) =
+      (end_whole m.table (moment_of can.again).table before.table count, end_none (macros_outside m.macros) (macros_outside (moment_of can.again).macros) before.macros none.1)
+  is_whole m before count (inr q) = by q.0.1 q.2 (each_contained (IfDefinition w (moment_of can.again) (own_notes can.again)) (noted_of can.again) (definitions can.again can.comes) q.0 q.1)
+    where
+      by : (p : Question) → IsLast w (moment_of can.again).table (macros_outside (moment_of can.again).macros) (q.0.0, p) → IfDefinition w (moment_of can.again) (own_notes can.again) (q.0.0, p) →
+          ((moment_of can.again).table ≡ m.table) × (macros_outside (moment_of can.again).macros ≡ macros_outside m.macros)
+      by (LooksUp i) l d = absurd l
+      by (UsesRules k) l d = absurd l
+      by (Compares a i) l d = absurd l
+      by (IsAssigned i) l d = absurd l
+      by (Requires a) l d = absurd l
+      by (Defines fs x rs ns) l d =
+          let n = found w None x rs fs q.0.0 in
+          let same = as_many (moment_of can.again) n m (d.next l.0) before (l.1 ∙ sym count) in
+          (end_whole m.table (moment_of can.again).table before.table count, sym l.2 ∙ same.1)
+
+  pub whole : (u : UnitScope) (g : Going) (h : GoesOn work old number part can u g (length (moment_of can.again).table)) → ((moment_of can.again).table ≡ h.moment.table) × (macros_outside (moment_of can.again).macros ≡ macros_outside h.moment.macros)
+  whole u g h = is_whole h.moment h.before h.count (last can.again can.comes)
 
 -- ---- note by note
 

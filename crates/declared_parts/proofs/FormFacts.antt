@@ -10,7 +10,7 @@ use Rattle.question_laws.proofs.NotedFirst.{all_or, IsFirstOr}
 use Rattle.forgotten_locals.specs.Outside.{macros_outside}
 use Rattle.note_laws.specs.Moments.{IsEnd, IsBefore}
 use Rattle.note_laws.proofs.MomentsGrow.{pass_grows, noted_before, moments_told}
-use Rattle.declared_again.specs.Endings.{AtRoot, Made, MadeAtEach, MadeInOrder, endings}
+use Rattle.declared_again.specs.Endings.{AtRoot, Made, MadeAtEach, MadeInOrder, endings, macros_made}
 use Rattle.declared_again.proofs.EndingSides.{made_by_then}
 use Rattle.declared_again.proofs.OwnNotes.{made_in_order}
 use Rattle.declared_again.proofs.RootMoments.{stays_at_root}
@@ -46,8 +46,10 @@ module _ (x : Again) (c : ComesAgain x) where
       (stays_at_root w c.frames x.turns x.tree).1 grows
 
   -- the last definition is among them
-  pub last : HasLast w (noted_of x) (moment_of x).table
-  last = subst (HasLast w (noted_of x)) (sym made.0.0) (last_made w asked made.1)
+  pub last : HasLast w (noted_of x) (moment_of x).table (macros_outside (moment_of x).macros)
+  last =
+      subst (HasLast w (noted_of x) (moment_of x).table) (sym made.0.1)
+      (subst (λ (t : Table). HasLast w (noted_of x) t (macros_made w (endings asked))) (sym made.0.0) (last_made w asked made.1))
 
 -- as many definitions are the same
 pub as_many : (m n k : Moment) → IsBefore n m → IsBefore k m → length n.table ≡ length k.table → (n.table ≡ k.table) × (macros_outside n.macros ≡ macros_outside k.macros)

@@ -93,7 +93,7 @@ module _ (work : Work) (old : UnitScope) (number : ℕ) (part : DeclaredPart) (c
   -- ---- what a note of a definition tells
 
   module _ (u : UnitScope) (g : Going) (made : ℕ) (h : GoesOn work old number part can u g made) (d : Definition) where
-    pub of : (o : code_outcome.Outcome) (q : Moment × Question) → Tells work old number part can (note_of d o made) q → IsOf work.symbols d w q (outcome_as o)
+    abbrev pub of : (o : code_outcome.Outcome) (q : Moment × Question) → Tells work old number part can (note_of d o made) q → IsOf work.symbols d w q (outcome_as o)
     of o q t = told_definition work.symbols r d o w q.0 q.1 t.1.1
 
     -- as many were made by then

@@ -1,6 +1,6 @@
 -- A note that is no definition's, where a form is declared again: it is asked where the form is, and nothing is made.
 use Rattle.std.proofs.Common.{◌≡◌, ◌↔◌, ◌⊎◌, inl, inr, IsTrue, ℕ, zero, suc, ◌+◌, List, [], ◌∷◌, length, Bool, true, false, Option, Some, None, Ok, Contains, refl, sym, ap, ◌∙◌, subst, arith}
-use Rattle.scheme_model.specs.Questions.{Moment, Around, Question}
+use Rattle.scheme_model.specs.Questions.{Moment, Around, Question, answer}
 use Rattle.scheme_model.specs.FormsAlike.{again}
 use Rattle.forgotten_locals.specs.Outside.{macros_outside, outside}
 use Rattle.question_laws.proofs.NotedFirst.{IsFirstOr}

@@ -16,3 +16,4 @@ pub mod GoOn  -- A form's next definition is made: all that was known where it g
 pub mod Stepping  -- A note of a definition, where a form is declared again
 pub mod EndGoing  -- All notes of a form tell what they told, and all its definitions are made again; or one doesn't
 pub mod LaterGoing  -- A note that is no definition's, where a form is declared again
+pub mod DoneLaws  -- What a form that is declared again leaves in its unit, or one that isn't

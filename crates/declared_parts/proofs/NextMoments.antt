@@ -127,35 +127,36 @@ module _ (w : Around) (m : Moment) (own : List (Note FramedIdent)) where
 
 -- ---- the last of them
 
-abbrev pub IsLast : Around → Table → Moment × Question → Type 0
-IsLast w ts (n, LooksUp i) = ⊥
-IsLast w ts (n, UsesRules k) = ⊥
-IsLast w ts (n, Compares l i) = ⊥
-IsLast w ts (n, IsAssigned i) = ⊥
-IsLast w ts (n, Requires l) = ⊥
-IsLast w ts (n, Defines fs x r ns) = (unit_outcome w n fs x r ns ≡ Stands) × (suc (length n.table) ≡ length ts)
+abbrev pub IsLast : Around → Table → List ScopedMacro → Moment × Question → Type 0
+IsLast w ts ks (n, LooksUp i) = ⊥
+IsLast w ts ks (n, UsesRules k) = ⊥
+IsLast w ts ks (n, Compares l i) = ⊥
+IsLast w ts ks (n, IsAssigned i) = ⊥
+IsLast w ts ks (n, Requires l) = ⊥
+IsLast w ts ks (n, Defines fs x r ns) = (unit_outcome w n fs x r ns ≡ Stands) × (suc (length n.table) ≡ length ts) × (macros_outside (found w None x r fs n).macros ≡ ks)
 
 module _ (w : Around) where
-  abbrev pub HasLast : List (Moment × Question) → Table → Type 0
-  HasLast qs ts = (length ts ≡ 0) ⊎ ((q : Moment × Question) × Contains qs q × IsLast w ts q)
+  abbrev pub HasLast : List (Moment × Question) → Table → List ScopedMacro → Type 0
+  HasLast qs ts ks = ((length ts ≡ 0) × (ks ≡ [])) ⊎ ((q : Moment × Question) × Contains qs q × IsLast w ts ks q)
 
-  among : (qs rs : List (Moment × Question)) (ts : Table) → HasLast rs ts → HasLast (qs ++ rs) ts
-  among qs rs ts (inl none) = inl none
-  among qs rs ts (inr h) = inr (h.0, Contains-append_right qs rs h.0 h.1, h.2)
+  among : (qs rs : List (Moment × Question)) (ts : Table) (ks : List ScopedMacro) → HasLast rs ts ks → HasLast (qs ++ rs) ts ks
+  among qs rs ts ks (inl none) = inl none
+  among qs rs ts ks (inr h) = inr (h.0, Contains-append_right qs rs h.0 h.1, h.2)
 
-  ends_by : (n : Moment) (e : Ending) (qs : List (Moment × Question)) (ts : Table) → n.table ≡ ts → HasLast qs ts → (o : Outcome) → unit_outcome w n e.frames e.name e.rules e.notes ≡ o →
-      HasLast ((n, Defines e.frames e.name e.rules e.notes) ∷ qs) (table_if o w e ts)
-  ends_by n e qs ts told rest Stands o = inr ((n, Defines e.frames e.name e.rules e.notes), (zero, omega arith, refl), (o, ap (λ (l : Table). suc (length l)) told))
-  ends_by n e qs ts told rest Redefines o = among ((n, Defines e.frames e.name e.rules e.notes) ∷ []) qs ts rest
-  ends_by n e qs ts told rest StoodBefore o = among ((n, Defines e.frames e.name e.rules e.notes) ∷ []) qs ts rest
+  ends_by : (n : Moment) (e : Ending) (qs : List (Moment × Question)) (ts : Table) (ks : List ScopedMacro) → n.table ≡ ts → macros_outside n.macros ≡ ks → HasLast qs ts ks → (o : Outcome) → unit_outcome w n e.frames e.name e.rules e.notes ≡ o →
+      HasLast ((n, Defines e.frames e.name e.rules e.notes) ∷ qs) (table_if o w e ts) (macros_if o w e ks)
+  ends_by n e qs ts ks told kept rest Stands o =
+      inr ((n, Defines e.frames e.name e.rules e.notes), (zero, omega arith, refl), (o, ap (λ (l : Table). suc (length l)) told, found_macros w e.name e.rules e.frames n ks kept))
+  ends_by n e qs ts ks told kept rest Redefines o = among ((n, Defines e.frames e.name e.rules e.notes) ∷ []) qs ts ks rest
+  ends_by n e qs ts ks told kept rest StoodBefore o = among ((n, Defines e.frames e.name e.rules e.notes) ∷ []) qs ts ks rest
 
   -- nothing is made, or the last that stands is noted
-  pub last_made : (qs : List (Moment × Question)) → MadeAtEach w qs → HasLast (all_noted w qs) (table_made w (endings qs))
-  last_made [] made = inl refl
-  last_made ((n, LooksUp i) ∷ qs) made = among (noted w (n, LooksUp i)) (all_noted w qs) (table_made w (endings qs)) (last_made qs made.1)
-  last_made ((n, UsesRules k) ∷ qs) made = among (noted w (n, UsesRules k)) (all_noted w qs) (table_made w (endings qs)) (last_made qs made.1)
-  last_made ((n, Compares l i) ∷ qs) made = among (noted w (n, Compares l i)) (all_noted w qs) (table_made w (endings qs)) (last_made qs made.1)
-  last_made ((n, IsAssigned i) ∷ qs) made = among (noted w (n, IsAssigned i)) (all_noted w qs) (table_made w (endings qs)) (last_made qs made.1)
-  last_made ((n, Requires l) ∷ qs) made = among (noted w (n, Requires l)) (all_noted w qs) (table_made w (endings qs)) (last_made qs made.1)
+  pub last_made : (qs : List (Moment × Question)) → MadeAtEach w qs → HasLast (all_noted w qs) (table_made w (endings qs)) (macros_made w (endings qs))
+  last_made [] made = inl (refl, refl)
+  last_made ((n, LooksUp i) ∷ qs) made = among (noted w (n, LooksUp i)) (all_noted w qs) (table_made w (endings qs)) (macros_made w (endings qs)) (last_made qs made.1)
+  last_made ((n, UsesRules k) ∷ qs) made = among (noted w (n, UsesRules k)) (all_noted w qs) (table_made w (endings qs)) (macros_made w (endings qs)) (last_made qs made.1)
+  last_made ((n, Compares l i) ∷ qs) made = among (noted w (n, Compares l i)) (all_noted w qs) (table_made w (endings qs)) (macros_made w (endings qs)) (last_made qs made.1)
+  last_made ((n, IsAssigned i) ∷ qs) made = among (noted w (n, IsAssigned i)) (all_noted w qs) (table_made w (endings qs)) (macros_made w (endings qs)) (last_made qs made.1)
+  last_made ((n, Requires l) ∷ qs) made = among (noted w (n, Requires l)) (all_noted w qs) (table_made w (endings qs)) (macros_made w (endings qs)) (last_made qs made.1)
   last_made ((n, Defines fs x r ns) ∷ qs) made =
-      ends_by n (record { moment = n; frames = fs; name = x; rules = r; notes = ns }) (all_noted w qs) (table_made w (endings qs)) made.0.0 (last_made qs made.1) (unit_outcome w n fs x r ns) refl
+      ends_by n (record { moment = n; frames = fs; name = x; rules = r; notes = ns }) (all_noted w qs) (table_made w (endings qs)) (macros_made w (endings qs)) made.0.0 made.0.1 (last_made qs made.1) (unit_outcome w n fs x r ns) refl

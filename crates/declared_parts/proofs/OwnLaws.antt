@@ -144,9 +144,11 @@ take_none (suc m) = refl
 pub taken_on : (xs : List (Note FramedIdent)) (a n : ℕ) → a ≤ n → take n xs ≡ take a xs ++ take (n - a) (drop a xs)
 taken_on xs zero n le = ap (λ m. take m xs) (omega arith)
 taken_on [] (suc a) zero le = absurd (omega (arith, le))
-taken_on [] (suc a) (suc n) le = sym (take_none (n - a))
+taken_on [] (suc a) (suc n) le = sym (take_none (suc n - suc a))
 taken_on (x ∷ xs) (suc a) zero le = absurd (omega (arith, le))
-taken_on (x ∷ xs) (suc a) (suc n) le = ap (λ l. x ∷ l) (taken_on xs a n (omega (arith, le)))
+taken_on (x ∷ xs) (suc a) (suc n) le =
+    let same : n - a ≡ suc n - suc a = omega arith in
+    ap (λ l. x ∷ l) (taken_on xs a n (omega (arith, le)) ∙ ap (λ m. take a xs ++ take m (drop a xs)) same)
 
 pub first_on : (own : List (Note FramedIdent)) (a n : ℕ) → a ≤ n → reverse (take (n - a) (drop a (reverse own))) ++ notes_first a own ≡ notes_first n own
 first_on own a n le =

@@ -18,11 +18,12 @@ use Rattle.core_tree.specs.declared.cores.Target as code_target
 use Rattle.core_tree.specs.declared.traces.MacroUse as code_use
 use Rattle.unit_scopes.specs.Editions.{EditionsTell}
 use Rattle.unit_scopes.specs.Forgotten.{AllOwn}
-use Rattle.unit_scopes.specs.Kept.{NotesFor}
+use Rattle.unit_scopes.specs.Kept.{NoteFor, NotesFor}
 use Rattle.unit_scopes.specs.State.{FormStands, IsNumbered, Rests, Stands, numbered_in}
 use Rattle.unit_scopes.specs.Stepped.{IsFresh}
 use Rattle.unit_scopes.specs.Units.{UnitStands}
 use Rattle.unit_scopes.specs.declared.asked.Asked.{Asked}
+use Rattle.unit_scopes.specs.declared.asked.Note as asked
 use Rattle.unit_scopes.specs.declared.scope.Budget.{Budget}
 use Rattle.unit_scopes.specs.declared.scope.FormAtWork.{FormAtWork}
 use Rattle.unit_scopes.specs.declared.scope.UnitScope.{UnitScope}
@@ -39,6 +40,9 @@ use Rattle.declared_parts.proofs.Settled.{with_counts, settled_is, settled_told,
 
 abbrev nothing : Moment
 nothing = record { locals = 0; uses = 0; nodes = 0; bodies = 0; keywords = []; met = []; table = []; macros = []; places = []; definitions = [] }
+
+abbrev no_notes : List (Note FramedIdent)
+no_notes = []
 
 few_at_first : (b : Budget) → b ≡ record { uses = 0; nodes = 0; locals = 0 } → b.locals ≤ 2 ^ 44 * (b.nodes + 1)
 few_at_first b e = subst (λ (l : ℕ). l ≤ 2 ^ 44 * (b.nodes + 1)) (sym (ap (λ (x : Budget). x.locals) e)) (omega arith)
@@ -113,7 +117,7 @@ module _ (work : Work) (old : UnitScope) (number : ℕ) (part : DeclaredPart) (c
         own = record {
           few = subst (λ (n : ℕ). n ≤ length (own_notes can.again)) (sym none.asked) (omega arith);
           notes = record {
-            notes = subst (λ (n : ℕ). AllMatch _ g.own.notes.items (reverse (notes_first n (own_notes can.again)))) (sym none.asked) (subst (λ xs. AllMatch _ xs []) (sym none.own) tt);
+            notes = subst (λ (n : ℕ). AllMatch (NoteFor work can.layout) g.own.notes.items (reverse (notes_first n (own_notes can.again)))) (sym none.asked) (subst (λ (xs : List asked.Note). AllMatch (NoteFor work can.layout) xs no_notes) (sym none.own) tt);
             asks = none.stands work.symbols;
           };
         };

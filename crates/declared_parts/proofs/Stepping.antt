@@ -1,7 +1,8 @@
 -- A note of a definition, where a form is declared again: what it demands, and what is known behind it.
-use Rattle.std.proofs.Common.{◌≡◌, ℕ, zero, suc, ◌+◌, ◌≤◌, List, [], ◌∷◌, ◌++◌, map, length, slice_get, Bool, true, false, cond, Option, Some, None, Contains, length-map, refl, sym, ap, ◌∙◌, subst, arith}
+use Rattle.std.proofs.Common.{◌≡◌, ℕ, zero, suc, ◌+◌, ◌≤◌, List, [], ◌∷◌, ◌++◌, map, length, slice_get, Bool, true, false, cond, Option, Some, None, Ok, Contains, refl, sym, ap, ◌∙◌, subst, arith}
 use Rattle.std.specs.Prelude.{if◌then◌else◌, Vec, reverse}
 use Rattle.std.specs.declared.alloc.Global.{Global}
+use Rattle.std.proofs.lemmas.List.{length-map}
 use Rattle.scheme_model.specs.Ident.{Ident}
 use Rattle.scheme_model.specs.RulesShape.{Rules}
 use Rattle.scheme_model.specs.Order.{Note, is_some}
@@ -23,7 +24,7 @@ use Rattle.unit_scopes.specs.declared.asked.Asked.{Asked}
 use Rattle.unit_scopes.specs.declared.scope.UnitScope.{UnitScope}
 use Rattle.note_laws.specs.Told.{bare_question, bare_noted, told, since_of}
 use Rattle.declared_parts.specs.Again.{Again, own_notes, noted_of, SameLater, CanDeclare}
-use Rattle.declared_parts.specs.Going.{Tells, TellsSame, TellsOther, note_of, notes_first, settled, OwnSoFar, CanSetOwn, CanEnd, GoesOn, HasMacro, IsNext, KeptFrom}
+use Rattle.declared_parts.specs.Going.{Tells, TellsSame, TellsOther, note_of, notes_first, settled, OwnSoFar, CanSetOwn, CanEnd, GoesOn, HasGoneBy, HasMacro, IsNext, KeptFrom}
 use Rattle.declared_parts.specs.Parts.{IsKeptMacro, keyword_if, keyword_made, rules_defined}
 use Rattle.declared_parts.specs.Undone.{AreDefined}
 use Rattle.declared_parts.specs.declared.again.Going.{Going}
@@ -92,7 +93,7 @@ module _ (work : Work) (old : UnitScope) (number : ℕ) (part : DeclaredPart) (c
     can_end a own q t = let f = Of q t in record { stands = h.stands; is = (f.is.name, f.is.place); own = own_by_then a own q t; notes = notes_before }
 
     -- it goes on with other notes of its own
-    pub with_own : (g2 : Going) → g2.made ≡ g.made → OwnSoFar work can.layout (own_notes can.again) g2.own g2.asked → GoesOn work old number part can u g2 made
+    abbrev pub with_own : (g2 : Going) → g2.made ≡ g.made → OwnSoFar work can.layout (own_notes can.again) g2.own g2.asked → GoesOn work old number part can u g2 made
     with_own g2 same own = record {
       moment = h.moment;
       before = h.before;
@@ -169,3 +170,45 @@ module _ (work : Work) (old : UnitScope) (number : ℕ) (part : DeclaredPart) (c
         by : (b : Bool) → d.keyword ≡ b → KeptFrom work old number part can m left
         by true is = subst (λ (k : ℕ). KeptFrom work old number part can k left) (sym (e ∙ ap (λ (b : Bool). if b then n + 1 else n) is)) (kept_next work old number part can stands_so left n d.ident (keyword_is true is) kept).3
         by false is = subst (λ (k : ℕ). KeptFrom work old number part can k left) (sym (e ∙ ap (λ (b : Bool). if b then n + 1 else n) is)) (kept_past work old number part can stands_so left n (keyword_is false is) kept)
+
+  -- ---- behind it
+
+  module _ (u : UnitScope) (g : Going) (made : ℕ) (h : GoesOn work old number part can u g made) (d : Definition) (left : List code_note.Note) (ends : code_outcome.Outcome)
+      (ended : (p : code_outcome.Outcome) (q : Moment × Question) (t : Tells work old number part can (note_of d p made) q) →
+      let f = of work old number part can u g made h d p q t in outcome_as ends ≡ outcome_here None f.name f.rules [] (f.notes ++ can.again.now.notes) (settled can.again.now h.moment)) where
+    -- it is the next one
+    pub next_is : (o : code_outcome.Outcome) → o ≡ outcomes.Stands → ends ≡ o → (q : Moment × Question) → Tells work old number part can (note_of d o made) q → KeptFrom work old number part can g.macros (note_of d o made ∷ left) →
+        IsNext work can.again can.editions h.moment d (slice_get part.macros g.macros)
+    next_is o is e q t kept =
+        let then_ = subst (λ (p : code_outcome.Outcome). Tells work old number part can (note_of d p made) q) is t in
+        let left_so = subst (λ (p : code_outcome.Outcome). KeptFrom work old number part can g.macros (note_of d p made ∷ left)) is kept in
+        let n = next_of u g made h d left q then_ g.macros left_so in
+        is_next work old number part can u g made h d n.question n.tells (sym (ended outcomes.Stands n.question n.tells) ∙ ap outcome_as (e ∙ is)) n.macro
+
+    pub stands_gone : (o : code_outcome.Outcome) → o ≡ outcomes.Stands → ends ≡ o → (v : UnitScope) (g2 : Going) → GoesOn work old number part can v g2 (made + 1) → g2.macros ≡ (if d.keyword then g.macros + 1 else g.macros) →
+        KeptFrom work old number part can g.macros (note_of d o made ∷ left) → HasGoneBy work old number part can (note_of d o made) left made v g2 (Ok true)
+    stands_gone o is e v g2 goes macros kept =
+        let left_so = subst (λ (p : code_outcome.Outcome). KeptFrom work old number part can g.macros (note_of d p made ∷ left)) is kept in
+        (
+          tells_same u g made h d o ends (ended o) e,
+          subst (λ (p : code_outcome.Outcome). GoesOn work old number part can v g2 (made + made_by p)) (sym is) goes,
+          left_then u g made h d left g.macros g2.macros macros left_so,
+        )
+
+    no_keyword : (o : code_outcome.Outcome) → made_by o ≡ 0 → keyword_if d o ≡ None
+    no_keyword outcomes.Stands none = absurd cc
+    no_keyword outcomes.Redefines none = refl
+    no_keyword outcomes.StoodBefore none = refl
+
+    pub fails_gone : (o : code_outcome.Outcome) → made_by o ≡ 0 → ends ≡ o → (g2 : Going) → GoesOn work old number part can u g2 made → g2.macros ≡ g.macros →
+        KeptFrom work old number part can g.macros (note_of d o made ∷ left) → HasGoneBy work old number part can (note_of d o made) left made u g2 (Ok true)
+    fails_gone o none e g2 goes macros kept =
+        let count : made ≡ made + made_by o = omega (arith, none) in
+        (
+          tells_same u g made h d o ends (ended o) e,
+          subst (GoesOn work old number part can u g2) count goes,
+          subst (λ (n : ℕ). KeptFrom work old number part can n left) (sym macros) (kept_past work old number part can (note_of d o made) left g.macros (no_keyword o none) kept),
+        )
+
+    pub other_gone : (o : code_outcome.Outcome) → (ends ≡ o → ⊥) → (g2 : Going) → GoesOn work old number part can u g2 made → HasGoneBy work old number part can (note_of d o made) left made u g2 (Ok false)
+    other_gone o apart g2 goes = (tells_other u g made h d o ends (ended o) apart, goes)

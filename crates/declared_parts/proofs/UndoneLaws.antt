@@ -5,7 +5,7 @@ use Rattle.std.specs.Prelude.{if◌then◌else◌}
 use Rattle.std.specs.BTreeMap.{get, btree_map_len}
 use Rattle.std.specs.Ordering.{nat_cmp, is_eq}
 use Rattle.std.specs.FinMap.{nat_cmp-IsAntisymmetric}
-use Rattle.std.specs.Cmp.{Equal-is}
+use Rattle.std.specs.Cmp.{Equal-is, nat_cmp_total, tied_itself}
 use Rattle.std.specs.Prelude.{is_some as is_some_here}
 use Rattle.syntax_tree.proofs.Places.{get_within}
 use Rattle.scope_env.specs.Environment.{bound_in}
@@ -146,3 +146,29 @@ module _ (u v : UnitScope) (x : Made) (h : Defines u v x) where
       let s = get_within u.env.scopes u.root h.there in
       let bound = added_here u.env b u.root x.ident s.0 s.1 refl refl in
       ap is_some_here ((λ j. bound_at (h.env j) (h.rest.root j) x.ident) ∙ bound)
+
+-- ---- so it is back
+
+there_is_one : (b : Bool) (k : Bool) (o : Option Bool) → b ≡ true → is_some_here (if b then Some k else o) ≡ true
+there_is_one b k o e = ap (λ (c : Bool). is_some_here (if c then Some k else o)) e
+
+one_less : (o : Option Bool) (m n : ℕ) → is_some_here o ≡ true → m + (if is_some_here o then 1 else 0) ≡ n + 1 → m ≡ n
+one_less o m n some e = let f : m + 1 ≡ n + 1 = sym (ap (λ (b : Bool). m + (if b then 1 else 0)) some) ∙ e in omega (arith, f)
+
+module _ (u v w : UnitScope) (x : Made) (h : Defines u v x) where
+  -- the number of definitions
+  count_taken : (o : Option Bool) → o ≡ get nat_cmp v.defined x.ident → btree_map_len w.defined + (if is_some_here o then 1 else 0) ≡ btree_map_len v.defined → btree_map_len w.defined ≡ btree_map_len u.defined
+  count_taken o e len =
+      let here = ap is_eq (tied_itself nat_cmp_total x.ident) in
+      let some : is_some_here o ≡ true = ap is_some_here (e ∙ h.defined x.ident) ∙ there_is_one (is_eq (nat_cmp x.ident x.ident)) x.keyword (get nat_cmp u.defined x.ident) here in
+      one_less o (btree_map_len w.defined) (btree_map_len u.defined) some (len ∙ h.count)
+
+  pub all_back : SameRest v w → w.env ≡ with_before v.env v.root x.ident x.before → ((n : ℕ) → get nat_cmp w.defined n ≡ (if is_eq (nat_cmp x.ident n) then None else get nat_cmp v.defined n)) →
+      (o : Option Bool) → o ≡ get nat_cmp v.defined x.ident → btree_map_len w.defined + (if is_some_here o then 1 else 0) ≡ btree_map_len v.defined → ((form : ℕ) (m : Meaning) → macro_in w.macros form m ≡ macro_in u.macros form m) → IsBack u w
+  all_back rest env defined o e len macros = record {
+    rest = rest_on u v w h.rest rest;
+    env = env ∙ env_taken u v w x h;
+    defined = λ n. defined_taken u v w x h n (get nat_cmp w.defined n) (defined n);
+    count = count_taken o e len;
+    macros = macros;
+  }

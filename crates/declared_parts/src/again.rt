@@ -105,8 +105,8 @@ fn go_on(units: &mut UnitScope, work: &Work, part: &DeclaredPart, going: &mut Go
 fn goes_again(units: &mut UnitScope, work: &Work, part: &DeclaredPart, note: &Note, going: &mut Going) -> Mem<bool>
     requires { (old : AnyUnits) × (n : ℕ) × (can : CanDeclare work.now old n part.now) × (made : ℕ) × GoesOn work.now old n part.now can units.old going.old made × IsAsked note.now.question made note.now.behind
         × ((left : List AnyNote) × KeptFrom work.now old n part.now can going.old.macros (note.now ∷ left)) × ((q : Moment × ModelQuestion) × Tells work.now old n part.now can note.now q) }
-    ensures { (old : AnyUnits) (n : ℕ) (can : CanDeclare work.now old n part.now) (left : List AnyNote) (made : ℕ) → GoesOn work.now old n part.now can units.old going.old made → IsAsked note.now.question made note.now.behind →
-        KeptFrom work.now old n part.now can going.old.macros (note.now ∷ left) → HasGoneBy work.now old n part.now can note.now left made units.new going.new result }
+    ensures { (old : AnyUnits) (n : ℕ) (can : CanDeclare work.now old n part.now) (left : List AnyNote) (made : ℕ) (q : Moment × ModelQuestion) → GoesOn work.now old n part.now can units.old going.old made → IsAsked note.now.question made note.now.behind →
+        KeptFrom work.now old n part.now can going.old.macros (note.now ∷ left) → Tells work.now old n part.now can note.now q → HasGoneBy work.now old n part.now can note.now left made units.new going.new result }
 {
     match definition_of(note) {
         None => Ok(has_answer_here(units, work, note)),

@@ -1,5 +1,5 @@
 //! A definition of a form that is declared again (R7RS 5.3): it ends as it did, and is made where it stands.
-ghost use Rattle.std.specs.Prelude.{◌≡◌, ℕ, ◌+◌, ◌≤◌, ◌<◌, ◌++◌, List, [], ◌∷◌, length, reverse, slice_get, true, Option, None, IfOk, OnOk, if◌then◌else◌};
+ghost use Rattle.std.specs.Prelude.{IsTrue, ◌≡◌, ℕ, ◌+◌, ◌≤◌, ◌<◌, ◌++◌, List, [], ◌∷◌, length, reverse, slice_get, true, Option, None, IfOk, OnOk, if◌then◌else◌};
 ghost use Rattle.scheme_model.specs.ExpansionFaults.{Named};
 ghost use Rattle.scheme_model.specs.Ident.{Ident as Identifier};
 ghost use Rattle.scheme_model.specs.Order.{Note as ModelNote, is_some};
@@ -43,11 +43,12 @@ pub fn defines_again(
 ) -> Mem<bool>
     requires { (old : AnyUnits) × (n : ℕ) × (can : CanDeclare work.now old n part.now) × (made : ℕ) × GoesOn work.now old n part.now can units.old going.old made
         × ((left : List AnyNote) × KeptFrom work.now old n part.now can going.old.macros (note_of definition answer made ∷ left)) × ((q : Moment × ModelQuestion) × Tells work.now old n part.now can (note_of definition answer made) q) }
-    ensures { (old : AnyUnits) (n : ℕ) (can : CanDeclare work.now old n part.now) (left : List AnyNote) (made : ℕ) → GoesOn work.now old n part.now can units.old going.old made →
-        KeptFrom work.now old n part.now can going.old.macros (note_of definition answer made ∷ left) → HasGoneBy work.now old n part.now can (note_of definition answer made) left made units.new going.new result }
+    ensures { (old : AnyUnits) (n : ℕ) (can : CanDeclare work.now old n part.now) (left : List AnyNote) (made : ℕ) (q : Moment × ModelQuestion) → GoesOn work.now old n part.now can units.old going.old made →
+        KeptFrom work.now old n part.now can going.old.macros (note_of definition answer made ∷ left) → Tells work.now old n part.now can (note_of definition answer made) q → HasGoneBy work.now old n part.now can (note_of definition answer made) left made units.new going.new result }
 {
     own_until(units, work, part, definition.asked, going)?;
-    if ends_here(units, work, definition, &going.own) != answer {
+    let ends = ends_here(units, work, definition, &going.own);
+    if !is_same(ends, answer) {
         return Ok(false);
     }
     match answer {
@@ -58,6 +59,14 @@ pub fn defines_again(
         Outcome::Redefines => Ok(true),
         Outcome::StoodBefore => Ok(true),
     }
+}
+
+/// Whether a definition ends as it did.
+fn is_same(ends: Outcome, answer: Outcome) -> bool
+    ensures same { IsTrue result → ends ≡ answer }
+    ensures other { ends ≡ answer → IsTrue result }
+{
+    ends == answer
 }
 
 /// Goes to so many of the form's own notes.
