@@ -248,7 +248,7 @@ module _ (work : Work) (old : UnitScope) (number : ℕ) (part : DeclaredPart) (c
   -- all
   pub all_so_far : (k : ℕ) (u : UnitScope) (g : Going) → length part.notes ≤ k → SoFar work old number part can u g k → HasGone work old number part can u g (Ok true)
   all_so_far k u g end s =
-      let none : drop k part.notes ≡ [] = drop_all part.notes k end in
+      let none : drop k part.notes ≡ [] = drop_all k part.notes end in
       let made : s.made ≡ can.kept.part.made = subst (λ (l : List code_note.Note). RisesTo l s.made can.kept.part.made) none s.rises in
       let whole : take k part.notes ≡ part.notes = take_all k part.notes end in
       (

@@ -1,5 +1,5 @@
 -- A form's own notes, in the unit's own scope.
-use Rattle.std.proofs.Common.{◌≡◌, ℕ, zero, suc, ◌+◌, ◌-◌, ◌<◌, ◌≤◌, List, [], ◌∷◌, ◌++◌, length, reverse, slice_get, take, drop, Bool, Option, Some, None, append_assoc, refl, sym, ap, ◌∙◌, subst, arith}
+use Rattle.std.proofs.Common.{◌≡◌, ℕ, zero, suc, ◌+◌, ◌-◌, ◌<◌, ◌≤◌, List, [], ◌∷◌, ◌++◌, length, reverse, slice_get, get_or, take, drop, Bool, Option, Some, None, append_assoc, refl, sym, ap, ◌∙◌, subst, arith}
 use Rattle.std.proofs.lemmas.List.{reverse-append, reverse-reverse, append-nil}
 use Rattle.std.proofs.lemmas.Option.{same_Some, slice_get_within}
 use Rattle.scheme_model.specs.Ident.{Ident}
@@ -49,6 +49,14 @@ matched_drop P [] [] (suc n) h = tt
 matched_drop P [] (y ∷ ys) (suc n) h = absurd h
 matched_drop P (x ∷ xs) [] (suc n) h = absurd h
 matched_drop P (x ∷ xs) (y ∷ ys) (suc n) h = matched_drop P xs ys n h.1
+
+-- what one stands for
+pub match_at : {X Y : Type 0} (P : X → Y → Type 0) (xs : List X) (ys : List Y) (k : ℕ) (d : X) → AllMatch P xs ys → k < length xs → (y : Y) × (slice_get ys k ≡ Some y) × P (get_or xs k d) y
+match_at P [] [] k d h lt = absurd (omega arith)
+match_at P [] (y ∷ ys) k d h lt = absurd h
+match_at P (x ∷ xs) [] k d h lt = absurd h
+match_at P (x ∷ xs) (y ∷ ys) zero d h lt = (y, refl, h.0)
+match_at P (x ∷ xs) (y ∷ ys) (suc k) d h lt = match_at P xs ys k d h.1 (omega arith)
 
 pub taken_more : {X : Type 0} (xs : List X) (k : ℕ) (x : X) → slice_get xs k ≡ Some x → take (suc k) xs ≡ take k xs ++ x ∷ []
 taken_more [] k x at = absurd cc

@@ -121,7 +121,10 @@ fn has_answer_here(units: &UnitScope, work: &Work, note: &Note) -> bool
     ensures later { (v : Around) (r : Since) (m : Noted) → (note.now.behind ≡ 0 → ⊥) → CanAsk work.now units.now v r → IsNote work.now.symbols r note.now m → IsAskedOutside m.question →
         KeepsEdition work.now units.now v r note.now.question → IsTrue result ↔ (answer_now v m.question ≡ m.answer) }
 {
-    note.behind == 0 || has_answer(units, work, note)
+    if note.behind == 0 {
+        return true;
+    }
+    has_answer(units, work, note)
 }
 
 /// The definition of which a note tells how it ends.

@@ -1,4 +1,4 @@
-use Rattle.std.proofs.Common.{◌≡◌, ℕ, ◌+◌, ◌<◌, ◌≤◌, ◌^◌, ◌*◌, List, [], ◌++◌, ◌∷◌, length, slice_get, Option, Some, None, refl, sym, ap, ◌∙◌, subst, arith}
+use Rattle.std.proofs.Common.{◌≡◌, ℕ, ◌+◌, ◌<◌, ◌≤◌, ◌^◌, ◌*◌, List, [], ◌++◌, ◌∷◌, length, slice_get, true, Option, Some, None, refl, sym, ap, ◌∙◌, subst, arith}
 use Rattle.std.proofs.lemmas.Option.{slice_get_within}
 use Rattle.scheme_model.specs.ScopedExpansion.{Frames, ScopedState}
 use Rattle.syntax_tree.specs.declared.trees.Work.{Work}
@@ -18,8 +18,8 @@ use Rattle.declared_parts.proofs.defining.make_again.Goals as goal
 here : (work : Work) (u : UnitScope) (ls : List Frames) (s : ScopedState) (spot : Spot) → spot ≡ own_spot u → Stands work u ls s → SpotFor work u ls s spot []
 here work u ls s spot is e = subst (λ (x : Spot). SpotFor work u ls s x []) (sym is) (record { at = e.root; inside = (refl, refl) })
 
-pub bound-requires : goal.bound-requires
-bound-requires c = let h = c.requires.4 in subst (λ (len : ℕ). c.args.units.now.root < len) h.stands.env.count (slice_get_within c.requires.2.layout c.args.units.now.root [] h.stands.root)
+pub bound-before-requires : goal.bound-before-requires
+bound-before-requires c = let h = c.requires.4 in subst (λ (len : ℕ). c.args.units.now.root < len) h.stands.env.count (slice_get_within c.requires.2.layout c.args.units.now.root [] h.stands.root)
 
 pub next_macro-requires : goal.next_macro-requires
 next_macro-requires c = λ keyword. next_there c.args.work.now c.args.part.now.macros c.args.going.now.macros c.args.definition c.requires.2.again c.requires.2.editions c.requires.4.moment c.requires.5 keyword

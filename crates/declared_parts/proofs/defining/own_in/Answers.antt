@@ -6,11 +6,10 @@ use Rattle.core_tree.specs.Names.{AllMatch}
 use Rattle.unit_scopes.specs.Asks.{AreWithin, idents_of}
 use Rattle.unit_scopes.specs.Kept.{NoteFor}
 use Rattle.unit_scopes.specs.declared.asked.Note as asked
-use Rattle.unit_scopes.proofs.MatchLists.{match_at}
 use Rattle.declared_parts.specs.Parts.{OwnNoteFor}
 use Rattle.declared_parts.specs.declared.parts.OwnNote as code
 use Rattle.declared_parts.specs.declared.parts.OwnNote.TheVariants as own
-use Rattle.declared_parts.proofs.OwnLaws.{matched_last, matched_length, taken_more, note_for, note_within}
+use Rattle.declared_parts.proofs.OwnLaws.{match_at, matched_last, matched_length, taken_more, note_for, note_within}
 use Rattle.declared_parts.proofs.defining.own_in.Goals as goal
 
 d : code.OwnNote

@@ -9,12 +9,12 @@ put_back-requires c =
     let h = c.requires in
     record { scope = root_there h.0 c.args.units.now c.args.made h.1; bound = bound_there h.0 c.args.units.now c.args.made h.1 }
 
-pub returns-then-not-made-keyword : goal.returns-then-not-made-keyword
-returns-then-not-made-keyword c = λ before h.
+pub returns-then-not-made : goal.returns-then-not-made
+returns-then-not-made c = λ before h.
     let v = c.args.units.now in let x = c.args.made in
     let w : UnitScope = record v { env = c.put_back.new.self; defined = c.remove.new.self } in
     all_back before v w x h (record { unit = refl; kind = refl; root = refl; libraries = refl; asked = refl }) c.put_back.ensures c.remove.ensures.updates.0 c.remove.result c.remove.ensures.value c.remove.ensures.len
-    (h.plain c.if-not-made-keyword.true)
+    (h.plain c.if-not-made.true)
 
 pub returns : goal.returns
 returns c = λ before h.
