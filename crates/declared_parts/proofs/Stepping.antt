@@ -2,7 +2,7 @@
 use Rattle.std.proofs.Common.{◌≡◌, ℕ, zero, suc, ◌+◌, ◌≤◌, List, [], ◌∷◌, ◌++◌, map, length, slice_get, Bool, true, false, cond, Option, Some, None, Ok, Contains, refl, sym, ap, ◌∙◌, subst, arith}
 use Rattle.std.specs.Prelude.{if◌then◌else◌, Vec, reverse}
 use Rattle.std.specs.declared.alloc.Global.{Global}
-use Rattle.std.proofs.lemmas.List.{length-map}
+use Rattle.std.proofs.lemmas.List.{length-map, length-reverse}
 use Rattle.scheme_model.specs.Ident.{Ident}
 use Rattle.scheme_model.specs.RulesShape.{Rules}
 use Rattle.scheme_model.specs.Order.{Note, is_some}
@@ -25,7 +25,7 @@ use Rattle.unit_scopes.specs.declared.scope.UnitScope.{UnitScope}
 use Rattle.note_laws.specs.Told.{bare_question, bare_noted, told, since_of}
 use Rattle.declared_parts.specs.Again.{Again, own_notes, noted_of, SameLater, CanDeclare}
 use Rattle.declared_parts.specs.Going.{Tells, TellsSame, TellsOther, note_of, notes_first, settled, OwnSoFar, CanSetOwn, CanEnd, GoesOn, HasGoneBy, HasMacro, IsNext, KeptFrom}
-use Rattle.declared_parts.specs.Parts.{IsKeptMacro, keyword_if, keyword_made, rules_defined}
+use Rattle.declared_parts.specs.Parts.{OwnNoteFor, IsKeptMacro, keyword_if, keyword_made, rules_defined}
 use Rattle.declared_parts.specs.Undone.{AreDefined}
 use Rattle.declared_parts.specs.declared.again.Going.{Going}
 use Rattle.declared_parts.specs.declared.parts.DeclaredPart.{DeclaredPart}
@@ -33,7 +33,7 @@ use Rattle.declared_parts.specs.declared.parts.KeptMacro.{KeptMacro}
 use Rattle.declared_parts.specs.declared.undoing.Made.{Made}
 use Rattle.declared_parts.proofs.EachLaws.{contained_map, map_contained}
 use Rattle.declared_parts.proofs.GoNext.{kept_past, kept_next, of, ending, ends_same, same_ends, is_next}
-use Rattle.declared_parts.proofs.OwnLaws.{first_earlier, earlier_few}
+use Rattle.declared_parts.proofs.OwnLaws.{matched_length, first_earlier, earlier_few}
 use Rattle.declared_parts.proofs.SameEnds.{IsOf, same_code}
 
 rules_bare : (q : Question) → rules_defined (bare_question q) ≡ rules_defined q
@@ -79,6 +79,14 @@ module _ (work : Work) (old : UnitScope) (number : ℕ) (part : DeclaredPart) (c
 
     pub can_set : (q : Moment × Question) → Told q → CanSetOwn work u part can.layout (own_notes can.again) d.asked g
     can_set q t = record { root = h.stands.root; kept = can.kept.part.asked; few = early_enough q t; now = h.own }
+
+    -- all of them are kept
+    pub asked_there : (q : Moment × Question) → Told q → d.asked ≤ length part.asked
+    asked_there q t =
+        let few = early_enough q t in
+        let long = matched_length (OwnNoteFor work.symbols) part.asked (reverse (own_notes can.again)) can.kept.part.asked in
+        let turned = length-reverse (own_notes can.again) in
+        omega (arith, few, long, turned)
 
     pub own_by_then : (a : Asked) → OwnSoFar work can.layout (own_notes can.again) a d.asked → (q : Moment × Question) (t : Told q) → NotesFor work can.layout a (Of q t).notes
     own_by_then a own q t =

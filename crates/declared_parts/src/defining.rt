@@ -77,7 +77,8 @@ fn own_until(
     asked: usize,
     going: &mut Going,
 ) -> Mem<()>
-    requires { (ls : List Frames) × (own : List (ModelNote FramedIdent)) × CanSetOwn work.now units.now part.now ls own asked going.old }
+    requires can { (ls : List Frames) × (own : List (ModelNote FramedIdent)) × CanSetOwn work.now units.now part.now ls own asked going.old }
+    requires few { asked ≤ length part.now.asked }
     ensures rest { OnOk result (going.new ≡ record going.old { own = going.new.own; asked = asked }) }
     ensures own { (ls : List Frames) (own : List (ModelNote FramedIdent)) → CanSetOwn work.now units.now part.now ls own asked going.old → OnOk result (OwnSoFar work.now ls own going.new.own asked) }
 {

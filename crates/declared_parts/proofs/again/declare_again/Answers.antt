@@ -20,10 +20,10 @@ go_on-requires c =
     let can = c.requires in
     (c.args.units.now, c.args.number, can, begins c.args.work.now c.args.units.now c.args.number c.args.part.now can c.sound.ensures c.begin.new.units c.nothing_made-going.result c.begin.ensures.rest c.begin.ensures.form c.nothing_made-going.ensures, c.nothing_made-going.ensures.macros)
 
-pub own_in-requires-then-branch : goal.own_in-requires-then-branch
-own_in-requires-then-branch c =
+pub own_in-requires : goal.own_in-requires
+own_in-requires c =
     let can = c.requires in
-    (can.layout, reverse (own_notes can.again), subst (λ (l : List OwnNote). AllMatch (OwnNoteFor c.args.work.now.symbols) l (reverse (own_notes can.again))) (sym c.as_slice.ensures.value) can.kept.part.asked)
+    (can.layout, reverse (own_notes can.again), subst (λ (l : List OwnNote). AllMatch (OwnNoteFor c.args.work.now.symbols) l (reverse (own_notes can.again))) (sym c.as_slice.ensures) can.kept.part.asked)
 
 pub take_back-requires : goal.take_back-requires
 take_back-requires c =
@@ -33,8 +33,8 @@ take_back-requires c =
     let gone = subst (λ (b : Bool). HasGone work old n part can u g (Ok b)) c.if-branch.false (c.in_ok-go_on.ensures old n can goes none.macros) in
     (old, gone.1.1.back)
 
-pub returns-in_ok-own_in-then-branch : goal.returns-in_ok-own_in-then-branch
-returns-in_ok-own_in-then-branch c =
+pub returns-then-branch : goal.returns-then-branch
+returns-then-branch c =
     let work = c.args.work.now in let old = c.args.units.now in let n = c.args.number in let part = c.args.part.now in let none = c.nothing_made-going.ensures in
     let u = c.go_on.new.units in let g = c.go_on.new.going in
     let gone : (can : CanDeclare work old n part) → HasGone work old n part can u g (Ok true) =
@@ -44,8 +44,8 @@ returns-in_ok-own_in-then-branch c =
       good = λ can. (λ t. (gone can).0, λ s. refl);
       declared = λ can is.
           let h = (gone can).1 in
-          let asked = subst (λ (l : List OwnNote). AllMatch (OwnNoteFor work.symbols) l (reverse (own_notes can.again))) (sym c.as_slice.ensures.value) can.kept.part.asked in
-          declared_so work old n part can u g h c.own_in.new.asked (λ ns notes. c.in_ok-own_in-then-branch.ensures can.layout (reverse (own_notes can.again)) ns h.stands.root asked notes);
+          let asked = subst (λ (l : List OwnNote). AllMatch (OwnNoteFor work.symbols) l (reverse (own_notes can.again))) (sym c.as_slice.ensures) can.kept.part.asked in
+          declared_so work old n part can u g h c.own_in.new.asked (λ ns notes. c.in_ok-own_in.ensures can.layout (reverse (own_notes can.again)) ns h.stands.root asked notes);
       refused = λ can is. absurd cc;
     }
 

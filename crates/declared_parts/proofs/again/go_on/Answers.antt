@@ -16,7 +16,7 @@ loop-note-init c =
 
 pub goes_again-requires : goal.goes_again-requires
 goes_again-requires c =
-    let work = c.args.work.now in let part = c.args.part.now in let notes = c.as_slice-notes.ensures.value in
+    let work = c.args.work.now in let part = c.args.part.now in let notes = c.as_slice-notes.ensures in
     let u = c.loop-note.units in let g = c.loop-note.going in let k = c.loop-note.note-index in let x = c.note-item.result in
     let at : k < length part.notes = subst (λ (l : List Note). k < length l) notes c.loop-note-test.true in
     let is : x ≡ get_or part.notes k x = c.note-item.is ∙ ap (λ (l : List Note). get_or l k x) notes in
@@ -25,7 +25,7 @@ goes_again-requires c =
 
 pub loop-note-preserved : goal.loop-note-preserved
 loop-note-preserved c =
-    let work = c.args.work.now in let part = c.args.part.now in let notes = c.as_slice-notes.ensures.value in
+    let work = c.args.work.now in let part = c.args.part.now in let notes = c.as_slice-notes.ensures in
     let u = c.loop-note.units in let g = c.loop-note.going in let k = c.loop-note.note-index in let x = c.note-item.result in
     let v = c.goes_again.new.units in let e = c.goes_again.new.going in
     let at : k < length part.notes = subst (λ (l : List Note). k < length l) notes c.loop-note-test.true in
@@ -42,7 +42,7 @@ loop-note-preserved c =
 
 pub returns-then-not-branch : goal.returns-then-not-branch
 returns-then-not-branch c = λ old n can h none.
-    let work = c.args.work.now in let part = c.args.part.now in let notes = c.as_slice-notes.ensures.value in
+    let work = c.args.work.now in let part = c.args.part.now in let notes = c.as_slice-notes.ensures in
     let u = c.loop-note.units in let g = c.loop-note.going in let k = c.loop-note.note-index in let x = c.note-item.result in
     let v = c.goes_again.new.units in let e = c.goes_again.new.going in
     let at : k < length part.notes = subst (λ (l : List Note). k < length l) notes c.loop-note-test.true in
@@ -55,4 +55,4 @@ returns-then-not-branch c = λ old n can h none.
 pub returns : goal.returns
 returns c = λ old n can h none.
     let part = c.args.part.now in
-    all_so_far c.args.work.now old n part can c.loop-note.note-index c.loop-note.units c.loop-note.going (subst (λ (l : List Note). length l ≤ c.loop-note.note-index) c.as_slice-notes.ensures.value c.loop-note-test.false) (c.loop-note.invariant.all old n can h none)
+    all_so_far c.args.work.now old n part can c.loop-note.note-index c.loop-note.units c.loop-note.going (subst (λ (l : List Note). length l ≤ c.loop-note.note-index) c.as_slice-notes.ensures c.loop-note-test.false) (c.loop-note.invariant.all old n can h none)

@@ -20,16 +20,19 @@ use Rattle.declared_parts.specs.declared.again.Going.{Going}
 use Rattle.declared_parts.specs.declared.parts.DeclaredPart.{DeclaredPart}
 use Rattle.declared_parts.proofs.EndGoing.{true_false}
 use Rattle.declared_parts.proofs.GoNext.{of}
-use Rattle.declared_parts.proofs.Stepping.{can_set, can_end, with_own, next_is, stands_gone, fails_gone, other_gone}
+use Rattle.declared_parts.proofs.Stepping.{can_set, asked_there, can_end, with_own, next_is, stands_gone, fails_gone, other_gone}
 use Rattle.declared_parts.proofs.defining.defines_again.Goals as goal
 
 pub own_until-requires : goal.own_until-requires
 own_until-requires c =
     let q = c.requires in let can = q.2 in
-    (can.layout, own_notes can.again, can_set c.args.work.now q.0 q.1 c.args.part.now can c.args.units.now c.args.going.now q.3 q.4 c.args.definition c.args.answer q.6.0 q.6.1)
+    record {
+      can = (can.layout, own_notes can.again, can_set c.args.work.now q.0 q.1 c.args.part.now can c.args.units.now c.args.going.now q.3 q.4 c.args.definition c.args.answer q.6.0 q.6.1);
+      few = asked_there c.args.work.now q.0 q.1 c.args.part.now can c.args.units.now c.args.going.now q.3 q.4 c.args.definition c.args.answer q.6.0 q.6.1;
+    }
 
-pub ends_here-requires : goal.ends_here-requires
-ends_here-requires c =
+pub ends_here-ends-requires : goal.ends_here-ends-requires
+ends_here-ends-requires c =
     let q = c.requires in let can = q.2 in
     let work = c.args.work.now in let part = c.args.part.now in let u = c.args.units.now in let g = c.args.going.now in let d = c.args.definition in let o = c.args.answer in
     let own = c.in_ok-own_until.ensures.own can.layout (own_notes can.again) (can_set work q.0 q.1 part can u g q.3 q.4 d o q.6.0 q.6.1) in
@@ -50,8 +53,8 @@ abbrev own_then : (work : Work) (old : UnitScope) (n : ℕ) (part : DeclaredPart
 own_then work old n part can u g g2 made h d o rest own =
     with_own work old n part can u g made h d o g2 (λ j. (rest j).made) (subst (OwnSoFar work can.layout (own_notes can.again) g2.own) (sym (λ j. (rest j).asked)) own)
 
-pub make_again-requires-in-Stands : goal.make_again-requires-in-Stands
-make_again-requires-in-Stands c =
+pub make_again-requires : goal.make_again-requires
+make_again-requires c =
     let q = c.requires in let old = q.0 in let n = q.1 in let can = q.2 in let made = q.3 in let h = q.4 in
     let work = c.args.work.now in let part = c.args.part.now in let u = c.args.units.now in let g = c.args.going.now in let d = c.args.definition in let o = c.args.answer in let left = q.5.0 in
     let g2 = c.own_until.new.going in

@@ -45,7 +45,7 @@ pub returns : goal.returns
 returns c = record {
   next = λ old n can made h next.
       let work = c.args.work.now in let u = c.args.units.now in let v = c.make.new.self in
-      let g = c.args.going.now in let g2 = c.next_macro-kept.new.going in
+      let g = c.args.going.now in let g2 = c.next_macro.new.going in
       let s = settled can.again.now h.moment in
       let spot = c.root_of-spot.ensures in
       let name = c.name_of.ensures in

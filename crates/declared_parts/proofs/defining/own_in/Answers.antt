@@ -12,7 +12,7 @@ use Rattle.declared_parts.specs.declared.parts.OwnNote.TheVariants as own
 use Rattle.declared_parts.proofs.OwnLaws.{match_at, matched_last, matched_length, taken_more, note_for, note_within}
 use Rattle.declared_parts.proofs.defining.own_in.Goals as goal
 
-d : code.OwnNote
+abbrev d : code.OwnNote
 d = own.LookedUp 0 false false
 
 pub push-requires : goal.push-requires
@@ -31,7 +31,8 @@ loop-note-preserved c = λ ls ms ns at own notes.
     let P = NoteFor work ls in
     let h = match_at (OwnNoteFor work.symbols) c.args.notes.now ms k d own c.loop-note-test.true in
     let before = c.loop-note.invariant ls ms ns at own notes in
-    let more : reverse ns ++ take (k + 1) ms ≡ (reverse ns ++ take k ms) ++ h.0 ∷ [] = ap (λ l. reverse ns ++ l) (taken_more ms k h.0 h.1) ∙ sym (append_assoc (reverse ns) (take k ms) (h.0 ∷ [])) in
+    let next : suc k ≡ k + 1 = omega arith in
+    let more : reverse ns ++ take (k + 1) ms ≡ (reverse ns ++ take k ms) ++ h.0 ∷ [] = ap (λ n. reverse ns ++ take n ms) (sym next) ∙ (ap (λ l. reverse ns ++ l) (taken_more ms k h.0 h.1) ∙ sym (append_assoc (reverse ns) (take k ms) (h.0 ∷ []))) in
     (
       subst (λ l. AllMatch P c.push.new.self.notes.items l) (sym more)
           (subst (λ l. AllMatch P l ((reverse ns ++ take k ms) ++ h.0 ∷ [])) (sym c.in_ok-push.ensures.notes)
