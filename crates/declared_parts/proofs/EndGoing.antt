@@ -250,8 +250,7 @@ module _ (work : Work) (old : UnitScope) (number : ℕ) (part : DeclaredPart) (c
   all_so_far k u g end s =
       let none : drop k part.notes ≡ [] = drop_all k part.notes end in
       let made : s.made ≡ can.kept.part.made = subst (λ (l : List code_note.Note). RisesTo l s.made can.kept.part.made) none s.rises in
-      let whole : take k part.notes ≡ part.notes = take_all k part.notes end in
-      (
+      let whole : take k part.notes ≡ part.notes = take_all k part.notes end in (
         all_same work old number part can (λ x c. All-contains (TellsSame work old number part can) part.notes x (subst (All (TellsSame work old number part can)) whole s.same) c),
         subst (GoesOn work old number part can u g) (as_many_made work old number part can u g s.made s.goes made) s.goes,
       )

@@ -110,8 +110,7 @@ module _ (w : Around) (m : Moment) (own : List (Note FramedIdent)) where
   all_are ((n, Defines fs x r ns) ∷ qs) ms made order early table macros root before =
       let e : Ending = record { moment = n; frames = fs; name = x; rules = r; notes = ns } in
       let ts = table_made w (endings qs) in let ks = macros_made w (endings qs) in
-      let notes = earlier_on ns ms own order.1 early in
-      (
+      let notes = earlier_on ns ms own order.1 early in (
         record {
           frames = order.0;
           notes = notes;

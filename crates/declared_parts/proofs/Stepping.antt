@@ -196,8 +196,7 @@ module _ (work : Work) (old : UnitScope) (number : ℕ) (part : DeclaredPart) (c
     pub stands_gone : (o : code_outcome.Outcome) → o ≡ outcomes.Stands → ends ≡ o → (v : UnitScope) (g2 : Going) → GoesOn work old number part can v g2 (made + 1) → g2.macros ≡ (if d.keyword then g.macros + 1 else g.macros) →
         KeptFrom work old number part can g.macros (note_of d o made ∷ left) → HasGoneBy work old number part can (note_of d o made) left made v g2 (Ok true)
     stands_gone o is e v g2 goes macros kept =
-        let left_so = subst (λ (p : code_outcome.Outcome). KeptFrom work old number part can g.macros (note_of d p made ∷ left)) is kept in
-        (
+        let left_so = subst (λ (p : code_outcome.Outcome). KeptFrom work old number part can g.macros (note_of d p made ∷ left)) is kept in (
           tells_same u g made h d o ends (ended o) e,
           subst (λ (p : code_outcome.Outcome). GoesOn work old number part can v g2 (made + made_by p)) (sym is) goes,
           left_then u g made h d left g.macros g2.macros macros left_so,
@@ -211,8 +210,7 @@ module _ (work : Work) (old : UnitScope) (number : ℕ) (part : DeclaredPart) (c
     pub fails_gone : (o : code_outcome.Outcome) → made_by o ≡ 0 → ends ≡ o → (g2 : Going) → GoesOn work old number part can u g2 made → g2.macros ≡ g.macros →
         KeptFrom work old number part can g.macros (note_of d o made ∷ left) → HasGoneBy work old number part can (note_of d o made) left made u g2 (Ok true)
     fails_gone o none e g2 goes macros kept =
-        let count : made ≡ made + made_by o = omega (arith, none) in
-        (
+        let count : made ≡ made + made_by o = omega (arith, none) in (
           tells_same u g made h d o ends (ended o) e,
           subst (GoesOn work old number part can u g2) count goes,
           subst (λ (n : ℕ). KeptFrom work old number part can n left) (sym macros) (kept_past work old number part can (note_of d o made) left g.macros (no_keyword o none) kept),

@@ -19,9 +19,9 @@ use ls_base::{Items, Mem};
 use note_answers::has_answer;
 use std::alloc::Global;
 use syntax_tree::trees::Work;
+use unit_scopes::UnitScope;
 use unit_scopes::asked::Asked;
 use unit_scopes::scope::{Budget, FormAtWork};
-use unit_scopes::UnitScope;
 
 /// How far a form is declared again: its own notes by now, and how many they are; how many of its macros are defined; and its definitions.
 #[derive(Drop)]
@@ -34,7 +34,12 @@ pub struct Going {
 
 /// Declares a form again, unless something that its definitions have a part in has another answer now. What is asked when the form begins, and
 /// isn't how one of its definitions ends, isn't asked here.
-pub fn declare_again(units: &mut UnitScope, work: &Work, number: u32, part: &DeclaredPart) -> Mem<bool>
+pub fn declare_again(
+    units: &mut UnitScope,
+    work: &Work,
+    number: u32,
+    part: &DeclaredPart,
+) -> Mem<bool>
     requires { CanDeclare work.now units.old number part.now }
     ensures good { (can : CanDeclare work.now units.old number part.now) → IfOk result (λ b. IsTrue b ↔ AreSameLater can.again) }
     ensures declared { (can : CanDeclare work.now units.old number part.now) → result ≡ Ok true →
@@ -102,7 +107,13 @@ fn go_on(units: &mut UnitScope, work: &Work, part: &DeclaredPart, going: &mut Go
 }
 
 /// Whether a note has its answer, which is asked where the form is; a definition that stands is made.
-fn goes_again(units: &mut UnitScope, work: &Work, part: &DeclaredPart, note: &Note, going: &mut Going) -> Mem<bool>
+fn goes_again(
+    units: &mut UnitScope,
+    work: &Work,
+    part: &DeclaredPart,
+    note: &Note,
+    going: &mut Going,
+) -> Mem<bool>
     requires { (old : AnyUnits) × (n : ℕ) × (can : CanDeclare work.now old n part.now) × (made : ℕ) × GoesOn work.now old n part.now can units.old going.old made × IsAsked note.now.question made note.now.behind
         × ((left : List AnyNote) × KeptFrom work.now old n part.now can going.old.macros (note.now ∷ left)) × ((q : Moment × ModelQuestion) × Tells work.now old n part.now can note.now q) }
     ensures { (old : AnyUnits) (n : ℕ) (can : CanDeclare work.now old n part.now) (left : List AnyNote) (made : ℕ) (q : Moment × ModelQuestion) → GoesOn work.now old n part.now can units.old going.old made → IsAsked note.now.question made note.now.behind →
@@ -132,10 +143,24 @@ fn definition_of(note: &Note) -> Option<(Definition, Outcome)>
     ensures { result ≡ definition_in note.now.question }
 {
     match &note.question {
-        Question::Lookup { ident: _, answer: _, keyword: _ } => None,
-        Question::Literal { literal: _, ident: _, answer: _ } => None,
-        Question::Rules { meaning: _, edition: _ } => None,
-        Question::Assigned { ident: _, answer: _ } => None,
+        Question::Lookup {
+            ident: _,
+            answer: _,
+            keyword: _,
+        } => None,
+        Question::Literal {
+            literal: _,
+            ident: _,
+            answer: _,
+        } => None,
+        Question::Rules {
+            meaning: _,
+            edition: _,
+        } => None,
+        Question::Assigned {
+            ident: _,
+            answer: _,
+        } => None,
         Question::Library { name: _, answer: _ } => None,
         Question::Definition { definition, answer } => Some((*definition, *answer)),
     }

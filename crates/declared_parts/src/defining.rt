@@ -28,9 +28,9 @@ use ls_base::Mem;
 use scope_env::ScopeNo;
 use std::alloc::Global;
 use syntax_tree::trees::Work;
+use unit_scopes::UnitScope;
 use unit_scopes::asked::{Asked, Asking, Note as AskedNote};
 use unit_scopes::macros::{Macro, copy_rules};
-use unit_scopes::UnitScope;
 
 /// Whether a definition ends as it did, in view of the form's own notes by then and of the unit's before the form. One that stands is made.
 pub fn defines_again(
@@ -155,7 +155,12 @@ fn make_again(
 }
 
 /// The form's next macro, in the unit's own scope, where a keyword is defined.
-fn next_macro(units: &UnitScope, part: &DeclaredPart, keyword: bool, going: &mut Going) -> Mem<Option<Macro>>
+fn next_macro(
+    units: &UnitScope,
+    part: &DeclaredPart,
+    keyword: bool,
+    going: &mut Going,
+) -> Mem<Option<Macro>>
     requires { keyword ≡ true → going.old.macros < length part.now.macros }
     ensures rest { OnOk result (going.new ≡ record going.old { macros = if keyword then going.old.macros + 1 else going.old.macros }) }
     ensures kept { IfOk result (λ kept. IsNextMacro units.now.root (slice_get part.now.macros going.old.macros) keyword kept) }
@@ -163,7 +168,11 @@ fn next_macro(units: &UnitScope, part: &DeclaredPart, keyword: bool, going: &mut
     if !keyword {
         return Ok(None);
     }
-    let kept = macro_in(units.alloc, units.root, &part.macros.as_slice()[going.macros])?;
+    let kept = macro_in(
+        units.alloc,
+        units.root,
+        &part.macros.as_slice()[going.macros],
+    )?;
     going.macros += 1;
     Ok(Some(kept))
 }
@@ -208,13 +217,24 @@ impl OwnNote {
         ensures { result ≡ note_at root self }
     {
         match self {
-            OwnNote::LookedUp { ident, head, keyword } => AskedNote::LookedUp {
+            OwnNote::LookedUp {
+                ident,
+                head,
+                keyword,
+            } => AskedNote::LookedUp {
                 at: Asking { scope: root, ident },
                 head,
                 keyword,
             },
-            OwnNote::Compared { literal, ident, held } => AskedNote::Compared {
-                literal: Asking { scope: root, ident: literal },
+            OwnNote::Compared {
+                literal,
+                ident,
+                held,
+            } => AskedNote::Compared {
+                literal: Asking {
+                    scope: root,
+                    ident: literal,
+                },
                 at: Asking { scope: root, ident },
                 held,
             },

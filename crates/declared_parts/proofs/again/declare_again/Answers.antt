@@ -39,7 +39,7 @@ returns-then-branch c =
     let u = c.go_on.new.units in let g = c.go_on.new.going in
     let gone : (can : CanDeclare work old n part) → HasGone work old n part can u g (Ok true) =
     λ can. subst (λ (b : Bool). HasGone work old n part can u g (Ok b)) c.if-branch.true
-        (c.in_ok-go_on.ensures old n can (begins work old n part can c.sound.ensures c.begin.new.units c.nothing_made-going.result c.begin.ensures.rest c.begin.ensures.form none) none.macros) in
+    (c.in_ok-go_on.ensures old n can (begins work old n part can c.sound.ensures c.begin.new.units c.nothing_made-going.result c.begin.ensures.rest c.begin.ensures.form none) none.macros) in
     record {
       good = λ can. (λ t. (gone can).0, λ s. refl);
       declared = λ can is.
@@ -55,7 +55,7 @@ returns c =
     let u = c.go_on.new.units in let g = c.go_on.new.going in
     let gone : (can : CanDeclare work old n part) → HasGone work old n part can u g (Ok false) =
     λ can. subst (λ (b : Bool). HasGone work old n part can u g (Ok b)) c.if-branch.false
-        (c.in_ok-go_on.ensures old n can (begins work old n part can c.sound.ensures c.begin.new.units c.nothing_made-going.result c.begin.ensures.rest c.begin.ensures.form none) none.macros) in
+    (c.in_ok-go_on.ensures old n can (begins work old n part can c.sound.ensures c.begin.new.units c.nothing_made-going.result c.begin.ensures.rest c.begin.ensures.form none) none.macros) in
     record {
       good = λ can. (λ t. absurd cc, λ s. absurd ((gone can).0 s));
       declared = λ can is. absurd cc;

@@ -32,8 +32,8 @@ loop-note-preserved c =
     let is : x ≡ get_or part.notes k x = c.note-item.is ∙ ap (λ (l : List Note). get_or l k x) notes in
     let next : (old : UnitScope) (n : ℕ) (can : CanDeclare work old n part) → SoFar work old n part can u g k → SoFar work old n part can v e (k + 1) =
     λ old n can s. next_so_far work old n part can k x at is u g s v e
-        (subst (λ (b : Bool). HasGoneBy work old n part can x (drop (k + 1) part.notes) s.made v e (Ok b)) c.if-not-branch.false
-        (let t = told_here work old n part can k x at is u g s in c.in_ok-goes_again.ensures old n can (drop (k + 1) part.notes) s.made t.0 s.goes (asked_here work old n part can k x at is u g s) (kept_here work old n part can k x at is u g s) t.1)) in
+    (subst (λ (b : Bool). HasGoneBy work old n part can x (drop (k + 1) part.notes) s.made v e (Ok b)) c.if-not-branch.false
+    (let t = told_here work old n part can k x at is u g s in c.in_ok-goes_again.ensures old n can (drop (k + 1) part.notes) s.made t.0 s.goes (asked_here work old n part can k x at is u g s) (kept_here work old n part can k x at is u g s) t.1)) in
     let q = c.loop-note.invariant.some in
     record {
       some = (q.0, q.1, q.2, next q.0 q.1 q.2 q.3);

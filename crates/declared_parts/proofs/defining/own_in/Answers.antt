@@ -32,8 +32,7 @@ loop-note-preserved c = λ ls ms ns at own notes.
     let h = match_at (OwnNoteFor work.symbols) c.args.notes.now ms k d own c.loop-note-test.true in
     let before = c.loop-note.invariant ls ms ns at own notes in
     let next : suc k ≡ k + 1 = omega arith in
-    let more : reverse ns ++ take (k + 1) ms ≡ (reverse ns ++ take k ms) ++ h.0 ∷ [] = ap (λ n. reverse ns ++ take n ms) (sym next) ∙ (ap (λ l. reverse ns ++ l) (taken_more ms k h.0 h.1) ∙ sym (append_assoc (reverse ns) (take k ms) (h.0 ∷ []))) in
-    (
+    let more : reverse ns ++ take (k + 1) ms ≡ (reverse ns ++ take k ms) ++ h.0 ∷ [] = ap (λ n. reverse ns ++ take n ms) (sym next) ∙ (ap (λ l. reverse ns ++ l) (taken_more ms k h.0 h.1) ∙ sym (append_assoc (reverse ns) (take k ms) (h.0 ∷ []))) in (
       subst (λ l. AllMatch P c.push.new.self.notes.items l) (sym more)
           (subst (λ l. AllMatch P l ((reverse ns ++ take k ms) ++ h.0 ∷ [])) (sym c.in_ok-push.ensures.notes)
           (matched_last P c.loop-note.asked.notes.items (reverse ns ++ take k ms) c.at.result h.0 before.0

@@ -13,10 +13,12 @@ pub own_in-requires : goal.own_in-requires
 own_in-requires c =
     let own = c.requires.can.1 in let a = c.go_back.new.going.asked in let n = c.args.asked in
     let can = c.requires.can.2 in
-    let P = OwnNoteFor c.args.work.now.symbols in
-    (c.requires.can.0, take (n - a) (drop a (reverse own)),
-        subst (λ (l : List OwnNote). AllMatch P (take (n - a) (drop a l)) (take (n - a) (drop a (reverse own)))) (sym c.as_slice.ensures)
-        (matched_take P (drop a c.args.part.now.asked) (drop a (reverse own)) (n - a) (matched_drop P c.args.part.now.asked (reverse own) a can.kept)))
+    let P = OwnNoteFor c.args.work.now.symbols in (
+      c.requires.can.0,
+      take (n - a) (drop a (reverse own)),
+      subst (λ (l : List OwnNote). AllMatch P (take (n - a) (drop a l)) (take (n - a) (drop a (reverse own)))) (sym c.as_slice.ensures)
+          (matched_take P (drop a c.args.part.now.asked) (drop a (reverse own)) (n - a) (matched_drop P c.args.part.now.asked (reverse own) a can.kept)),
+    )
 
 pub returns : goal.returns
 returns c = record {
@@ -26,7 +28,7 @@ returns c = record {
       let P = OwnNoteFor work.symbols in
       let before = c.go_back.ensures.own work ls own can.now in
       let more = subst (λ (l : List OwnNote). AllMatch P (take (n - a) (drop a l)) (take (n - a) (drop a (reverse own)))) (sym c.as_slice.ensures)
-          (matched_take P (drop a c.args.part.now.asked) (drop a (reverse own)) (n - a) (matched_drop P c.args.part.now.asked (reverse own) a can.kept)) in
+      (matched_take P (drop a c.args.part.now.asked) (drop a (reverse own)) (n - a) (matched_drop P c.args.part.now.asked (reverse own) a can.kept)) in
       let after = c.in_ok-own_in.ensures ls (take (n - a) (drop a (reverse own))) _ can.root more before.notes in
       record { few = can.few; notes = subst (NotesFor work ls c.own_in.new.asked) (first_on own a n c.go_back.ensures.few) after };
 }
