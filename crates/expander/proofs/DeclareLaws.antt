@@ -60,6 +60,7 @@ asked_stands work u a ls s e = record {
   since_form = e.since_form;
   editions = e.editions;
   notes = e.notes;
+  start = e.start;
 }
 
 -- ---- before

@@ -41,6 +41,7 @@ loosely work u ls s e = record {
   since_form = refl;
   editions = λ h. absurd cc;
   notes = λ h. absurd cc;
+  start = λ h. absurd cc;
 }
 
 pub look_loosely : (work : Work) (u : UnitScope) (scope : ℕ) → plain_look.CanLook work u scope → CanLook work u scope

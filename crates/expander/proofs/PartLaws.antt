@@ -1,23 +1,27 @@
 -- A part of a form that notes what it asks: what it comes to is what it comes to without notes, and where it ends its notes stand.
-use Rattle.std.proofs.Common.{◌≡◌, ℕ, List, [], ◌∷◌, true, false, None, Result, Ok, Err, refl, sym, ap, ◌∙◌, subst}
+use Rattle.std.proofs.Common.{◌≡◌, ℕ, List, [], ◌∷◌, length, reverse, true, false, None, Result, Ok, Err, refl, sym, ap, ◌∙◌, subst}
 use Rattle.std.specs.Result.{IsErrAnd}
+use Rattle.std.proofs.lemmas.List.{length-reverse}
 use Rattle.scheme_model.specs.Ident.{Ident as Identifier}
 use Rattle.scheme_model.specs.Requirements.{Known}
 use Rattle.scheme_model.specs.Steps.{Broken}
-use Rattle.scheme_model.specs.Order.{Pass, WaitingUse, meet_all, meet_waiting}
+use Rattle.scheme_model.specs.Order.{Note, Pass, WaitingUse, meet_all, meet_waiting}
 use Rattle.scheme_model.specs.ScopedExpansion.{Frames, FramedIdent, ScopedState}
 use Rattle.syntax_tree.specs.declared.trees.Work.{Work}
 use Rattle.syntax_tree.specs.declared.trees.table.Region.{Region}
 use Rattle.core_tree.specs.declared.traces.Trace.{Trace}
+use Rattle.core_tree.proofs.Matched.{as_many}
 use Rattle.feature_requirements.specs.declared.fault.ExpandFault.{ExpandFault}
 use Rattle.feature_requirements.specs.declared.fault.ExpandFault.TheVariants as fault
 use Rattle.form_notes.specs.Noted.{Noted, beginning}
-use Rattle.form_notes.specs.Standing.{HaveNotes}
+use Rattle.form_notes.specs.Standing.{HaveNotes, InOrder}
 use Rattle.form_parts.specs.declared.items.Left as code_left
+use Rattle.unit_scopes.specs.Kept.{NoteFor, NotesFor}
 use Rattle.unit_scopes.specs.Outcomes as plain
 use Rattle.unit_scopes.specs.Outcomes.{Leaves, MayFill}
 use Rattle.unit_scopes.specs.Searched.{searched}
 use Rattle.unit_scopes.specs.Units.{Sets, form_at}
+use Rattle.unit_scopes.specs.declared.asked.Asked.{Asked}
 use Rattle.unit_scopes.specs.declared.scope.Budget.{Budget}
 use Rattle.unit_scopes.specs.declared.scope.FormAtWork.{FormAtWork}
 use Rattle.unit_scopes.specs.declared.scope.UnitScope.{UnitScope}
@@ -78,6 +82,12 @@ module _ (old new : Work) (region : Region) (u u1 v : UnitScope) (same : u1 ≡ 
     ends_gone (Err fault.Full) p h = leaves_from h.0
     ends_gone (Err fault.Memory) p h = leaves_from h
 
+-- ---- notes of the unit
+
+-- as many as they stand for
+pub notes_counted : (work : Work) (ls : List Frames) (asked : Asked) (ns : List (Note FramedIdent)) → NotesFor work ls asked ns → length asked.notes.items ≡ length ns
+notes_counted work ls asked ns h = as_many (NoteFor work ls) asked.notes.items (reverse ns) h.notes ∙ length-reverse ns
+
 -- ---- what holds where it has ended
 
 module _ (old new : Work) (region : Region) (u v : UnitScope) (ls : List Frames) (holds : Type 0) where
@@ -113,8 +123,9 @@ pub note_turned : (work : Work) (u u1 : UnitScope) (number : ℕ) (budget : Budg
 note_turned work u u1 number budget trace uses editions ms s turn h = subst (λ (x : UnitScope). CanNote work x x.form.trace uses editions ms s) (sym turn) (record { tells = h.tells; notes = h.notes })
 
 -- the notes where a part has ended that noted all
-pub noted_ends : (work : Work) (v : UnitScope) (ls : List Frames) (s : Noting) → Stands work v ls s → s.exact ≡ true → HaveNotes work.symbols s.since v.form.trace.notes.notes s.noted → HasNoted work v.form.trace s
-noted_ends work v ls s e exact notes = record { notes = notes; begun = (e.notes exact).since.uses }
+pub noted_ends : (work : Work) (v : UnitScope) (ls : List Frames) (s : Noting) → Stands work v ls s → s.exact ≡ true → HaveNotes work.symbols s.since v.form.trace.notes.notes s.noted →
+    InOrder v.form.trace.notes.first v.form.trace.notes.notes (length s.since.own) → HasNoted work v.form.trace s
+noted_ends work v ls s e exact notes order = record { notes = notes; begun = (e.notes exact).since.uses; order = order; start = e.start exact }
 
 -- ---- uses that are met
 

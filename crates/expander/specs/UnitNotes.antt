@@ -18,7 +18,7 @@ use Rattle.core_tree.specs.declared.traces.Trace.{Trace}
 use Rattle.feature_requirements.specs.declared.fault.ExpandFault.{ExpandFault}
 use Rattle.feature_requirements.specs.declared.fault.ExpandFault.TheVariants as fault
 use Rattle.form_notes.specs.Noted.{Noted, beginning}
-use Rattle.form_notes.specs.Standing.{HaveNotes}
+use Rattle.form_notes.specs.Standing.{HaveNotes, InOrder}
 use Rattle.form_parts.specs.declared.items.Left as code_left
 use Rattle.unit_scopes.specs.Editions.{EditionsTell}
 use Rattle.unit_scopes.specs.Kept.{NotesFor}
@@ -27,6 +27,7 @@ use Rattle.unit_scopes.specs.Units.{LeftFor}
 use Rattle.unit_scopes.specs.declared.scope.UnitScope.{UnitScope}
 use Rattle.noted_steps.specs.Noting.{Noting, going, noting}
 use Rattle.noted_steps.specs.Outcomes.{Stays}
+use Rattle.noted_steps.specs.Standing.{StartsAt}
 
 abbrev pub Editions : Type 0
 Editions = ℕ → Option (Transformer Frames Identifier)
@@ -42,10 +43,12 @@ pub record CanNote (work : Work) (u : UnitScope) (trace : Trace) (uses : ℕ) (e
   pub tells : EditionsTell work.symbols u.macros s editions
   pub notes : HaveNotes work.symbols (beginning s.unit s.form uses editions) trace.notes.notes ms
 
--- the notes where it has ended, and how many uses there were where it began
+-- the notes where it has ended, in order from where it began, and what there was then
 pub record HasNoted (work : Work) (trace : Trace) (s : Noting) : Type 0 where
   pub notes : HaveNotes work.symbols s.since trace.notes.notes s.noted
   pub begun : trace.notes.begun ≡ s.since.uses
+  pub order : InOrder trace.notes.first trace.notes.notes (length s.since.own)
+  pub start : StartsAt trace.notes s.before s.anew
 
 -- a call that ended with its form, well or by a fault of the form
 abbrev pub OnEnded : {X : Type 0} → Result X ExpandFault → Type 0 → Type 0

@@ -284,7 +284,7 @@ fn expand_apart(
         Ends (λ layout. PartStands work.new units.new.unit units.new.form.number) work.old work.new region.now units.old units.new ls result
         (item_part (expand (searched known) enough_turns) (searched known) max_depth [] i s) }
     ensures noted { (known : Known) (ls : List Frames) (s : ScopedState) (notes : List (Note FramedIdent)) (i : ModelItem Identifier) (editions : Editions) (ms : List Noted) → Knows units.old.libraries known → Stands work.old units.old ls s →
-        ItemFor work.old region.now units.old.unit units.old.form.number item.now i → CanNote work.old units.old units.old.form.trace units.old.form.trace.notes.begun editions ms s →
+        NotesFor work.old ls units.old.asked notes → ItemFor work.old region.now units.old.unit units.old.form.number item.now i → CanNote work.old units.old units.old.form.trace units.old.form.trace.notes.begun editions ms s →
         OnEnded result (HasNoted work.new units.new.form.trace (expand_noting known i (part_begun units.old.form.trace.notes.begun notes editions ms s)).1) }
     ensures asked { units.new.asked ≡ units.old.asked }
     ensures work { Adds work.old work.new region.now units.old.form.budget }

@@ -47,7 +47,8 @@ module _ (old new : Names) (keeps : KeepsNames old new) where
   question_on r (code.Rules meaning edition) q a h = (h.0, h.1, h.2, meaning_on r.unit r.form meaning h.0 h.3)
   question_on r (code.Assigned ident is) q a h = (h.0, h.1, h.2, keeps.idents ident h.0 h.3)
   question_on r (code.Library name is) q a h = h
-  question_on r (code.Definition ident ends) q a h = (h.0, h.1, h.2, h.3, h.4, h.5, keeps.idents ident h.1.name h.6)
+  question_on r (code.Definition d ends) q a h =
+      (h.0, h.1, h.2, h.3, h.4, h.5, record { name = keeps.idents d.ident h.1.name h.6.name; place = h.6.place; keyword = h.6.keyword; asked = h.6.asked })
 
   note_on : (r : Since) (x : code_note.Note) (m : Noted) → IsNote old r x m → IsNote new r x m
   note_on r x m h = (h.0, question_on r x.question m.question m.answer h.1)

@@ -6,7 +6,7 @@ use Rattle.std.specs.Ordering.{nat_cmp}
 use Rattle.scheme_model.specs.ExpansionFaults.{Named}
 use Rattle.scheme_model.specs.Ident.{Ident as Identifier}
 use Rattle.scheme_model.specs.Meaning.{Meaning}
-use Rattle.scheme_model.specs.Order.{Note}
+use Rattle.scheme_model.specs.Order.{Note, is_some}
 use Rattle.scheme_model.specs.Requirements.{LibraryName}
 use Rattle.scheme_model.specs.RulesShape.{Rules}
 use Rattle.scheme_model.specs.ScopedExpansion.{Frames, FramedIdent}
@@ -17,6 +17,7 @@ use Rattle.syntax_tree.specs.Macros.{IsIdent}
 use Rattle.syntax_tree.specs.Meant.{IsMeaning}
 use Rattle.question_laws.specs.Noted.{is_defined_in}
 use Rattle.form_notes.specs.Noted.{Noted, Since}
+use Rattle.form_notes.specs.declared.notes.Definition.{Definition}
 use Rattle.form_notes.specs.declared.notes.Note as code_note
 use Rattle.form_notes.specs.declared.notes.Outcome as code_outcome
 use Rattle.form_notes.specs.declared.notes.Outcome.TheVariants as outcomes
@@ -36,6 +37,13 @@ abbrev pub failed_as : (redefines : Bool) → Outcome
 failed_as true = Redefines
 failed_as false = StoodBefore
 
+-- a definition in the unit, in view of these notes of its form
+pub record IsDefinitionOf (names : Names) (d : Definition) (x : Named Identifier) (rules : Option (Rules Identifier)) (ns : List (Note FramedIdent)) : Type 0 where
+  pub name : IsIdent names d.ident x.name
+  pub place : d.occ ≡ x.occ
+  pub keyword : d.keyword ≡ is_some rules
+  pub asked : d.asked ≡ length ns
+
 abbrev pub IsQuestion : Names → Since → code_question.Question → Question → Answer → Type 0
 IsQuestion names r (code.Lookup ident meaning keyword) q a =
     (i : Identifier) × (m : Meaning) × (q ≡ LooksUp i) × (a ≡ Means m keyword) × IsIdent names ident i × IsMeaning names r.unit r.form meaning m
@@ -43,8 +51,8 @@ IsQuestion names r (code.Literal literal ident holds) q a = (l : Identifier) × 
 IsQuestion names r (code.Rules meaning edition) q a = (m : Meaning) × (q ≡ UsesRules m) × (a ≡ Expands (r.editions edition)) × IsMeaning names r.unit r.form meaning m
 IsQuestion names r (code.Assigned ident is) q a = (i : Identifier) × (q ≡ IsAssigned i) × (a ≡ Says is) × IsIdent names ident i
 IsQuestion names r (code.Library name is) q a = (l : LibraryName) × (q ≡ Requires l) × (a ≡ Says is) × (name ≡ library_text l)
-IsQuestion names r (code.Definition ident ends) q a =
-    (fs : Frames) × (x : Named Identifier) × (rules : Option (Rules Identifier)) × (ns : List (Note FramedIdent)) × (q ≡ Defines fs x rules ns) × (a ≡ Ends (outcome_as ends)) × IsIdent names ident x.name
+IsQuestion names r (code.Definition d ends) q a =
+    (fs : Frames) × (x : Named Identifier) × (rules : Option (Rules Identifier)) × (ns : List (Note FramedIdent)) × (q ≡ Defines fs x rules ns) × (a ≡ Ends (outcome_as ends)) × IsDefinitionOf names d x rules ns
 
 abbrev pub IsNote : Names → Since → code_note.Note → Noted → Type 0
 IsNote names r x m = (x.behind ≡ m.behind) × IsQuestion names r x.question m.question m.answer
@@ -70,7 +78,7 @@ stood (code.Literal literal ident holds) = 0
 stood (code.Rules meaning edition) = 0
 stood (code.Assigned ident is) = 0
 stood (code.Library name is) = 0
-stood (code.Definition ident ends) = made_by ends
+stood (code.Definition d ends) = made_by ends
 
 -- a definition is behind all that were made by then; all else is so too, or was asked as at the start
 abbrev pub IsAsked : code_question.Question → (made behind : ℕ) → Type 0
@@ -79,7 +87,7 @@ IsAsked (code.Literal literal ident holds) made behind = (behind ≡ 0) ⊎ (beh
 IsAsked (code.Rules meaning edition) made behind = (behind ≡ 0) ⊎ (behind ≡ made)
 IsAsked (code.Assigned ident is) made behind = (behind ≡ 0) ⊎ (behind ≡ made)
 IsAsked (code.Library name is) made behind = (behind ≡ 0) ⊎ (behind ≡ made)
-IsAsked (code.Definition ident ends) made behind = behind ≡ made
+IsAsked (code.Definition d ends) made behind = behind ≡ made
 
 -- from so many definitions to so many
 abbrev pub RisesTo : List code_note.Note → ℕ → ℕ → Type 0
@@ -118,6 +126,11 @@ pub record NotesStand (names : Names) (x : code_noting.Noting) (r : Since) (ms :
 pub record NotingStands (names : Names) (x : code_noting.Noting) (r : Since) (ms : List Noted) : Type 0 where
   pub since : IsSince x r
   pub stands : x.lost ≡ false → NotesStand names x r ms
+
+-- the part at work is the one that was
+pub record SameStart (old new : code_noting.Noting) : Type 0 where
+  pub before : new.before ≡ old.before
+  pub first : new.first ≡ old.first
 
 -- a note more, or it is lost
 pub record Adds (old new : code_noting.Noting) (x : code_note.Note) : Type 0 where

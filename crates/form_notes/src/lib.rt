@@ -4,5 +4,5 @@
 pub mod notes;
 pub mod noting;
 
-pub use notes::{Note, Notes, Outcome, Question};
+pub use notes::{Definition, Note, Notes, Outcome, Question};
 pub use noting::Noting;

@@ -1,5 +1,6 @@
 //! A question of a form with the answer that it has.
 use ls_base::{Items, Text};
+use scheme_model::Occ;
 use syntax_tree::meaning::Meaning;
 use syntax_tree::symbols::IdNo;
 
@@ -9,6 +10,16 @@ pub enum Outcome {
     Stands,
     Redefines,
     StoodBefore,
+}
+
+/// A definition of an identifier in a unit: its place, whether it is a keyword's, and how many of the unit's notes, which tell what was
+/// looked up and compared before it, are its form's own.
+#[derive(Clone, Copy)]
+pub struct Definition {
+    pub ident: IdNo,
+    pub occ: Option<Occ>,
+    pub keyword: bool,
+    pub asked: usize,
 }
 
 /// A question with its answer.
@@ -43,7 +54,7 @@ pub enum Question {
     },
     /// How the definition of an identifier ends.
     Definition {
-        ident: IdNo,
+        definition: Definition,
         answer: Outcome,
     },
 }

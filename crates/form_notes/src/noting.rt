@@ -18,25 +18,26 @@ ghost use Rattle.syntax_tree.specs.Meant.{IsMeaning};
 ghost use Rattle.syntax_tree.specs.Numbered.{number_of};
 ghost use Rattle.question_laws.specs.Noted.{is_to_come, before_uses, is_defined_in, defines_within, answers_alone, compares_alone};
 ghost use Rattle.form_notes.specs.Noted.{Noted, Since, beginning, began, is_local, is_own, looked_up, compared, rules_used, assigned_as, required, defined_as, defining};
-ghost use Rattle.form_notes.specs.Standing.{HaveNotes, IsSince, OwnStands, NotingStands, Adds, failed_as, made_by, outcome_as};
+ghost use Rattle.form_notes.specs.Standing.{HaveNotes, IsDefinitionOf, IsSince, OwnStands, NotingStands, SameStart, Adds, failed_as, made_by, outcome_as};
 ghost use Rattle.form_notes.specs.declared.notes.Question.TheVariants as questions;
 
-use crate::notes::{Note, Notes, Outcome, Question};
+use crate::notes::{Definition, Note, Notes, Outcome, Question};
 use ls_base::{Items, Mem, Memory, Text};
 use std::alloc::Global;
 use std::collections::BTreeSet;
-use std::mem;
 use syntax_tree::meaning::Meaning;
 use syntax_tree::symbols::{IdNo, Ident, Symbols, UseNo};
 
-/// Where the part of a form at work began: its unit, its number, how many macro uses it had begun, and how many notes there were; what it
-/// has defined in the unit since; its notes, and whether one was lost for want of memory.
+/// Where the part of a form at work began: its unit, its number, how many macro uses it had begun, how many notes there were, and how many
+/// there were of what was looked up and compared in the unit; what it has defined in the unit since; its notes, and whether one was lost
+/// for want of memory.
 #[derive(Drop)]
 pub struct Noting {
     pub unit: u32,
     pub form: u32,
     pub begun: u32,
     pub first: usize,
+    pub before: usize,
     pub own: BTreeSet<IdNo>,
     pub notes: Notes,
     pub lost: bool,
@@ -53,6 +54,7 @@ impl Noting {
             form: 0,
             begun: 0,
             first: 0,
+            before: 0,
             own: BTreeSet::new(alloc),
             notes: Items::new(alloc),
             lost: false,
@@ -133,43 +135,22 @@ impl Noting {
         }
     }
 
-    /// The part of a form begins, which has begun so many macro uses; notes go on behind these.
-    pub fn begin(&mut self, alloc: Global, unit: u32, form: u32, begun: u32, notes: &mut Notes)
-        ensures begins { (names : Names) (editions : ℕ → Option (Transformer Frames Identifier)) (ms : List Noted) → let r = beginning unit form begun editions in
-            HaveNotes names r notes.old ms → NotingStands names self.new r ms }
-    {
-        self.unit = unit;
-        self.form = form;
-        self.begun = begun;
-        self.own = BTreeSet::new(alloc);
-        self.lost = false;
-        mem::swap(&mut self.notes, notes);
-        self.first = self.notes.as_slice().len();
-    }
-
-    /// The part of a form begins, which has begun so many macro uses; its notes go on behind those that there are.
-    pub fn restart(&mut self, alloc: Global, unit: u32, form: u32, begun: u32)
+    /// The part of a form begins, which has begun so many macro uses, where the unit had so many notes of what was looked up and compared; its
+    /// notes go on behind those that there are.
+    pub fn restart(&mut self, alloc: Global, unit: u32, form: u32, begun: u32, before: usize)
         ensures begins { (names : Names) (editions : ℕ → Option (Transformer Frames Identifier)) (ms : List Noted) → let r = beginning unit form begun editions in
             HaveNotes names r self.old.notes ms → NotingStands names self.new r ms }
         ensures notes { self.new.notes ≡ self.old.notes }
+        ensures before { self.new.before ≡ before }
+        ensures first { self.new.first ≡ length self.old.notes }
     {
         self.unit = unit;
         self.form = form;
         self.begun = begun;
         self.first = self.notes.as_slice().len();
+        self.before = before;
         self.own = BTreeSet::new(alloc);
         self.lost = false;
-    }
-
-    /// The part ends: its notes, unless some were lost.
-    pub fn end(&mut self, notes: &mut Notes) -> Mem<()>
-        ensures notes { (names : Names) (r : Since) (ms : List Noted) → NotingStands names self.old r ms → OnOk result (HaveNotes names r notes.new ms) }
-    {
-        mem::swap(&mut self.notes, notes);
-        if self.lost {
-            return Err(Memory);
-        }
-        Ok(())
     }
 
     /// Adds a note.
@@ -186,6 +167,7 @@ impl Noting {
         requires { ident < length symbols.now.idents }
         ensures noted { (r : Since) (ms : List Noted) (i : Identifier) (m : ModelMeaning) → NotingStands symbols.now self.old r ms → IsIdent symbols.now ident i → IsMeaning symbols.now r.unit r.form meaning m →
             NotingStands symbols.now self.new r (looked_up r i m keyword ++ ms) }
+        ensures start { SameStart self.old self.new }
     {
         if is_local(meaning) {
             return;
@@ -248,6 +230,7 @@ impl Noting {
         requires ident { ident < length symbols.now.idents }
         ensures noted { (r : Since) (ms : List Noted) (l i : Identifier) (m n : ModelMeaning) → NotingStands symbols.now self.old r ms → IsIdent symbols.now literal l → IsIdent symbols.now ident i →
             IsMeaning symbols.now r.unit r.form first m → IsMeaning symbols.now r.unit r.form second n → holds ≡ same_meaning m n → NotingStands symbols.now self.new r (compared r l i m n ++ ms) }
+        ensures start { SameStart self.old self.new }
     {
         if is_local(first) {
             return;
@@ -281,6 +264,7 @@ impl Noting {
     pub fn use_rules(&mut self, meaning: Meaning, edition: u64)
         ensures noted { (names : Names) (r : Since) (ms : List Noted) (m : ModelMeaning) → NotingStands names self.old r ms → IsMeaning names r.unit r.form meaning m →
             NotingStands names self.new r (rules_used r m (r.editions edition) ++ ms) }
+        ensures start { SameStart self.old self.new }
     {
         if !self.is_own_meaning(meaning) {
             self.push(0, Question::Rules { meaning, edition });
@@ -302,6 +286,7 @@ impl Noting {
     /// Notes whether a definition of an identifier in the unit is an assignment.
     pub fn assign(&mut self, ident: IdNo, answer: bool)
         ensures noted { (names : Names) (r : Since) (ms : List Noted) (i : Identifier) → NotingStands names self.old r ms → IsIdent names ident i → NotingStands names self.new r (assigned_as r i answer ++ ms) }
+        ensures start { SameStart self.old self.new }
     {
         if !self.is_own(self.unit, ident) {
             self.push(0, Question::Assigned { ident, answer });
@@ -311,35 +296,38 @@ impl Noting {
     /// Notes whether there is a library.
     pub fn require(&mut self, name: Text, answer: bool)
         ensures noted { (names : Names) (r : Since) (ms : List Noted) (l : LibraryName) → NotingStands names self.old r ms → name ≡ library_text l → NotingStands names self.new r (required l answer ++ ms) }
+        ensures start { SameStart self.old self.new }
     {
         self.push(0, Question::Library { name, answer });
     }
 
     /// Notes how a definition in the unit fails: it changes what a keyword was taken for, or its identifier is defined already.
-    pub fn fail_definition(&mut self, ident: IdNo, redefines: bool)
-        ensures noted { (names : Names) (r : Since) (ms : List Noted) (fs : Frames) (x : Named Identifier) (rules : Option (Rules Identifier)) (ns : List (Asked FramedIdent)) → NotingStands names self.old r ms → IsIdent names ident x.name →
-            NotingStands names self.new r (defined_as r fs x rules ns (failed_as redefines) ++ ms) }
+    pub fn fail_definition(&mut self, definition: Definition, redefines: bool)
+        ensures noted { (names : Names) (r : Since) (ms : List Noted) (fs : Frames) (x : Named Identifier) (rules : Option (Rules Identifier)) (ns : List (Asked FramedIdent)) → NotingStands names self.old r ms →
+            IsDefinitionOf names definition x rules ns → NotingStands names self.new r (defined_as r fs x rules ns (failed_as redefines) ++ ms) }
+        ensures start { SameStart self.old self.new }
     {
         let behind = self.behind(true);
         let answer = failure(redefines);
-        self.push(behind, Question::Definition { ident, answer });
+        self.push(behind, Question::Definition { definition, answer });
     }
 
     /// Notes that a definition in the unit stands. From here on the form has defined the identifier there, which it hadn't.
-    pub fn define(&mut self, symbols: &Symbols, ident: IdNo)
+    pub fn define(&mut self, symbols: &Symbols, definition: Definition)
         ensures defined { (r : Since) (ms : List Noted) (fs : Frames) (x : Named Identifier) (rules : Option (Rules Identifier)) (ns : List (Asked FramedIdent)) (keyword : Bool) → NotingStands symbols.now self.old r ms →
-            IsIdent symbols.now ident x.name → is_defined_in r.own r.unit x.name ≡ false → NotingStands symbols.now self.new (defining r x keyword) (defined_as r fs x rules ns Stands ++ ms) }
+            IsDefinitionOf symbols.now definition x rules ns → is_defined_in r.own r.unit x.name ≡ false → NotingStands symbols.now self.new (defining r x keyword) (defined_as r fs x rules ns Stands ++ ms) }
+        ensures start { SameStart self.old self.new }
     {
         symbols.told_apart();
         let behind = self.behind(true);
         self.push(
             behind,
             Question::Definition {
-                ident,
+                definition,
                 answer: Outcome::Stands,
             },
         );
-        match add(&mut self.own, ident) {
+        match add(&mut self.own, definition.ident) {
             Ok(()) => {}
             Err(Memory) => self.lost = true,
         }

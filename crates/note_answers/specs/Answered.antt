@@ -52,7 +52,7 @@ KeepsEdition work u v r (code.Rules c e) =
     (m : Meaning) → IsMeaning work.symbols v.state.unit v.state.form c m → r.editions e ≡ option_map bare_macro (macro_at v.state.macros m) → edition_in u.macros v.state.form c ≡ e
 KeepsEdition work u v r (code.Assigned n h) = Unit {0}
 KeepsEdition work u v r (code.Library x h) = Unit {0}
-KeepsEdition work u v r (code.Definition n o) = Unit {0}
+KeepsEdition work u v r (code.Definition d o) = Unit {0}
 
 -- what a note tells has its answer still, wherever it can be asked outside of all forms
 abbrev pub HasAnswer : Work → UnitScope → code_note.Note → Type 0

@@ -64,7 +64,7 @@ pub fn has_answer(units: &UnitScope, work: &Work, note: &Note) -> bool
         Question::Assigned { ident, answer } => is_assigned(units, *ident) == *answer,
         Question::Library { name, answer } => units.libraries.contains(name.as_str()) == *answer,
         Question::Definition {
-            ident: _,
+            definition: _,
             answer: _,
         } => true,
     }

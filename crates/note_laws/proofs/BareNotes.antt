@@ -1,6 +1,11 @@
 -- Notes of the code don't tell the times at which bodies were entered: they stand for notes exactly where they stand for these without times.
-use Rattle.std.proofs.Common.{◌≡◌, ◌↔◌, zero, suc, ◌<◌, List, [], ◌∷◌, map, length, true, false, refl, sym, ap, ◌∙◌, subst, arith, Contains}
+use Rattle.std.proofs.Common.{◌≡◌, ◌↔◌, zero, suc, ◌<◌, List, [], ◌∷◌, map, length, Option, true, false, refl, sym, ap, ◌∙◌, subst, arith, Contains}
+use Rattle.std.proofs.lemmas.List.{length-map}
 use Rattle.scheme_model.specs.Ident.{Ident}
+use Rattle.scheme_model.specs.ExpansionFaults.{Named}
+use Rattle.scheme_model.specs.Order.{Note, is_some}
+use Rattle.scheme_model.specs.RulesShape.{Rules}
+use Rattle.scheme_model.specs.ScopedExpansion.{FramedIdent}
 use Rattle.scheme_model.specs.Questions.{Question, LooksUp, UsesRules, Compares, IsAssigned, Requires, Defines, Answer, bare}
 use Rattle.scheme_model.specs.FormsAlike.{bare_note}
 use Rattle.syntax_tree.specs.Names.{Names}
@@ -35,13 +40,29 @@ from_map f (y ∷ ys) z (suc k, l, e) =
 
 -- ---- one note
 
-name_or : Ident → Question → Ident
+name_or : Named Ident → Question → Named Ident
 name_or d (LooksUp i) = d
 name_or d (UsesRules m) = d
 name_or d (Compares l i) = d
 name_or d (IsAssigned i) = d
 name_or d (Requires l) = d
-name_or d (Defines fs x r ns) = x.name
+name_or d (Defines fs x r ns) = x
+
+rules_or : Option (Rules Ident) → Question → Option (Rules Ident)
+rules_or d (LooksUp i) = d
+rules_or d (UsesRules m) = d
+rules_or d (Compares l i) = d
+rules_or d (IsAssigned i) = d
+rules_or d (Requires l) = d
+rules_or d (Defines fs x r ns) = r
+
+notes_or : List (Note FramedIdent) → Question → List (Note FramedIdent)
+notes_or d (LooksUp i) = d
+notes_or d (UsesRules m) = d
+notes_or d (Compares l i) = d
+notes_or d (IsAssigned i) = d
+notes_or d (Requires l) = d
+notes_or d (Defines fs x r ns) = ns
 
 -- what is no definition has no times
 timeless : (q r : Question) → is_definition r ≡ false → bare_question q ≡ r → q ≡ r
@@ -59,22 +80,33 @@ module _ (names : Names) (r : Since) where
   without (code.Rules meaning edition) q a h = (h.0, ap bare_question h.1, h.2, h.3)
   without (code.Assigned ident is) q a h = (h.0, ap bare_question h.1, h.2, h.3)
   without (code.Library name is) q a h = (h.0, ap bare_question h.1, h.2, h.3)
-  without (code.Definition ident ends) q a h = (bare h.0, h.1, h.2, map bare_note h.3, ap bare_question h.4, h.5, h.6)
+  without (code.Definition d ends) q a h =
+      let c = length-map h.3 bare_note in (bare h.0, h.1, h.2, map bare_note h.3, ap bare_question h.4, h.5, record { name = h.6.name; place = h.6.place; keyword = h.6.keyword; asked = h.6.asked ∙ sym c })
 
   -- a definition of the same identifier
   defined_with : (c : code_question.Question) (q : Question) (a : Answer) → IsQuestion names r c (bare_question q) a → IsQuestion names r c q a
-  unfolding name_or
+  unfolding name_or rules_or notes_or
   defined_with (code.Lookup ident meaning keyword) q a h = (h.0, h.1, timeless q (LooksUp h.0) refl h.2, h.3, h.4, h.5)
   defined_with (code.Literal literal ident holds) q a h = (h.0, h.1, timeless q (Compares h.0 h.1) refl h.2, h.3, h.4, h.5)
   defined_with (code.Rules meaning edition) q a h = (h.0, timeless q (UsesRules h.0) refl h.1, h.2, h.3)
   defined_with (code.Assigned ident is) q a h = (h.0, timeless q (IsAssigned h.0) refl h.1, h.2, h.3)
   defined_with (code.Library name is) q a h = (h.0, timeless q (Requires h.0) refl h.1, h.2, h.3)
-  defined_with (code.Definition ident ends) (Defines fs x rs ns) a h = (fs, x, rs, ns, refl, h.5, subst (IsIdent names ident) (sym (ap (name_or h.1.name) h.4)) h.6)
-  defined_with (code.Definition ident ends) (LooksUp i) a h = let z : false ≡ true = ap is_definition h.4 in absurd cc
-  defined_with (code.Definition ident ends) (UsesRules m) a h = let z : false ≡ true = ap is_definition h.4 in absurd cc
-  defined_with (code.Definition ident ends) (Compares l i) a h = let z : false ≡ true = ap is_definition h.4 in absurd cc
-  defined_with (code.Definition ident ends) (IsAssigned i) a h = let z : false ≡ true = ap is_definition h.4 in absurd cc
-  defined_with (code.Definition ident ends) (Requires l) a h = let z : false ≡ true = ap is_definition h.4 in absurd cc
+  defined_with (code.Definition d ends) (Defines fs x rs ns) a h =
+      let e = h.4 in
+      let name = sym (ap (name_or h.1) e) in
+      let rules = sym (ap (rules_or h.2) e) in
+      let notes = sym (ap (notes_or h.3) e) in
+      (fs, x, rs, ns, refl, h.5, record {
+        name = subst (λ (n : Named Ident). IsIdent names d.ident n.name) name h.6.name;
+        place = h.6.place ∙ ap (λ (n : Named Ident). n.occ) name;
+        keyword = h.6.keyword ∙ ap is_some rules;
+        asked = h.6.asked ∙ (ap length notes ∙ length-map ns bare_note);
+      })
+  defined_with (code.Definition d ends) (LooksUp i) a h = let z : false ≡ true = ap is_definition h.4 in absurd cc
+  defined_with (code.Definition d ends) (UsesRules m) a h = let z : false ≡ true = ap is_definition h.4 in absurd cc
+  defined_with (code.Definition d ends) (Compares l i) a h = let z : false ≡ true = ap is_definition h.4 in absurd cc
+  defined_with (code.Definition d ends) (IsAssigned i) a h = let z : false ≡ true = ap is_definition h.4 in absurd cc
+  defined_with (code.Definition d ends) (Requires l) a h = let z : false ≡ true = ap is_definition h.4 in absurd cc
 
   note_without : (x : code_note.Note) (m : Noted) → IsNote names r x m → IsNote names r x (bare_noted m)
   note_without x m h = (h.0, without x.question m.question m.answer h.1)

@@ -22,7 +22,7 @@ use Rattle.unit_scopes.specs.declared.scope.UnitScope.{UnitScope}
 use Rattle.unit_scopes.proofs.CountingStands as counting
 use Rattle.unit_scopes.proofs.OutcomeLaws.{names_itself}
 use Rattle.noted_steps.specs.Noting.{Noting, state_of, with_state}
-use Rattle.noted_steps.specs.Standing.{Stands}
+use Rattle.noted_steps.specs.Standing.{Stands, StartsAt}
 use Rattle.noted_steps.specs.Stepped.{spent, taken, met, met_use}
 use Rattle.noted_steps.proofs.NoteLaws.{plainly}
 use Rattle.noted_steps.proofs.EditionLaws.{editions_on}
@@ -57,6 +57,7 @@ noting_after old new u v ls ms n t keeps e p notes b unit form = record {
   since_form = e.since_form ∙ sym form;
   editions = editions_on old new keeps u v ls ms n t e p b.macros b.rules unit;
   notes = λ exact. subst (λ (x : code_noting.Noting). NotingStands new.symbols x n.since n.noted) (sym b.notes) (notes exact);
+  start = λ exact. subst (λ (x : code_noting.Noting). StartsAt x n.before n.anew) (sym b.notes) (e.start exact);
 }
 
 -- in the same work

@@ -1,14 +1,15 @@
 -- A definition while what is asked is noted: how it ends is noted where it stands in a unit, and from then on it is the form's own.
-use Rattle.std.proofs.Common.{◌≡◌, ℕ, ◌==◌, List, [], ◌∷◌, ◌++◌, Bool, true, false, cond, Option, Some, None, Result, Ok, Err, refl, sym, ap, ◌∙◌, subst}
-use Rattle.std.specs.Prelude.{◌&&◌}
+use Rattle.std.proofs.Common.{◌≡◌, ℕ, ◌-◌, ◌==◌, List, [], ◌∷◌, ◌++◌, length, reverse, arith, Bool, true, false, cond, Option, Some, None, Result, Ok, Err, refl, sym, ap, ◌∙◌, subst}
+use Rattle.std.specs.Prelude.{◌&&◌, is_some as is_there}
 use Rattle.std.proofs.lemmas.Bool.{false_from_ne_true}
+use Rattle.std.proofs.lemmas.List.{length-reverse, length-take-le}
 use Rattle.scheme_model.specs.Identifiers.{Number}
 use Rattle.scheme_model.specs.Ident.{Ident as Identifier, same_ident}
 use Rattle.scheme_model.specs.ExpansionFaults.{Named, KeywordRedefined, Duplicate, fault_code}
 use Rattle.scheme_model.specs.Meaning as model
 use Rattle.scheme_model.specs.RulesShape.{Rules}
 use Rattle.scheme_model.specs.Steps.{Broken}
-use Rattle.scheme_model.specs.Order.{Here, Assigns, Pending, Renamed, is_some, told}
+use Rattle.scheme_model.specs.Order.{Here, Assigns, Note, Pending, Renamed, is_some, told}
 use Rattle.scheme_model.specs.Requirements.{Known}
 use Rattle.scheme_model.specs.Questions.{Outcome, Stands as stands_outcome, outcome_by}
 use Rattle.scheme_model.specs.Substitution.{Defined, defined_in, unchanged}
@@ -22,9 +23,11 @@ use Rattle.syntax_tree.specs.declared.trees.Work.{Work}
 use Rattle.core_forms.specs.Parts.{IsName}
 use Rattle.core_forms.specs.declared.shape.NamePart.{NamePart}
 use Rattle.core_tree.specs.declared.traces.FormFault.{FormFault}
+use Rattle.core_tree.proofs.Matched.{as_many}
 use Rattle.question_laws.specs.Noted.{is_defined_in}
 use Rattle.form_notes.specs.Noted.{Noted, Since, assigned_as, defined_as, defining}
-use Rattle.form_notes.specs.Standing.{NotingStands, outcome_as}
+use Rattle.form_notes.specs.Standing.{IsDefinitionOf, NotingStands, SameStart, outcome_as}
+use Rattle.form_notes.specs.declared.notes.Definition.{Definition}
 use Rattle.form_notes.specs.declared.noting.Noting as code_noting
 use Rattle.feature_requirements.specs.declared.fault.ExpandFault.TheVariants as fault
 use Rattle.form_parts.specs.declared.items.Spot.{Spot}
@@ -36,15 +39,17 @@ use Rattle.unit_scopes.specs.Macros.{macro_in, same_key, IsBound}
 use Rattle.unit_scopes.specs.Outcomes.{SameForm}
 use Rattle.unit_scopes.specs.Searched.{define_searched}
 use Rattle.unit_scopes.specs.State as plain_state
+use Rattle.unit_scopes.specs.declared.asked.Asked.{Asked}
+use Rattle.unit_scopes.specs.declared.macros.Macro.{Macro}
 use Rattle.unit_scopes.specs.declared.scope.UnitScope.{UnitScope}
 use Rattle.unit_scopes.proofs.DefineLaws.{is_in_on}
 use Rattle.unit_scopes.proofs.OutcomeLaws.{same_itself}
 use Rattle.noted_steps.specs.Defined.{failed_as}
 use Rattle.noted_steps.specs.Kept.{SpotFor, EndsIn}
 use Rattle.noted_steps.specs.Noting.{Noting, state_of, with_state, next_number, assigned, in_unit, noting, refused, own_notes, ended, owned, define_by, define_noting}
-use Rattle.noted_steps.specs.Standing.{Stands, EditionsStand, with_notes}
+use Rattle.noted_steps.specs.Standing.{Stands, EditionsStand, StartsAt, with_notes}
 use Rattle.noted_steps.proofs.EditionLaws.{editions_beside, local_apart, global_apart, others_stay}
-use Rattle.noted_steps.proofs.NoteLaws.{plain_notes, notes_stand}
+use Rattle.noted_steps.proofs.NoteLaws.{plain_notes, notes_stand, starts_on}
 
 clash : {P : Type 0} → false ≡ true → P
 clash h = absurd cc
@@ -91,10 +96,10 @@ module _ (here : Here) (b : Option Number) (n : Named Identifier) (r : Option (R
 
 -- ---- whether it is an assignment
 
-pub assigned_ends : (known : Known) (work : Work) (u w : UnitScope) (ls : List Frames) (s : Noting) (spot : Spot) (fs : Frames) (i : Identifier) (answer : Bool) → Stands work u ls s → SpotFor work u ls s spot fs → w ≡ with_notes u w.form.trace.notes → (spot.in_body ≡ true → w ≡ u) →
+pub assigned_ends : (known : Known) (work : Work) (u w : UnitScope) (ls : List Frames) (s : Noting) (spot : Spot) (fs : Frames) (i : Identifier) (answer : Bool) → Stands work u ls s → SpotFor work u ls s spot fs → w ≡ with_notes u w.form.trace.notes → (spot.in_body ≡ true → w ≡ u) → SameStart u.form.trace.notes w.form.trace.notes →
     answer ≡ assigned s (body_around fs) i →
     ((r : Since) (ms : List Noted) → spot.in_body ≡ false → NotingStands work.symbols u.form.trace.notes r ms → NotingStands work.symbols w.form.trace.notes r (assigned_as r i answer ++ ms)) → Stands work w ls ((noting known).ask (Assigns fs i ∷ []) s)
-assigned_ends known work u w ls s spot fs i answer e placed rest inside tells noted = go spot.in_body refl placed.inside
+assigned_ends known work u w ls s spot fs i answer e placed rest inside same tells noted = go spot.in_body refl placed.inside
   where
     After : Option Number → Type 0
     After b = Stands work w ls (record s { noted = in_unit b (assigned_as s.since i (assigned s None i)) ++ s.noted })
@@ -106,10 +111,29 @@ assigned_ends known work u w ls s spot fs i answer e placed rest inside tells no
         let ms = assigned_as s.since i (assigned s None i) ++ s.noted in
         subst After (sym none)
         (subst (λ (y : UnitScope). Stands work y ls (record s { noted = ms })) (sym rest)
-        (notes_stand work u ls s w.form.trace.notes ms (λ exact. subst (λ (b : Bool). NotingStands work.symbols w.form.trace.notes s.since (assigned_as s.since i b ++ s.noted)) told_so (noted s.since s.noted out (e.notes exact))) e))
+        (notes_stand work u ls s w.form.trace.notes ms same (λ exact. subst (λ (b : Bool). NotingStands work.symbols w.form.trace.notes s.since (assigned_as s.since i b ++ s.noted)) told_so (noted s.since s.noted out (e.notes exact))) e))
     go true within h =
         let body : body_around fs ≡ Some h.body = ap body_around h.frames in
         subst After (sym body) (subst (λ (y : UnitScope). Stands work y ls s) (sym (inside within)) e)
+
+-- ---- as it is noted
+
+kept_so : (work : Work) (ls : List Frames) (fs : Frames) (k : Option Macro) (r : Option (Rules Identifier)) → plain_define.IsKept work ls fs k r → is_there k ≡ is_some r
+kept_so work ls fs None None h = refl
+kept_so work ls fs None (Some r) h = absurd h
+kept_so work ls fs (Some k) None h = absurd h
+kept_so work ls fs (Some k) (Some r) h = refl
+
+-- by its name, whether it is a keyword's, and how many of the unit's notes are its form's own
+pub noted_so : (work : Work) (u : UnitScope) (ls : List Frames) (s : Noting) (fs : Frames) (asked : Asked) (name : NamePart) (k : Option Macro) (keyword : Bool) (d : Definition) (n : Named Identifier) (r : Option (Rules Identifier)) (ns : List (Note FramedIdent)) →
+    Stands work u ls s → IsName work name n → plain_define.IsKept work ls fs k r → plain_kept.NotesFor work ls asked ns → s.exact ≡ true → keyword ≡ is_there k →
+    d ≡ record { ident = name.ident; occ = name.occ; keyword = keyword; asked = length asked.notes.items - u.form.trace.notes.before } → IsDefinitionOf work.symbols d n r (own_notes s ns)
+noted_so work u ls s fs asked name k keyword d n r ns e is kept notes exact tells made =
+    let all : length asked.notes.items ≡ length ns = as_many (plain_kept.NoteFor work ls) asked.notes.items (reverse ns) notes.notes ∙ length-reverse ns in
+    let before = (e.start exact).before in
+    let count = length-take-le (length ns - s.before) ns (omega arith) in
+    subst (λ (x : Definition). IsDefinitionOf work.symbols x n r (own_notes s ns)) (sym made)
+    (record { name = is.0; place = is.1; keyword = tells ∙ kept_so work ls fs k r kept; asked = (λ j. all j - before j) ∙ sym count })
 
 -- ---- it stands in a unit
 
@@ -138,8 +162,8 @@ module _ (work : Work) (apart : AreToldApart work.symbols.idents) (told_apart : 
         (λ m free. let q = global_apart s.since n (is_some r) m free in (q.0, ap (λ (k : ℕ). model.same_meaning (model.Global k n.name) m) (sym e.since_unit) ∙ q.1))
         (λ m other. others_stay l m fs r s.macros other) (e.editions exact)
 
-    pub unit_stands : plain_state.Stands work v ls (definition_added None n r fs (state_of s)) → (s.exact ≡ true → NotingStands work.symbols x (defining s.since n (is_some r)) o) → Stands work (with_notes v x) ls unit_state
-    unit_stands q notes =
+    pub unit_stands : plain_state.Stands work v ls (definition_added None n r fs (state_of s)) → (s.exact ≡ true → NotingStands work.symbols x (defining s.since n (is_some r)) o) → (s.exact ≡ true → StartsAt x s.before s.anew) → Stands work (with_notes v x) ls unit_state
+    unit_stands q notes start =
         let p = plain_notes work v ls (definition_added None n r fs (state_of s)) x q in
         record {
           unit = p.unit;
@@ -158,6 +182,7 @@ module _ (work : Work) (apart : AreToldApart work.symbols.idents) (told_apart : 
           since_form = e.since_form;
           editions = editions_in_unit;
           notes = notes;
+          start = start;
         }
 
   -- and in a body
@@ -186,6 +211,7 @@ module _ (work : Work) (apart : AreToldApart work.symbols.idents) (told_apart : 
           since_form = e.since_form;
           editions = λ exact. editions_beside work.symbols apart told_apart u.macros v.macros s in_body u.form.number m l bound means refl refl others (local_apart s.since (next_number s s.locals)) (λ d other. others_stay l d fs r s.macros other) (e.editions exact);
           notes = λ exact. subst (λ (x : code_noting.Noting). NotingStands work.symbols x s.since s.noted) (sym same) (e.notes exact);
+          start = λ exact. subst (λ (x : code_noting.Noting). StartsAt x s.before s.anew) (sym same) (e.start exact);
         }
 
 -- ---- the whole
@@ -200,7 +226,7 @@ same_on u v w rest h =
     subst (λ (x : UnitScope). SameForm u x) (sym rest) (record { unit = h.unit; number = h.number; root = h.root; libraries = h.libraries; roots = h.roots; uses = h.uses; nodes = h.nodes })
 
 module _ (work : Work) (u v w : UnitScope) (ls : List Frames) (s : Noting) (spot : Spot) (fs : Frames) (here : Here) (name : NamePart) (n : Named Identifier) (r : Option (Rules Identifier)) (p : Pending Identifier FramedIdent)
-    (e : Stands work u ls s) (placed : SpotFor work u ls s spot fs) (is : IsName work name n) (rest : w ≡ with_notes v w.form.trace.notes) (inside : spot.in_body ≡ true → w ≡ v) where
+    (e : Stands work u ls s) (placed : SpotFor work u ls s spot fs) (is : IsName work name n) (rest : w ≡ with_notes v w.form.trace.notes) (inside : spot.in_body ≡ true → w ≡ v) (start : SameStart v.form.trace.notes w.form.trace.notes) where
   abbrev around : Option Number
   around = body_around fs
 
@@ -217,7 +243,7 @@ module _ (work : Work) (u v w : UnitScope) (ls : List Frames) (s : Noting) (spot
 
   module _ (apart : AreToldApart work.symbols.idents) (told_apart : AreToldApart work.symbols.symbols) (notes : v.form.trace.notes ≡ u.form.trace.notes)
       (others : (f : ℕ) (m : code_meaning.Meaning) → same_key u.form.number (next_here u spot.in_body name.ident) f m ≡ false → macro_in v.macros f m ≡ macro_in u.macros f m)
-      (noted : (rs : Since) (ms : List Noted) (k : Bool) → spot.in_body ≡ false → NotingStands work.symbols v.form.trace.notes rs ms → is_defined_in rs.own rs.unit n.name ≡ false →
+      (noted : s.exact ≡ true → (rs : Since) (ms : List Noted) (k : Bool) → spot.in_body ≡ false → NotingStands work.symbols v.form.trace.notes rs ms → is_defined_in rs.own rs.unit n.name ≡ false →
       NotingStands work.symbols w.form.trace.notes (defining rs n k) (defined_as rs fs n r (own_notes s p.notes) stands_outcome ++ ms)) where
     abbrev goes : Option Number → Type 0
     goes b = plain_define.GoesTo work u v ls spot fs (definition_added b n r fs (state_of s))
@@ -236,7 +262,8 @@ module _ (work : Work) (u v w : UnitScope) (ls : List Frames) (s : Noting) (spot
         let x = w.form.trace.notes in
         let o = defined_as s.since fs n r (own_notes s p.notes) stands_outcome ++ s.noted in
         let stands = unit_stands work apart told_apart u v ls s name.ident n is.0 r fs e x o at_root q.stands
-        (λ exact. noted s.since s.noted (is_some r) out (subst (λ (y : code_noting.Noting). NotingStands work.symbols y s.since s.noted) (sym notes) (e.notes exact)) (not_own first)) in
+        (λ exact. noted exact s.since s.noted (is_some r) out (subst (λ (y : code_noting.Noting). NotingStands work.symbols y s.since s.noted) (sym notes) (e.notes exact)) (not_own first))
+        (λ exact. starts_on v.form.trace.notes x s.before s.anew start (subst (λ (y : code_noting.Noting). StartsAt y s.before s.anew) (sym notes) (e.start exact))) in
         subst (λ (y : Result (Renamed Identifier FramedIdent) Broken × Noting). EndsIn (Same p) work u w ls spot fs (Ok tt) y) (λ j. noting_by (sym none j) (sym first_refused j) (sym second j))
         (unchanged p, record { stands = subst (λ (y : UnitScope). Stands work y ls (unit_state work apart told_apart u v ls s name.ident n is.0 r fs e x o at_root)) (sym rest) stands; placed = spot_on work v w ls (definition_added None n r fs (state_of s)) spot fs rest q.placed; same = same_on u v w rest q.same }, refl, refl)
     made true within h first_refused second g =
@@ -259,7 +286,7 @@ module _ (work : Work) (u v w : UnitScope) (ls : List Frames) (s : Noting) (spot
   -- ---- it fails
 
   module _ (f : FormFault) (same : v ≡ u)
-      (noted : (rs : Since) (ms : List Noted) → spot.in_body ≡ false → NotingStands work.symbols v.form.trace.notes rs ms → NotingStands work.symbols w.form.trace.notes rs (defined_as rs fs n r (own_notes s p.notes) (outcome_as (failed_as f.code)) ++ ms)) where
+      (noted : s.exact ≡ true → (rs : Since) (ms : List Noted) → spot.in_body ≡ false → NotingStands work.symbols v.form.trace.notes rs ms → NotingStands work.symbols w.form.trace.notes rs (defined_as rs fs n r (own_notes s p.notes) (outcome_as (failed_as f.code)) ++ ms)) where
     over : w ≡ with_notes u w.form.trace.notes
     over = rest ∙ ap (λ (x : UnitScope). with_notes x w.form.trace.notes) same
 
@@ -277,7 +304,7 @@ module _ (work : Work) (u v w : UnitScope) (ls : List Frames) (s : Noting) (spot
         let x = w.form.trace.notes in
         subst (λ (b : Option Number). After (end_at b o)) (sym none) (
           subst (λ (y : UnitScope). Stands work y ls (end_at None o)) (sym over)
-              (notes_stand work u ls s x (defined_as s.since fs n r (own_notes s p.notes) o ++ s.noted) (λ exact. noted s.since s.noted out (subst (λ (y : UnitScope). NotingStands work.symbols y.form.trace.notes s.since s.noted) (sym same) (e.notes exact))) e),
+              (notes_stand work u ls s x (defined_as s.since fs n r (own_notes s p.notes) o ++ s.noted) (subst (λ (y : UnitScope). SameStart y.form.trace.notes x) same start) (λ exact. noted exact s.since s.noted out (subst (λ (y : UnitScope). NotingStands work.symbols y.form.trace.notes s.since s.noted) (sym same) (e.notes exact))) e),
           spot_on work u w ls (state_of s) spot fs over placed,
         )
     noted_end true within h =

@@ -51,4 +51,5 @@ kept_stands work u ls s ms c v k t n apart told keeps bound means is e =
           (λ g d other. keeps g d ∙ ap (λ (q : Bool). cond q (Some (numbered k n)) (macro_in u.macros g d)) (ap (λ (f : ℕ). same_key f c g d) e.form.number ∙ other)) (local_apart s.since v)
           (λ m other. ap (λ (q : Bool). cond q (Some t) (macro_at s.macros m)) other) (e.editions exact);
       notes = e.notes;
+      start = e.start;
     }

@@ -1,5 +1,6 @@
 pub mod PlainSides  -- An expansion that notes what it asks, and the same without notes, as two sides
 pub mod NoteLaws  -- A form's notes alone change
+pub mod PartBegins  -- A part of a form begins
 pub mod EditionLaws  -- The editions of macros tell their rules behind a step
 pub mod CountingStands  -- What is counted and what is met
 pub mod AskedLaws  -- Questions that are asked one list behind another

@@ -11,7 +11,7 @@ use Rattle.syntax_tree.specs.declared.meaning.Meaning as code_meaning
 use Rattle.core_tree.specs.Names.{AllMatch}
 use Rattle.syntax_tree.specs.declared.trees.Work.{Work}
 use Rattle.form_notes.specs.Noted.{Noted, looked_up}
-use Rattle.form_notes.specs.Standing.{NotingStands}
+use Rattle.form_notes.specs.Standing.{NotingStands, SameStart}
 use Rattle.form_notes.specs.declared.noting.Noting as code_noting
 use Rattle.unit_scopes.specs.Outcomes.{CanLook}
 use Rattle.unit_scopes.specs.State.{IsMacroIfAny}
@@ -26,7 +26,7 @@ use Rattle.noted_steps.specs.Kept as noted
 use Rattle.unit_scopes.specs.declared.macros.Macro.{Macro}
 use Rattle.unit_scopes.specs.declared.scope.UnitScope.{UnitScope}
 use Rattle.noted_steps.specs.Noting.{Noting, state_of, means_here, look_up, noting}
-use Rattle.noted_steps.specs.Standing.{Stands, with_notes}
+use Rattle.noted_steps.specs.Standing.{Stands, StartsAt, with_notes}
 
 -- what stands without notes
 pub plainly : (work : Work) (u : UnitScope) (ls : List Frames) (s : Noting) → Stands work u ls s → plain.Stands work u ls (state_of s)
@@ -44,9 +44,14 @@ plainly work u ls s e = record {
   count = e.count;
 }
 
+-- the part that is at work stays
+pub starts_on : (x y : code_noting.Noting) (before : ℕ) (anew : Bool) → SameStart x y → StartsAt x before anew → StartsAt y before anew
+starts_on x y before anew same h = record { before = same.before ∙ h.before; first = λ none. same.first ∙ h.first none }
+
 -- with other notes
-pub notes_stand : (work : Work) (u : UnitScope) (ls : List Frames) (s : Noting) (x : code_noting.Noting) (ms : List Noted) → (s.exact ≡ true → NotingStands work.symbols x s.since ms) → Stands work u ls s → Stands work (with_notes u x) ls (record s { noted = ms })
-notes_stand work u ls s x ms h e =
+pub notes_stand : (work : Work) (u : UnitScope) (ls : List Frames) (s : Noting) (x : code_noting.Noting) (ms : List Noted) → SameStart u.form.trace.notes x → (s.exact ≡ true → NotingStands work.symbols x s.since ms) → Stands work u ls s →
+    Stands work (with_notes u x) ls (record s { noted = ms })
+notes_stand work u ls s x ms same h e =
     let f = e.form in
     record {
       unit = e.unit;
@@ -76,16 +81,17 @@ notes_stand work u ls s x ms h e =
       since_form = e.since_form;
       editions = λ exact. let d = e.editions exact in record { none = d.none; tells = d.tells };
       notes = h;
+      start = λ exact. starts_on u.form.trace.notes x s.before s.anew same (e.start exact);
     }
 
 -- with other notes of the state alone
 pub notes_again : (work : Work) (u : UnitScope) (ls : List Frames) (s : Noting) (ms : List Noted) → (s.exact ≡ true → NotingStands work.symbols u.form.trace.notes s.since ms) → Stands work u ls s → Stands work u ls (record s { noted = ms })
-notes_again work u ls s ms h e = notes_stand work u ls s u.form.trace.notes ms h e
+notes_again work u ls s ms h e = notes_stand work u ls s u.form.trace.notes ms (record { before = refl; first = refl }) h e
 
 -- where one was lost, whatever was asked
 pub lost_stands : (work : Work) (u : UnitScope) (ls : List Frames) (s : Noting) (ms : List Noted) → Stands work u ls s → Stands work (with_notes u (record u.form.trace.notes { lost = true })) ls (record s { noted = ms })
 lost_stands work u ls s ms e =
-    notes_stand work u ls s (record u.form.trace.notes { lost = true }) ms
+    notes_stand work u ls s (record u.form.trace.notes { lost = true }) ms (record { before = refl; first = refl })
     (λ exact. let h = (e.notes exact).since in record { since = record { unit = h.unit; form = h.form; uses = h.uses }; stands = λ kept. absurd cc })
     e
 
@@ -163,13 +169,13 @@ copied_some None = refl
 copied_some (Some b) = refl
 
 -- what an identifier means was noted
-pub lookup_stands : (known : Known) (work : Work) (u : UnitScope) (ls : List Frames) (s : Noting) (fs : Frames) (i : Identifier) (c : code_meaning.Meaning) (k : Bool) (x : code_noting.Noting) → k ≡ is_some (macro_at s.macros (means_here s fs i)) →
+pub lookup_stands : (known : Known) (work : Work) (u : UnitScope) (ls : List Frames) (s : Noting) (fs : Frames) (i : Identifier) (c : code_meaning.Meaning) (k : Bool) (x : code_noting.Noting) → SameStart u.form.trace.notes x → k ≡ is_some (macro_at s.macros (means_here s fs i)) →
     IsMeaning work.symbols s.unit s.form c (means_here s fs i) →
     (NotingStands work.symbols u.form.trace.notes s.since s.noted → IsMeaning work.symbols s.since.unit s.since.form c (means_here s fs i) → NotingStands work.symbols x s.since (looked_up s.since i (means_here s fs i) k ++ s.noted)) →
     Stands work u ls s → Stands work (with_notes u x) ls ((noting known).ask (Headed fs i ∷ []) s)
-lookup_stands known work u ls s fs i c k x keyword means law e =
+lookup_stands known work u ls s fs i c k x same keyword means law e =
     let m = means_here s fs i in
-    notes_stand work u ls s x (look_up s fs i ++ s.noted)
+    notes_stand work u ls s x (look_up s fs i ++ s.noted) same
     (λ exact. subst (λ b. NotingStands work.symbols x s.since (looked_up s.since i m b ++ s.noted)) keyword
     (law (e.notes exact) (subst (λ n. IsMeaning work.symbols n s.since.form c m) (sym e.since_unit) (subst (λ n. IsMeaning work.symbols s.unit n c m) (sym e.since_form) means)))) e
 

@@ -53,21 +53,21 @@ owned_state : (b : Option Number) (n : Named Ident) (k : Bool) (s : Noting) → 
 owned_state None n k s = refl
 owned_state (Some b) n k s = refl
 
--- whether notes stand, and the editions that they are told by, are as they were
+-- whether notes stand, the editions that they are told by, and what notes there were before them, are as they were
 abbrev pub Kept : Noting → Noting → Type 0
-Kept s u = (u.exact ≡ s.exact) × (u.since.editions ≡ s.since.editions)
+Kept s u = (u.exact ≡ s.exact) × (u.since.editions ≡ s.since.editions) × (u.before ≡ s.before) × (u.anew ≡ s.anew)
 
 ended_kept : (b : Option Number) (n : Named Ident) (r : Option (Rules Ident)) (fs : Frames) (ns : List (Note FramedIdent)) (o : Outcome) (s : Noting) → Kept s (ended b n r fs ns o s)
-ended_kept None n r fs ns o s = (refl, refl)
-ended_kept (Some b) n r fs ns o s = (refl, refl)
+ended_kept None n r fs ns o s = (refl, refl, refl, refl)
+ended_kept (Some b) n r fs ns o s = (refl, refl, refl, refl)
 
 owned_kept : (b : Option Number) (n : Named Ident) (k : Bool) (s : Noting) → Kept s (owned b n k s)
-owned_kept None n k s = (refl, refl)
-owned_kept (Some b) n k s = (refl, refl)
+owned_kept None n k s = (refl, refl, refl, refl)
+owned_kept (Some b) n k s = (refl, refl, refl, refl)
 
 by_kept : (b : Option Number) (n : Named Ident) (r : Option (Rules Ident)) (fs : Frames) (p : Pending Ident FramedIdent) (o : Outcome) (s : Noting) → Kept s (define_by o b n r fs p s).1
-by_kept b n r fs p Redefines s = (refl, refl)
-by_kept b n r fs p StoodBefore s = (refl, refl)
+by_kept b n r fs p Redefines s = (refl, refl, refl, refl)
+by_kept b n r fs p StoodBefore s = (refl, refl, refl, refl)
 by_kept b n r fs p Stands s = owned_kept b n (is_some r) (with_state s (definition_added b n r fs (state_of s)))
 
 pub define_kept : (b : Option Number) (n : Named Ident) (r : Option (Rules Ident)) (fs : Frames) (p : Pending Ident FramedIdent) (s : Noting) → Kept s (define_noting b n r fs p s).1
@@ -76,7 +76,7 @@ define_kept b n r fs p s =
     let u = ended b n r fs p.notes o s in
     let x = ended_kept b n r fs p.notes o s in
     let y = by_kept b n r fs p o u in
-    (y.0 ∙ x.0, y.1 ∙ x.1)
+    (y.0 ∙ x.0, y.1 ∙ x.1, y.2 ∙ x.2, y.3 ∙ x.3)
 
 abbrev pub Same : Bound → Bound → Type 0
 Same x y = y ≡ x
@@ -142,52 +142,52 @@ module _ (known : Known) where
     notes = λ s fs. SameNotes;
     ruled = λ s m. Unit {0};
     ruled_there = λ s m a. tt;
-    itself = λ s. (refl, refl);
-    then_ = λ s t u a b. (b.0 ∙ a.0, b.1 ∙ a.1);
+    itself = λ s. (refl, refl, refl, refl);
+    then_ = λ s t u a b. (b.0 ∙ a.0, b.1 ∙ a.1, b.2 ∙ a.2, b.3 ∙ a.3);
     fits_later = λ s t a e f d. d;
     notes_later = λ s t a e ns ms d. d;
     more_notes = λ s e ns ms d n m h. (let a = note_same n m h in λ j. a j ∷ d j);
     placed = λ s e f d i. (λ j. record { frames = d j; ident = i });
     answered = λ s t h qs a. all_answered s t h qs;
     ask_back = λ s qs a. tt;
-    ask_later = λ s qs. (refl, refl);
+    ask_later = λ s qs. (refl, refl, refl, refl);
     ask_near = λ s t h qs rs a. h;
     ask_means = λ s qs e i. refl;
     ask_macro = λ s qs m. refl;
     ask_meant = λ t rs f i. refl;
     counts = λ s t h. ap (λ z. there.counted z) h;
     spend_back = λ s n a. tt;
-    spend_later = λ s n. (refl, refl);
+    spend_later = λ s n. (refl, refl, refl, refl);
     spend_near = λ s t h n. ap (λ z. there.spend n z) h;
     spend_means = λ s n e i. refl;
     spend_meant = λ t n f i. refl;
     meet_back = λ s x a. tt;
-    meet_later = λ s x. (refl, refl);
+    meet_later = λ s x. (refl, refl, refl, refl);
     meet_near = λ s t h x. ap (λ z. there.meet x z) h;
     meet_use_back = λ s u a. tt;
-    meet_use_later = λ s u. (refl, refl);
+    meet_use_later = λ s u. (refl, refl, refl, refl);
     meet_use_near = λ s t h u. ap (λ z. there.meet_use u z) h;
     next_use = λ s t h. ap (λ z. there.next_use z) h;
     begin_back = λ s e a. tt;
-    begin_later = λ s e f d. (refl, refl);
+    begin_later = λ s e f d. (refl, refl, refl, refl);
     begin_near = λ s t h e f d. (λ j. there.begin_use (d j) (h j));
     next_local = λ s t h. ap (λ z. there.next_local z) h;
     take_back = λ s a. tt;
-    take_later = λ s. (refl, refl);
+    take_later = λ s. (refl, refl, refl, refl);
     take_near = λ s t h. ap (λ z. there.take_local z) h;
     some_bound = λ s e f d. (here.next_bound e s, refl);
     next_bound = λ s t h e f d. (λ j. there.next_bound (d j) (h j));
     same_meant = λ e x y d i. ap (λ z. meaning_of z i) d;
     bind_back = λ s x e ts a. tt;
-    bind_later = λ s x e f d ts. (refl, refl);
+    bind_later = λ s x e f d ts. (refl, refl, refl, refl);
     bind_some = λ s x e f d ts. (Bind x (here.next_local s) ∷ e, refl);
     bind_near = λ s t h x e f d ts. (ap (λ z. there.take_local z) h, (λ j. Bind x (there.next_local (h j)) ∷ d j), refl);
     macro = λ s e f d m. macro_some (macro_at s.macros m);
     keep_back = λ s v r e a. tt;
-    keep_later = λ s v r e f d. (refl, refl);
+    keep_later = λ s v r e f d. (refl, refl, refl, refl);
     keep_near = λ s t h v r e f d. (λ j. there.keep v r (d j) (h j));
     enter_back = λ s e ts a. tt;
-    enter_later = λ s e f d ts. (refl, refl);
+    enter_later = λ s e f d ts. (refl, refl, refl, refl);
     enter_some = λ s e f d ts. ((here.enter e ts s).env, refl);
     enter_near = λ s t h e f d ts. ((λ j. (there.enter (d j) ts (h j)).state), (λ j. (there.enter (d j) ts (h j)).env), refl);
     entered = λ s e f d ts. refl;
@@ -243,6 +243,9 @@ module _ (known : Known) (turns : ℕ) where
 
   pub run_exact : (p : Pending Ident FramedIdent) (s : Noting) → (run (noting known) turns [] p s).1.exact ≡ s.exact
   run_exact p s = let kept = run_kept p s in kept.0
+
+  pub run_start : (p : Pending Ident FramedIdent) (s : Noting) → let t = (run (noting known) turns [] p s).1 in (t.before ≡ s.before) × (t.anew ≡ s.anew)
+  run_start p s = let kept = run_kept p s in (kept.2, kept.3)
 
   pub run_editions : (p : Pending Ident FramedIdent) (s : Noting) → (run (noting known) turns [] p s).1.since.editions ≡ s.since.editions
   run_editions p s = let kept = run_kept p s in kept.1

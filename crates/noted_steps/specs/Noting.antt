@@ -1,7 +1,7 @@
 -- Expansion that notes what it asks. Its state is that of the expansion by counted scopes, with what the part of the form at work began
 -- with and has defined since, and with the notes so far, latest first. It differs from unit_scopes' `searched` in nothing else, and comes
 -- to the same: see the law `runs_that_note`.
-use Rattle.std.specs.Prelude.{ℕ, suc, ◌+◌, ◌-◌, List, [], ◌∷◌, ◌++◌, length, take, Bool, true, ◌&&◌, Option, Some, None, Result, Ok, Err}
+use Rattle.std.specs.Prelude.{ℕ, suc, ◌+◌, ◌-◌, List, [], ◌∷◌, ◌++◌, length, take, Bool, true, false, ◌&&◌, Option, Some, None, Result, Ok, Err}
 use Rattle.scheme_model.specs.Identifiers.{Number}
 use Rattle.scheme_model.specs.Ident.{Ident, Inserted, same_ident, symbol_of}
 use Rattle.scheme_model.specs.ExpansionFaults.{Named, Fault, KeywordRedefined, Duplicate}
@@ -36,8 +36,9 @@ pub record Noting : Type 0 where
   pub since : Since
   -- whether the editions of macros tell their rules: only then notes are said to stand
   pub exact : Bool
-  -- how many notes of the unit's forms there were
+  -- how many notes of the unit's forms there were, and whether nothing was noted yet
   pub before : ℕ
+  pub anew : Bool
   pub noted : List Noted
 
 -- what isn't noted
@@ -79,6 +80,7 @@ with_state n s = record {
   since = n.since;
   exact = n.exact;
   before = n.before;
+  anew = n.anew;
   noted = n.noted;
 }
 
@@ -185,6 +187,10 @@ noting known = record {
 
 -- ---- where a part of a form begins
 
+abbrev pub is_nothing : List Noted → Bool
+is_nothing [] = true
+is_nothing (n ∷ ns) = false
+
 -- behind these notes
 abbrev pub going : (exact : Bool) → (before : ℕ) → Since → List Noted → ScopedState → Noting
 going exact before since noted s = record {
@@ -205,6 +211,7 @@ going exact before since noted s = record {
   since = since;
   exact = exact;
   before = before;
+  anew = is_nothing noted;
   noted = noted;
 }
 

@@ -44,6 +44,11 @@ pub record EditionsStand (names : Names) (ms : Macros) (s : Noting) : Type 0 whe
   pub tells : (form : ℕ) (c : code_meaning.Meaning) (m : Meaning) → IsMeaning names s.unit form c m → is_own s.since m ≡ false →
       s.since.editions (edition_in ms form c) ≡ map_option bare_macro (macro_at s.macros m)
 
+-- the part began where there were so many notes of the unit's forms; if nothing was noted yet, all notes are its own
+pub record StartsAt (x : code_noting.Noting) (count : ℕ) (anew : Bool) : Type 0 where
+  pub before : x.before ≡ count
+  pub first : anew ≡ true → x.first ≡ 0
+
 -- the scopes stand for the state, and the notes for its notes; what the form has defined in its unit is defined there
 pub record Stands (work : Work) (scope : code.UnitScope) (ls : List Frames) (s : Noting) : Type 0 where
   pub unit : scope.unit ≡ s.unit
@@ -62,6 +67,7 @@ pub record Stands (work : Work) (scope : code.UnitScope) (ls : List Frames) (s :
   pub since_form : s.since.form ≡ s.form
   pub editions : s.exact ≡ true → EditionsStand work.symbols scope.macros s
   pub notes : s.exact ≡ true → NotingStands work.symbols scope.form.trace.notes s.since s.noted
+  pub start : s.exact ≡ true → StartsAt scope.form.trace.notes s.before s.anew
 
 -- a use of an identifier in the code, inside some frames
 abbrev pub TargetFor : Work → Noting → Frames → code_target.Target → Named Identifier → Type 0

@@ -1,5 +1,5 @@
 //! Definitions while what is asked is noted (R7RS 5.3): how each of the unit's ends, and whether one is an assignment.
-ghost use Rattle.std.specs.Prelude.{◌≡◌, ◌+◌, ◌++◌, ◌≤◌, List, [], ◌∷◌, Bool, true, false, Option, OnOk};
+ghost use Rattle.std.specs.Prelude.{◌≡◌, ◌+◌, ◌-◌, ◌++◌, ◌≤◌, List, [], ◌∷◌, length, Bool, true, false, Option, OnOk};
 ghost use Rattle.scheme_model.specs.ExpansionFaults.{Named};
 ghost use Rattle.scheme_model.specs.Ident.{Ident as Identifier};
 ghost use Rattle.scheme_model.specs.Order.{Assigns, Note as Asking, Pending, Renamed, told};
@@ -14,7 +14,7 @@ ghost use Rattle.syntax_tree.specs.declared.trees.Work.{Work as AnyWork};
 ghost use Rattle.core_forms.specs.Parts.{IsName};
 ghost use Rattle.question_laws.specs.Noted.{is_defined_in};
 ghost use Rattle.form_notes.specs.Noted.{Noted, Since, assigned_as, defined_as, defining};
-ghost use Rattle.form_notes.specs.Standing.{NotingStands, outcome_as};
+ghost use Rattle.form_notes.specs.Standing.{IsDefinitionOf, NotingStands, SameStart, outcome_as};
 ghost use Rattle.unit_scopes.specs.Defining.{HasNumber, IsKept, Takes};
 ghost use Rattle.unit_scopes.specs.Kept.{NotesFor};
 ghost use Rattle.unit_scopes.specs.State.{most_locals};
@@ -25,6 +25,7 @@ ghost use Rattle.noted_steps.specs.Standing.{Stands, with_notes};
 
 use core_forms::NamePart;
 use feature_requirements::fault::{ExpandFault, code};
+use form_notes::Definition;
 use form_parts::items::Spot;
 use scheme_model::Occ;
 use syntax_tree::symbols::IdNo;
@@ -52,6 +53,7 @@ fn note_assigned(units: &mut UnitScope, spot: Spot, ident: IdNo, answer: bool)
     ensures noted { (names : Names) (r : Since) (ms : List Noted) (i : Identifier) → spot.in_body ≡ false → NotingStands names units.old.form.trace.notes r ms → IsIdent names ident i →
         NotingStands names units.new.form.trace.notes r (assigned_as r i answer ++ ms) }
     ensures rest { units.new ≡ with_notes units.old units.new.form.trace.notes }
+    ensures start { SameStart units.old.form.trace.notes units.new.form.trace.notes }
 {
     if spot.in_body {
         return;
@@ -59,7 +61,8 @@ fn note_assigned(units: &mut UnitScope, spot: Spot, ident: IdNo, answer: bool)
     units.form.trace.notes.assign(ident, answer);
 }
 
-/// Defines a name, as a macro where one is handed in. How that ends in a unit is noted.
+/// Defines a name, as a macro where one is handed in. How that ends in a unit is noted, with how many of these notes of the unit are the
+/// form's own.
 pub fn define(
     units: &mut UnitScope,
     work: &Work,
@@ -78,13 +81,14 @@ pub fn define(
     ensures counts { OnOk result (Takes 1 units.old units.new) }
 {
     work.symbols.told_apart();
+    let definition = definition(units, name, kept.is_some(), asked);
     match units.define(work, spot, here, name, kept, asked) {
         Ok(()) => {
-            note_made(units, work, spot, name.ident);
+            note_made(units, work, spot, definition);
             Ok(())
         }
         Err(ExpandFault::At(fault)) => {
-            note_failed(units, spot, name.ident, fault.code);
+            note_failed(units, spot, definition, fault.code);
             Err(ExpandFault::At(fault))
         }
         Err(ExpandFault::Full) => Err(ExpandFault::Full),
@@ -92,31 +96,51 @@ pub fn define(
     }
 }
 
+/// A definition in a unit as it is noted, where these are the unit's notes of what was looked up and compared.
+fn definition(units: &UnitScope, name: NamePart, keyword: bool, asked: &Asked) -> Definition
+    ensures { result ≡ record { ident = name.ident; occ = name.occ; keyword = keyword; asked = length asked.now.notes.items - units.now.form.trace.notes.before } }
+{
+    Definition {
+        ident: name.ident,
+        occ: name.occ,
+        keyword,
+        asked: asked
+            .count()
+            .saturating_sub(units.form.trace.notes.before),
+    }
+}
+
 /// Notes that a definition in a unit stands. From then on it is the form's own.
-fn note_made(units: &mut UnitScope, work: &Work, spot: Spot, ident: IdNo)
+fn note_made(units: &mut UnitScope, work: &Work, spot: Spot, definition: Definition)
     ensures inside { spot.in_body ≡ true → units.new ≡ units.old }
     ensures noted { (r : Since) (ms : List Noted) (fs : Frames) (x : Named Identifier) (rules : Option (Rules Identifier)) (ns : List (Asking FramedIdent)) (keyword : Bool) → spot.in_body ≡ false →
-        NotingStands work.now.symbols units.old.form.trace.notes r ms → IsIdent work.now.symbols ident x.name → is_defined_in r.own r.unit x.name ≡ false →
+        NotingStands work.now.symbols units.old.form.trace.notes r ms → IsDefinitionOf work.now.symbols definition x rules ns → is_defined_in r.own r.unit x.name ≡ false →
         NotingStands work.now.symbols units.new.form.trace.notes (defining r x keyword) (defined_as r fs x rules ns StandsOutcome ++ ms) }
     ensures rest { units.new ≡ with_notes units.old units.new.form.trace.notes }
+    ensures start { SameStart units.old.form.trace.notes units.new.form.trace.notes }
 {
     if spot.in_body {
         return;
     }
-    units.form.trace.notes.define(&work.symbols, ident);
+    units.form.trace.notes.define(&work.symbols, definition);
 }
 
 /// Notes how a definition in a unit failed, by the number of its fault.
-fn note_failed(units: &mut UnitScope, spot: Spot, ident: IdNo, number: u32)
+fn note_failed(units: &mut UnitScope, spot: Spot, definition: Definition, number: u32)
     ensures inside { spot.in_body ≡ true → units.new ≡ units.old }
     ensures noted { (names : Names) (r : Since) (ms : List Noted) (fs : Frames) (x : Named Identifier) (rules : Option (Rules Identifier)) (ns : List (Asking FramedIdent)) → spot.in_body ≡ false →
-        NotingStands names units.old.form.trace.notes r ms → IsIdent names ident x.name →
+        NotingStands names units.old.form.trace.notes r ms → IsDefinitionOf names definition x rules ns →
         NotingStands names units.new.form.trace.notes r (defined_as r fs x rules ns (outcome_as (failed_as number)) ++ ms) }
     ensures rest { units.new ≡ with_notes units.old units.new.form.trace.notes }
+    ensures start { SameStart units.old.form.trace.notes units.new.form.trace.notes }
 {
     if spot.in_body {
         return;
     }
     let redefines = number == code::KEYWORD_REDEFINED;
-    units.form.trace.notes.fail_definition(ident, redefines);
+    units
+        .form
+        .trace
+        .notes
+        .fail_definition(definition, redefines);
 }

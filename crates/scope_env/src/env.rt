@@ -212,6 +212,14 @@ impl Env {
         self.scopes[scope].bound.get(&ident).copied()
     }
 
+    /// What this very scope binds an identifier to. It takes no memory.
+    pub fn bound(&self, scope: ScopeNo, ident: IdNo) -> Option<Meaning>
+        requires { scope < length self.now.scopes }
+        ensures { result ≡ bound_at self.now scope ident }
+    {
+        self.here(scope, ident, None)
+    }
+
     /// Whether this very scope binds an identifier. It takes no memory.
     pub fn binds(&self, scope: ScopeNo, ident: IdNo) -> bool
         requires { scope < length self.now.scopes }

@@ -234,18 +234,6 @@ same_kept u w ms h =
 
 -- ---- it ends well
 
-module _ (work : Work) (u w : UnitScope) (ls : List Frames) (s : ScopedState) (spot : Spot) (fs : Frames) (here : Here) (n : Named Identifier) (r : Option (Rules Identifier)) (p : Pending Identifier FramedIdent) where
-  abbrev at_state : ScopedState
-  at_state = definition_added (body_around fs) n r fs s
-
-  pub made_ends : (k : Bool) → k ≡ is_some r → changes n.name at_state (meaning_next s (body_around fs) n.name) k p.notes ≡ false → is_defined s (body_around fs) n.name ≡ false → Stands work w ls at_state → SpotFor work w ls at_state spot fs → SamePlace u w →
-      EndsIn (λ (done : Unit {0}) (made : Renamed Identifier FramedIdent). made ≡ unchanged p) work u w ls spot fs (Ok tt) (told here (define_searched (body_around fs) n r fs p s))
-  made_ends k tells none first stands placed same =
-      let no = ap (λ (b : Bool). changes n.name at_state (meaning_next s (body_around fs) n.name) b p.notes) (sym tells) ∙ none in
-      subst (λ (q : Result (Renamed Identifier FramedIdent) Broken × ScopedState). EndsIn (λ (done : Unit {0}) (made : Renamed Identifier FramedIdent). made ≡ unchanged p) work u w ls spot fs (Ok tt) q)
-      (sym (is_made here (body_around fs) n r fs p s no first))
-      (unchanged p, record { stands = stands; placed = placed; same = same.same }, refl, refl)
-
 -- neither its notes nor the macros change
 pub placed_notes : (u w : UnitScope) (b k : Bool) (scope : ℕ) (name : NamePart) (m : Meaning) → Places u w b scope name m k → w.form.trace.notes ≡ u.form.trace.notes
 placed_notes u w true k scope name m p = λ j. (p j).form.trace.notes
@@ -269,15 +257,6 @@ kept_tells work ls fs None None h = refl
 kept_tells work ls fs None (Some r) h = absurd h
 kept_tells work ls fs (Some k) None h = absurd h
 kept_tells work ls fs (Some k) (Some r) h = refl
-
-pub none_kept : (work : Work) (ls : List Frames) (fs : Frames) (k : Option Macro) (r : Option (Rules Identifier)) → k ≡ None → IsKept work ls fs k r → r ≡ None
-none_kept work ls fs k None none h = refl
-none_kept work ls fs k (Some r) none h = absurd (subst (λ (o : Option Macro). IsKept work ls fs o (Some r)) none h)
-
--- the rules of what is kept
-pub some_kept : (work : Work) (ls : List Frames) (fs : Frames) (k : Option Macro) (m : Macro) (r : Option (Rules Identifier)) → k ≡ Some m → IsKept work ls fs k r → (x : Rules Identifier) × (r ≡ Some x) × IsMacro work ls m (record { env = fs; rules = x })
-some_kept work ls fs k m None is h = absurd (subst (λ (o : Option Macro). IsKept work ls fs o None) is h)
-some_kept work ls fs k m (Some x) is h = (x, refl, subst (λ (o : Option Macro). IsKept work ls fs o (Some x)) is h)
 
 -- nothing was defined so before
 no_definition : {A : Type 0} (o : Option A) → is_some o ≡ false → o ≡ None

@@ -26,6 +26,7 @@ pub mod RestLaws  -- Between two calls, when no form is at work
 pub mod NodeLaws  -- A core node that begins, and nodes that are counted
 pub mod SearchedNotes  -- The notes that speak of an identifier, by their numbers
 pub mod DefineLaws  -- A definition where forms are gone through
+pub mod MadeLaws  -- A definition that stands
 pub mod NotesStand  -- Notes stand for the same where the work has grown, and one more is the newest
 pub mod CallLaws  -- Work goes to a form and comes back
 pub mod PreludeLaws  -- The prelude's unit

@@ -1,4 +1,5 @@
 -- Definitions in the code (R7RS 5.3 to 5.5).
+use Rattle.std.specs.Prelude.{is_some as is_kept}
 use Rattle.std.specs.Prelude.{◌≡◌, ℕ, ◌+◌, ◌≤◌, List, [], ◌∷◌, Bool, true, false, Option, Some, None, Result, Ok, Err, if◌then◌else◌, ◌&&◌}
 use Rattle.std.specs.BTreeMap.{BTreeMap, get, btree_map_len}
 use Rattle.std.specs.Ordering.{nat_cmp, is_eq}
@@ -13,7 +14,7 @@ use Rattle.scheme_model.specs.Identifiers.{Number}
 use Rattle.scheme_model.specs.CountedExpansion.{refused_here}
 use Rattle.scheme_model.specs.Questions.{Outcome, outcome_by}
 use Rattle.scheme_model.specs.Substitution.{any}
-use Rattle.scheme_model.specs.ScopedExpansion.{Frames, FramedIdent, ScopedState, definition_added, meaning_next, is_defined}
+use Rattle.scheme_model.specs.ScopedExpansion.{Frames, FramedIdent, ScopedState, body_around, definition_added, meaning_next, is_defined}
 use Rattle.unit_scopes.specs.Searched.{speaks_of}
 use Rattle.syntax_tree.specs.Macros.{IsIdent}
 use Rattle.syntax_tree.specs.Meant.{IsMeaning}
@@ -24,7 +25,7 @@ use Rattle.scope_env.specs.Environment.{with_bound}
 use Rattle.core_forms.specs.Parts.{IsName}
 use Rattle.core_forms.specs.declared.shape.NamePart.{NamePart}
 use Rattle.unit_scopes.specs.Binds.{with_locals}
-use Rattle.unit_scopes.specs.Stepped.{with_told}
+use Rattle.unit_scopes.specs.Stepped.{with_told, with_macros}
 use Rattle.unit_scopes.specs.State.{IsMacro, EnvStands, Stands}
 use Rattle.unit_scopes.specs.Kept.{NotesFor, SpotFor}
 use Rattle.unit_scopes.specs.Outcomes.{SameForm, Breaks}
@@ -34,6 +35,8 @@ use Rattle.feature_requirements.specs.declared.fault.ExpandFault.{ExpandFault}
 use Rattle.feature_requirements.specs.declared.fault.ExpandFault.TheVariants as fault
 use Rattle.form_parts.specs.declared.items.Spot as code_spot
 use Rattle.unit_scopes.specs.declared.macros.Macro as code_macro
+use Rattle.unit_scopes.specs.declared.macros.Macros as code_macros
+use Rattle.unit_scopes.specs.Macros.{Keeps, numbered}
 use Rattle.unit_scopes.specs.declared.scope.UnitScope.{UnitScope}
 
 -- ---- what calls demand
@@ -47,6 +50,17 @@ pub record CanGo (work : Work) (u : UnitScope) (spot : code_spot.Spot) (asked : 
   pub stands : Stands work u layout state
   pub placed : SpotFor work u layout state spot frames
   pub notes : NotesFor work layout asked found
+
+-- and what is defined here has no definition yet
+pub record CanMake (work : Work) (u : UnitScope) (spot : code_spot.Spot) (name : NamePart) : Type 0 where
+  pub layout : List Frames
+  pub state : ScopedState
+  pub frames : Frames
+  pub named : Named Identifier
+  pub stands : Stands work u layout state
+  pub placed : SpotFor work u layout state spot frames
+  pub is : IsName work name named
+  pub new : is_defined state (body_around frames) named.name ≡ false
 
 abbrev pub HasNumber : Work → NamePart → Type 0
 HasNumber work name = (n : Named Identifier) × IsName work name n
@@ -90,6 +104,17 @@ IsKept work ls fs None None = Unit {0}
 IsKept work ls fs None (Some r) = ⊥
 IsKept work ls fs (Some k) None = ⊥
 IsKept work ls fs (Some k) (Some r) = IsMacro work ls k (record { env = fs; rules = r })
+
+-- a macro, where there is one, is kept with its own edition, or with the next one
+abbrev pub KeepsAny : code_macros.Macros → code_macros.Macros → ℕ → code_meaning.Meaning → Option code_macro.Macro → (again : Bool) → Type 0
+KeepsAny old new form m None again = new ≡ old
+KeepsAny old new form m (Some k) true = Keeps old new form m k
+KeepsAny old new form m (Some k) false = Keeps old new form m (numbered k (old.editions + 1))
+
+-- the name is bound there, and its macro is kept
+pub record IsPlaced (u v : UnitScope) (spot : code_spot.Spot) (name : NamePart) (kept : Option code_macro.Macro) (again : Bool) : Type 0 where
+  pub scope : Places u (with_macros v u.macros) spot.in_body spot.scope name (next_here u spot.in_body name.ident) (is_kept kept)
+  pub macros : KeepsAny u.macros v.macros u.form.number (next_here u spot.in_body name.ident) kept again
 
 -- at most so many locals were taken, and nothing else was counted
 pub record Takes (most : ℕ) (u v : UnitScope) : Type 0 where

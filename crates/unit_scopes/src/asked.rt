@@ -201,6 +201,13 @@ impl Asked {
         }
     }
 
+    /// How many notes there are.
+    pub fn count(&self) -> usize
+        ensures { result ≡ length self.now.notes.items }
+    {
+        self.notes.len()
+    }
+
     /// The note with this number.
     pub fn note(&self, number: usize) -> Note
         requires { number < length self.now.notes.items }

@@ -9,7 +9,7 @@ ghost use Rattle.scheme_model.specs.Meaning.{Meaning as ModelMeaning};
 ghost use Rattle.scheme_model.specs.Requirements.{Known};
 ghost use Rattle.scheme_model.specs.RulesShape.{Rules};
 ghost use Rattle.scheme_model.specs.Order.{Note as ModelNote, Pending, Renamed, binder_at, told, is_some};
-ghost use Rattle.scheme_model.specs.ScopedExpansion.{Frames, FramedIdent, ScopedState, body_around, meaning_next, is_defined, assigned};
+ghost use Rattle.scheme_model.specs.ScopedExpansion.{Frames, FramedIdent, ScopedState, body_around, definition_added, meaning_next, is_defined, assigned};
 ghost use Rattle.scheme_model.specs.Substitution.{any, differ, unchanged};
 ghost use Rattle.syntax_tree.specs.Macros.{IsIdent};
 ghost use Rattle.syntax_tree.specs.Meant.{IsMeaning};
@@ -19,12 +19,13 @@ ghost use Rattle.core_forms.specs.Parts.{IsName};
 ghost use Rattle.core_tree.specs.Names.{IsBinder};
 ghost use Rattle.core_tree.specs.declared.traces.FormFault.{FormFault as AnyFault};
 ghost use Rattle.feature_requirements.specs.declared.fault.ExpandFault.TheVariants.{At};
-ghost use Rattle.unit_scopes.specs.Macros.{macro_in, same_key};
+ghost use Rattle.unit_scopes.specs.Macros.{macro_in, same_key, IsBound};
 ghost use Rattle.unit_scopes.specs.Searched.{speaks_of, searched};
 ghost use Rattle.unit_scopes.specs.State.{Stands, most_locals};
 ghost use Rattle.unit_scopes.specs.Kept.{NoteFor, NotesFor, PlaceFor, SpotFor};
 ghost use Rattle.form_notes.specs.Standing.{outcome_as};
-ghost use Rattle.unit_scopes.specs.Defining.{CanGo, HasNumber, ComesTo, CanRefuse, next_here, Places, IsKept, Takes, EndsIn, outcome_here};
+ghost use Rattle.unit_scopes.specs.Defining.{CanGo, CanMake, HasNumber, ComesTo, CanRefuse, next_here, Places, IsKept, KeepsAny, IsPlaced, Takes, GoesTo, EndsIn, outcome_here};
+ghost use Rattle.unit_scopes.specs.Stepped.{with_macros};
 
 use crate::asked::{Asked, Asking, Note};
 use crate::counting::fails_at;
@@ -106,29 +107,49 @@ impl UnitScope {
         ensures others { (f : ℕ) (m : AnyMeaning) → same_key self.old.form.number (next_here self.old spot.in_body name.ident) f m ≡ false →
             OnOk result (macro_in self.new.macros f m ≡ macro_in self.old.macros f m) }
     {
+        match self.outcome(work, spot, name, kept.is_some(), asked) {
+            Outcome::Redefines => Err(fails_at(here, code::KEYWORD_REDEFINED, name)),
+            Outcome::StoodBefore => Err(fails_at(here, code::DUPLICATE, name)),
+            Outcome::Stands => Ok(self.make(work, spot, name, kept, false)?),
+        }
+    }
+
+    /// Makes a definition that stands, as a macro's where one is handed in: `again` tells that the macro keeps its edition, in place of
+    /// the next one.
+    pub fn make(
+        &mut self,
+        work: &Work,
+        spot: Spot,
+        name: NamePart,
+        kept: Option<Macro>,
+        again: bool,
+    ) -> Mem<()>
+        requires can { CanMake work.now self.old spot name }
+        requires room { self.old.form.budget.locals + 1 ≤ most_locals self.old.form.budget.nodes }
+        ensures made { (ls : List Frames) (s : ScopedState) (fs : Frames) (n : Named Identifier) (r : Option (Rules Identifier)) → Stands work.now self.old ls s → SpotFor work.now self.old ls s spot fs →
+            IsName work.now name n → IsKept work.now ls fs kept r → OnOk result (GoesTo work.now self.old self.new ls spot fs (definition_added (body_around fs) n r fs s)) }
+        ensures placed { OnOk result (IsPlaced self.old self.new spot name kept again) }
+    {
         work.symbols.told_apart();
         self.env.sound();
         let meaning = self.next_meaning(spot, name.ident);
-        let coming = Coming {
-            bound: Bound {
-                scope: spot.scope,
-                ident: name.ident,
-                meaning,
-            },
-            is_macro: kept.is_some(),
-        };
-        if self.is_refused(work, coming, asked) {
-            return Err(fails_at(here, code::KEYWORD_REDEFINED, name));
-        }
-        if self.is_defined(spot, name.ident) {
-            return Err(fails_at(here, code::DUPLICATE, name));
-        }
-        self.place(spot, name, meaning, coming.is_macro)?;
+        self.place(spot, name, meaning, kept.is_some())?;
+        Ok(self.keep(meaning, kept, again)?)
+    }
+
+    /// Keeps a macro, where one is handed in, as what means this in the form, with the edition that it has or with the next one.
+    fn keep(&mut self, meaning: Meaning, kept: Option<Macro>, again: bool) -> Mem<()>
+        requires { IsBound meaning }
+        ensures rest { OnOk result (self.new ≡ with_macros self.old self.new.macros) }
+        ensures kept { OnOk result (KeepsAny self.old.macros self.new.macros self.old.form.number meaning kept again) }
+    {
         match kept {
             None => Ok(()),
             Some(kept) => {
-                self.macros.keep(self.form.number, meaning, kept)?;
-                Ok(())
+                if again {
+                    return self.macros.keep_as(self.form.number, meaning, kept);
+                }
+                self.macros.keep(self.form.number, meaning, kept)
             }
         }
     }

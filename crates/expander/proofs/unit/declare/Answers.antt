@@ -14,7 +14,7 @@ use Rattle.unit_scopes.proofs.CallLaws.{all_known, sets_adds, sets_counts, sets_
 use Rattle.noted_steps.proofs.PlainSides.{run_same, run_exact}
 use Rattle.expander.specs.UnitNotes.{HasNoted, part_begun, set_noting}
 use Rattle.expander.proofs.AskedRuns.{noted_knows}
-use Rattle.expander.proofs.PartLaws.{plain_part, sets_from, sets_gone, ended_sets, noted_ends, not_ended, sets_handed_on}
+use Rattle.expander.proofs.PartLaws.{notes_counted, plain_part, sets_from, sets_gone, ended_sets, noted_ends, not_ended, sets_handed_on}
 use Rattle.expander.proofs.unit.declare.Goals as goal
 
 pub go_through-left-requires-clause-can : goal.go_through-left-requires-clause-can
@@ -24,7 +24,7 @@ go_through-left-requires-clause-can c =
       layout = can.layout;
       state = plain_part (can.state.uses can.state.form) can.state;
       notes = can.notes;
-      stands = c.begin_notes.ensures.begun w can.layout can.state false 0 (λ n. None) [] can.stands (λ h. absurd cc) (λ h. absurd cc);
+      stands = c.begin_notes.ensures.begun w can.layout can.state false 0 (λ n. None) [] can.stands (λ h. absurd cc) (λ h. absurd cc) (λ h. absurd cc);
       asked = subst (λ (x : UnitScope). NotesFor w can.layout x.asked can.notes) (sym same) can.asked;
     }
 
@@ -35,7 +35,7 @@ go_through-left-requires-clause-space c = subst (HasRoom (2 ^ 43 + 2 ^ 40)) (sym
 pub returns-in_err-end_notes-clause-sets : goal.returns-in_err-end_notes-clause-sets
 returns-in_err-end_notes-clause-sets c = λ known ls s notes t knows stands asked for.
     let u = c.args.units.now in let u1 = c.begin_notes.new.units in let v = c.go_through-left.new.units in let w = c.args.work.now in let new = c.go_through-left.new.work in let region = c.args.region.now in let same = c.begin_notes.ensures.rest in
-    let begun = c.begin_notes.ensures.begun w ls s false 0 (λ n. None) [] stands (λ h. absurd cc) (λ h. absurd cc) in
+    let begun = c.begin_notes.ensures.begun w ls s false 0 (λ n. None) [] stands (λ h. absurd cc) (λ h. absurd cc) (λ h. absurd cc) in
     let asked1 = subst (λ (x : UnitScope). NotesFor w ls x.asked notes) (sym same) asked in
     let h = c.go_through-left.ensures.sets known ls (plain_part (s.uses s.form) s) notes t (noted_knows u u1 known same knows) begun asked1 for in
     sets_handed_on w new region u v ls c.from_residual.result fault.Memory (set_aside known t notes s) c.from_residual.ensures.1
@@ -44,7 +44,7 @@ returns-in_err-end_notes-clause-sets c = λ known ls s notes t knows stands aske
 pub returns-clause-sets : goal.returns-clause-sets
 returns-clause-sets c = λ known ls s notes t knows stands asked for.
     let u = c.args.units.now in let u1 = c.begin_notes.new.units in let v = c.go_through-left.new.units in let w = c.args.work.now in let new = c.go_through-left.new.work in let region = c.args.region.now in let same = c.begin_notes.ensures.rest in
-    let begun = c.begin_notes.ensures.begun w ls s false 0 (λ n. None) [] stands (λ h. absurd cc) (λ h. absurd cc) in
+    let begun = c.begin_notes.ensures.begun w ls s false 0 (λ n. None) [] stands (λ h. absurd cc) (λ h. absurd cc) (λ h. absurd cc) in
     let asked1 = subst (λ (x : UnitScope). NotesFor w ls x.asked notes) (sym same) asked in
     let h = c.go_through-left.ensures.sets known ls (plain_part (s.uses s.form) s) notes t (noted_knows u u1 known same knows) begun asked1 for in
     subst (λ (p : Pass Identifier FramedIdent × ScopedState). Sets w new region u v ls c.go_through-left.result p) (sym (run_same known enough_turns (one_form t notes) (plain_part (s.uses s.form) s)))
@@ -58,13 +58,13 @@ pub returns-clause-noted : goal.returns-clause-noted
 returns-clause-noted c = λ known ls s notes t editions ms knows stands asked for can.
     let u = c.args.units.now in let u1 = c.begin_notes.new.units in let v = c.go_through-left.new.units in let w = c.args.work.now in let new = c.go_through-left.new.work in let region = c.args.region.now in let same = c.begin_notes.ensures.rest in
     let start = part_begun (s.uses s.form) notes editions ms s in
-    let begun = c.begin_notes.ensures.begun w ls s true (length notes) editions ms stands (λ h. can.tells) (λ h. can.notes) in
+    let begun = c.begin_notes.ensures.begun w ls s true (length notes) editions ms stands (λ h. can.tells) (λ h. notes_counted w ls u.asked notes asked) (λ h. can.notes) in
     let asked1 = subst (λ (x : UnitScope). NotesFor w ls x.asked notes) (sym same) asked in
     let p = set_noting known t notes start in
     let h = c.go_through-left.ensures.sets known ls start notes t (noted_knows u u1 known same knows) begun asked1 for in
     ended_sets w new region u1 v ls (HasNoted new v.form.trace p.1) c.go_through-left.result p h (λ st.
     let exact = run_exact known enough_turns (one_form t notes) start in
-    noted_ends new v ls p.1 st exact (c.in_ok-end_notes.ensures new ls p.1 st exact))
+    noted_ends new v ls p.1 st exact (c.in_ok-end_notes.ensures.notes new ls p.1 st exact) (c.in_ok-end_notes.ensures.order new ls p.1 st exact))
 
 pub returns-clause-locals : goal.returns-clause-locals
 returns-clause-locals c =

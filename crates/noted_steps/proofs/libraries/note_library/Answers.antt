@@ -32,7 +32,7 @@ returns-in-Ok-clause-noted c = λ known ls s ts knows e stands.
     let tells = (c.contains-answer.ensures ∙ ap (contains_text u.libraries) (c.as_str.ensures.value ∙ r.2)) ∙ sym (knows n r.3) in
     let text = c.from_string-name.ensures ∙ r.2 in
     subst (λ (ns : List LibraryName). Stands w (with_notes u c.require.new.self) ls (names_asked known ns s)) (sym is)
-    (notes_stand w u ls s c.require.new.self (required n (known n) ++ s.noted) (λ exact. subst (λ (b : Bool). NotingStands w.symbols c.require.new.self s.since (required n b ++ s.noted)) tells (c.require.ensures.noted w.symbols s.since s.noted n (e.notes exact) text)) e)
+    (notes_stand w u ls s c.require.new.self (required n (known n) ++ s.noted) c.require.ensures.start (λ exact. subst (λ (b : Bool). NotingStands w.symbols c.require.new.self s.since (required n b ++ s.noted)) tells (c.require.ensures.noted w.symbols s.since s.noted n (e.notes exact) text)) e)
 
 pub returns-in-Err-BadForm-clause-noted : goal.returns-in-Err-BadForm-clause-noted
 returns-in-Err-BadForm-clause-noted c = λ known ls s ts knows e stands.

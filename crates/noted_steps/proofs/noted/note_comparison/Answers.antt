@@ -19,4 +19,4 @@ returns-clause-noted c = λ known ls s gs fs q e there at h.
     let second = c.target-ident.ensures ls (state_of s) fs (record { name = q.1; occ = None }) p at (subst (λ (x : NamePart). IsName work x (record { name = q.1; occ = None })) (sym c.named-2.ensures) (h.ident, refl)) in
     let a = subst (λ n. IsMeaning names n s.since.form c.target-literal.result.meaning l) (sym e.since_unit) (subst (λ n. IsMeaning names s.unit n c.target-literal.result.meaning l) (sym e.since_form) first.meaning) in
     let b = subst (λ n. IsMeaning names n s.since.form c.target-ident.result.meaning m) (sym e.since_unit) (subst (λ n. IsMeaning names s.unit n c.target-ident.result.meaning m) (sym e.since_form) second.meaning) in
-    notes_stand work u ls s c.compare.new.self (compared s.since q.0 q.1 l m ++ s.noted) (λ exact. c.compare.ensures.noted s.since s.noted q.0 q.1 l m (e.notes exact) h.literal h.ident a b h.held) e
+    notes_stand work u ls s c.compare.new.self (compared s.since q.0 q.1 l m ++ s.noted) c.compare.ensures.start (λ exact. c.compare.ensures.noted s.since s.noted q.0 q.1 l m (e.notes exact) h.literal h.ident a b h.held) e

@@ -16,7 +16,7 @@ returns-clause-noted c = λ known work ls s m e is.
     let x = c.args.meaning in
     let rules = option_map bare_macro (macro_at s.macros m) in
     let here = subst (λ (n : ℕ). IsMeaning names s.unit n x m) (sym e.form.number) is in
-    notes_stand work u ls s c.use_rules.new.self (rules_used s.since m rules ++ s.noted)
+    notes_stand work u ls s c.use_rules.new.self (rules_used s.since m rules ++ s.noted) c.use_rules.ensures.start
     (λ exact.
     subst (λ (ns : List Noted). NotingStands names c.use_rules.new.self s.since (ns ++ s.noted)) (use_told s.since m (s.since.editions c.edition-edition.result) rules (λ other. ap s.since.editions c.edition-edition.ensures ∙ (e.editions exact).tells u.form.number x m here other))
     (c.use_rules.ensures.noted names s.since s.noted m (e.notes exact)

@@ -3,6 +3,7 @@ use Rattle.scheme_model.specs.Questions.{IsAssigned, Says}
 use Rattle.question_laws.specs.Noted.{is_defined_in}
 use Rattle.form_notes.specs.Noted.{assigned_as}
 use Rattle.form_notes.specs.declared.notes.Question.TheVariants as questions
+use Rattle.form_notes.specs.declared.noting.Noting as code_noting
 use Rattle.form_notes.proofs.NoteLaws.{adds, some_assigned}
 use Rattle.form_notes.proofs.noting.Noting.assign.Goals as goal
 
@@ -16,4 +17,5 @@ returns-then-not-is_own c = record {
         some_assigned r ms i b (sym c.if-not-is_own.true ∙ (c.is_own.ensures names r i h.since o is ∙ ap (λ u. is_defined_in r.own u i) h.since.unit)),
         inl refl,
       ));
+  start = record { before = ap (λ (n : code_noting.Noting). n.before) c.push.ensures.rest; first = ap (λ (n : code_noting.Noting). n.first) c.push.ensures.rest };
 }

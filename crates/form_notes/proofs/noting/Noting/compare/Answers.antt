@@ -7,6 +7,7 @@ use Rattle.question_laws.specs.Noted.{before_uses, defines_within}
 use Rattle.form_notes.specs.Noted.{began, compared}
 use Rattle.form_notes.specs.Standing.{IsQuestion, IsAsked, stood}
 use Rattle.form_notes.specs.declared.notes.Question as code_question
+use Rattle.form_notes.specs.declared.noting.Noting as code_noting
 use Rattle.form_notes.proofs.NoteLaws.{adds, part_at, asked_as, one_note, some_comparison}
 use Rattle.form_notes.proofs.noting.Noting.compare.Goals as goal
 
@@ -37,4 +38,5 @@ returns c = record {
             (sym c.if-compares_alone.false ∙ c.compares_alone.ensures r l i h.since o is at),
         subst (λ (q : code_question.Question). IsAsked q (length r.own) c.behind-behind.result) (sym c.comparison.ensures) (part_at (c.defines_either-part.result) c.behind-behind.result (length r.own) (c.behind-behind.ensures names r o)),
       ));
+  start = record { before = ap (λ (n : code_noting.Noting). n.before) c.push.ensures.rest; first = ap (λ (n : code_noting.Noting). n.first) c.push.ensures.rest };
 }

@@ -18,7 +18,7 @@ returns-in-Ok c = record {
       let old = c.args.self.now in
       let now = c.push.new.self in
       let a = c.push.ensures in
-      let note : code_note.Note = record { behind = c.behind-behind.result; question = questions.Definition c.args.ident outcomes.Stands } in
+      let note : code_note.Note = record { behind = c.behind-behind.result; question = questions.Definition c.args.definition outcomes.Stands } in
       let m : Noted = record { behind = length r.own; question = Defines fs x rules ns; answer = Ends Stands } in
       record {
         since = record {
@@ -34,9 +34,10 @@ returns-in-Ok c = record {
             let notes = have_more names r old.notes ms note m (at, (fs, x, rules, ns, refl, refl, is)) s.notes in
             let order = order_more names r old.first (length r.own) old.notes now.notes note p.1 at s.order in
             record {
-              own = defines names c.told_apart.ensures.idents now.own c.add.new.own r c.args.ident x keyword is none c.in-Ok.ensures.has c.in-Ok.ensures.count own;
+              own = defines names c.told_apart.ensures.idents now.own c.add.new.own r c.args.definition.ident x keyword is.name none c.in-Ok.ensures.has c.in-Ok.ensures.count own;
               notes = (let z = subst (λ (xs : List code_note.Note). HaveNotes names r xs (m ∷ ms)) (sym p.1) notes in record { all = z.all; alone = z.alone });
               order = subst (InOrder now.first now.notes) (add-one (length r.own)) (subst (λ (k : ℕ). InOrder k now.notes (length r.own + 1)) (sym (ap (λ (n : code_noting.Noting). n.first) a.rest)) order);
             };
       };
+  start = record { before = ap (λ (n : code_noting.Noting). n.before) c.push.ensures.rest; first = ap (λ (n : code_noting.Noting). n.first) c.push.ensures.rest };
 }

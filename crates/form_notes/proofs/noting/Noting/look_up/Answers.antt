@@ -5,6 +5,7 @@ use Rattle.question_laws.specs.Noted.{before_uses, defines_within}
 use Rattle.form_notes.specs.Noted.{began, looked_up}
 use Rattle.form_notes.specs.Standing.{IsQuestion, IsAsked, stood}
 use Rattle.form_notes.specs.declared.notes.Question as code_question
+use Rattle.form_notes.specs.declared.noting.Noting as code_noting
 use Rattle.form_notes.proofs.NoteLaws.{adds, part_at, asked_as, one_note, some_lookup}
 use Rattle.form_notes.proofs.noting.Noting.look_up.Goals as goal
 
@@ -27,4 +28,5 @@ returns c = record {
         some_lookup r ms i m k (sym c.if-is_local.false ∙ c.is_local.ensures names r.unit r.form m means) (sym c.if-answers_alone.false ∙ c.answers_alone.ensures r i h.since o is),
         subst (λ (q : code_question.Question). IsAsked q (length r.own) c.behind-behind.result) (sym c.lookup.ensures) (part_at (c.defines_within-part.result) c.behind-behind.result (length r.own) (c.behind-behind.ensures names r o)),
       ));
+  start = record { before = ap (λ (n : code_noting.Noting). n.before) c.push.ensures.rest; first = ap (λ (n : code_noting.Noting). n.first) c.push.ensures.rest };
 }
