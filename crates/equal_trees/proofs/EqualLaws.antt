@@ -1,0 +1,256 @@
+-- Trees and rules are the same where what the code has of them is.
+use Rattle.std.proofs.Common.{◌≡◌, ◌↔◌, ◌==◌, ℕ, zero, suc, ◌+◌, ◌-◌, ◌<◌, ◌≤◌, IsTrue, List, [], ◌∷◌, ◌++◌, map, length, take, drop, get_or, slice_get, Bool, true, false, Option, Some, None, refl, sym, ap, ◌∙◌, subst, arith, eq-eqb, eqb-true}
+use Rattle.std.specs.Str.{bytes_eq}
+use Rattle.std.proofs.lemmas.Option.{same_Some, slice_get_within}
+use Rattle.std.proofs.lemmas.Slice.Eq.{bytes_eq-Decides}
+use Rattle.scheme_model.specs.declared.Occ.{Occ}
+use Rattle.scheme_model.specs.ExpansionFaults.{Named}
+use Rattle.scheme_model.specs.Ident.{Ident as Identifier}
+use Rattle.scheme_model.specs.Leaves.{Leaf, leaves_of, all_rule_leaves}
+use Rattle.scheme_model.specs.Matching.{same_atom, same_truth, behind}
+use Rattle.scheme_model.specs.RulesShape.{Rule, Rules}
+use Rattle.scheme_model.specs.Trees.{Atom, Numeral, Quoted, Character, Boolean, Bytes, Tree, name, atom, list, vector, Trees, no_trees, tree, Tail, proper, dotted}
+use Rattle.syntax_tree.specs.Macros.{identifiers, IsIdent, AreIdents, IsEllipsisOf, IsRule, AreRules}
+use Rattle.syntax_tree.specs.Names.{Names, AreToldApart}
+use Rattle.syntax_tree.specs.Placed.{tree_place, IsNamed}
+use Rattle.syntax_tree.specs.Works.{StandsFor}
+use Rattle.syntax_tree.specs.declared.rules.Named as code_named
+use Rattle.syntax_tree.specs.declared.rules.Rule as code_rule
+use Rattle.syntax_tree.specs.declared.trees.Work.{Work}
+use Rattle.rules_check.specs.Gathered.{AreLeaves}
+use Rattle.rules_check.specs.declared.leaf.RuleLeaf.{RuleLeaf}
+
+clash : {P : Type 0} → true ≡ false → P
+clash h = absurd cc
+
+-- what is told not to be, and isn't
+pub is_not : {P : Type 0} (b : Bool) → b ≡ false → (P → ⊥) → IsTrue b ↔ P
+is_not b e no = (λ h. clash (sym h ∙ e), λ p. absurd (no p))
+
+-- ---- leaves
+
+pub name_same : (names : Names) → AreToldApart names.idents → (x y : ℕ) (i j : Identifier) (o : Option Occ) (u : Tree Identifier) → u ≡ name j o → IsIdent names x i → IsIdent names y j → IsTrue (x == y) ↔ (name i (tree_place u) ≡ u)
+name_same names apart x y i j o u is first second = (
+  λ h.
+      let same : i ≡ j = same_Some i j (sym first ∙ (ap (slice_get names.idents) (eqb-true x y h) ∙ second)) in
+      (λ k. name (same k) (tree_place (is k))) ∙ sym is,
+  λ h.
+      let z : name i (tree_place u) ≡ name j o = h ∙ is in
+      let same : i ≡ j = cc in
+      eq-eqb x y (apart x y (slice_get_within names.idents x i first) (first ∙ (ap (λ (k : Identifier). Some k) same ∙ sym second))),
+)
+
+bytes_told : (s t : List ℕ) → bytes_eq s t ≡ true → s ≡ t
+bytes_told s t = (bytes_eq-Decides s t).0
+
+bytes_itself : (s : List ℕ) → bytes_eq s s ≡ true
+bytes_itself s = (bytes_eq-Decides s s).1 refl
+
+truth_told : (b c : Bool) → same_truth b c ≡ true → b ≡ c
+truth_told true true h = refl
+truth_told true false h = absurd cc
+truth_told false true h = absurd cc
+truth_told false false h = refl
+
+truth_itself : (b : Bool) → same_truth b b ≡ true
+truth_itself true = refl
+truth_itself false = refl
+
+atom_told : (a b : Atom) → same_atom a b ≡ true → a ≡ b
+atom_told (Numeral s) (Numeral t) h = ap Numeral (bytes_told s t h)
+atom_told (Quoted s) (Quoted t) h = ap Quoted (bytes_told s t h)
+atom_told (Character c) (Character d) h = ap Character (eqb-true c d h)
+atom_told (Boolean b) (Boolean c) h = ap Boolean (truth_told b c h)
+atom_told (Bytes s) (Bytes t) h = ap Bytes (bytes_told s t h)
+atom_told a b h = absurd cc
+
+atom_itself : (a : Atom) → same_atom a a ≡ true
+atom_itself (Numeral s) = bytes_itself s
+atom_itself (Quoted s) = bytes_itself s
+atom_itself (Character c) = eq-eqb c c refl
+atom_itself (Boolean b) = truth_itself b
+atom_itself (Bytes s) = bytes_itself s
+
+pub atom_same : (b : Bool) (x y : Atom) (p : Option Occ) (u : Tree Identifier) → b ≡ same_atom x y → u ≡ atom y p → IsTrue b ↔ (atom x (tree_place u) ≡ u)
+atom_same b x y p u tells is = (
+  λ h. let same = atom_told x y (sym tells ∙ h) in (λ k. atom (same k) (tree_place (is k))) ∙ sym is,
+  λ h.
+      let z : atom x (tree_place u) ≡ atom y p = h ∙ is in
+      let same : x ≡ y = cc in
+      tells ∙ (ap (same_atom x) (sym same) ∙ atom_itself x),
+)
+
+-- ---- rows of trees, from a place on
+
+pub rows_begin : (ts us : Trees Identifier) → (ts ≡ us) ↔ (behind 0 ts ≡ behind 0 us)
+rows_begin ts us = (λ e. e, λ e. e)
+
+module _ (k : ℕ) (ts us : Trees Identifier) (t u : Tree Identifier) (p : behind k ts ≡ tree t (behind (k + 1) ts)) (q : behind k us ≡ tree u (behind (k + 1) us)) (so_far : (ts ≡ us) ↔ (behind k ts ≡ behind k us)) where
+  pub rows_more : t ≡ u → (ts ≡ us) ↔ (behind (k + 1) ts ≡ behind (k + 1) us)
+  rows_more e = (
+    λ h. let z : tree t (behind (k + 1) ts) ≡ tree u (behind (k + 1) us) = sym p ∙ (so_far.0 h ∙ q) in cc,
+    λ h. so_far.1 (p ∙ ((λ j. tree (e j) (h j)) ∙ sym q)),
+  )
+
+  pub rows_differ : (t ≡ u → ⊥) → ts ≡ us → ⊥
+  rows_differ no h = let z : tree t (behind (k + 1) ts) ≡ tree u (behind (k + 1) us) = sym p ∙ (so_far.0 h ∙ q) in no cc
+
+pub rows_end : (k : ℕ) (ts us : Trees Identifier) → behind k ts ≡ no_trees → behind k us ≡ no_trees → (ts ≡ us) ↔ (behind k ts ≡ behind k us) → ts ≡ us
+rows_end k ts us p q so_far = so_far.1 (p ∙ sym q)
+
+-- ---- whole trees
+
+pub list_same : (a b : Bool) (ts us : Trees Identifier) (tail end : Tail Identifier) (o p : Option Occ) (t u : Tree Identifier) → t ≡ list ts tail o → u ≡ list us end p → tree_place t ≡ tree_place u → a ≡ true → IsTrue a ↔ (ts ≡ us) → IsTrue b ↔ (tail ≡ end) → IsTrue b ↔ (t ≡ u)
+list_same a b ts us tail end o p t u f g place there parts ends = (
+  λ h.
+      let x = parts.0 there in
+      let y = ends.0 h in
+      let z : o ≡ p = sym (ap tree_place f) ∙ (place ∙ ap tree_place g) in
+      f ∙ ((λ j. list (x j) (y j) (z j)) ∙ sym g),
+  λ h. let z : list ts tail o ≡ list us end p = sym f ∙ (h ∙ g) in ends.1 cc,
+)
+
+pub list_differs : (a : Bool) (ts us : Trees Identifier) (tail end : Tail Identifier) (o p : Option Occ) (t u : Tree Identifier) → t ≡ list ts tail o → u ≡ list us end p → a ≡ false → IsTrue a ↔ (ts ≡ us) → t ≡ u → ⊥
+list_differs a ts us tail end o p t u f g there parts h =
+    let z : list ts tail o ≡ list us end p = sym f ∙ (h ∙ g) in
+    let same : ts ≡ us = cc in
+    clash (sym (parts.1 same) ∙ there)
+
+pub vector_same : (a : Bool) (ts us : Trees Identifier) (o p : Option Occ) (t u : Tree Identifier) → t ≡ vector ts o → u ≡ vector us p → tree_place t ≡ tree_place u → IsTrue a ↔ (ts ≡ us) → IsTrue a ↔ (t ≡ u)
+vector_same a ts us o p t u f g place parts = (
+  λ h.
+      let x = parts.0 h in
+      let z : o ≡ p = sym (ap tree_place f) ∙ (place ∙ ap tree_place g) in
+      f ∙ ((λ j. vector (x j) (z j)) ∙ sym g),
+  λ h. let z : vector ts o ≡ vector us p = sym f ∙ (h ∙ g) in parts.1 cc,
+)
+
+-- a name or an atom with the place of the other tree
+pub placed_same : (b : Bool) (x : Tree Identifier) (t u : Tree Identifier) → t ≡ x → IsTrue b ↔ (x ≡ u) → IsTrue b ↔ (t ≡ u)
+placed_same b x t u e h = (λ q. e ∙ h.0 q, λ q. h.1 (sym e ∙ q))
+
+-- ---- rules
+
+-- the rule at a place
+pub rule_there : (work : Work) (k : ℕ) (ns : List code_rule.Rule) (rs : List (Rule Identifier)) (d : code_rule.Rule) → AreRules work ns rs → k < length ns → (r : Rule Identifier) × IsRule work (get_or ns k d) r × (drop k rs ≡ r ∷ drop (k + 1) rs)
+rule_there work k [] rs d h l = absurd (omega (arith, l))
+rule_there work k (n ∷ ns) [] d h l = absurd h
+rule_there work zero (n ∷ ns) (r ∷ rs) d h l = (r, h.0, refl)
+rule_there work (suc k) (n ∷ ns) (r ∷ rs) d h l =
+    let p = rule_there work k ns rs d h.1 (omega (arith, l)) in
+    let e : suc (k + 1) ≡ suc k + 1 = omega arith in
+    (p.0, p.1, p.2 ∙ ap (λ (n : ℕ). p.0 ∷ drop n (r ∷ rs)) e)
+
+pub rules_past : (work : Work) (k : ℕ) (ns : List code_rule.Rule) (rs : List (Rule Identifier)) → AreRules work ns rs → length ns ≤ k → drop k rs ≡ []
+rules_past work k [] [] h l = drop_none k
+  where
+    drop_none : (k : ℕ) → drop k [] ≡ []
+    drop_none zero = refl
+    drop_none (suc k) = refl
+rules_past work k [] (r ∷ rs) h l = absurd h
+rules_past work k (n ∷ ns) [] h l = absurd h
+rules_past work zero (n ∷ ns) (r ∷ rs) h l = absurd (omega (arith, l))
+rules_past work (suc k) (n ∷ ns) (r ∷ rs) h l = rules_past work k ns rs h.1 (omega (arith, l))
+
+pub rules_many : (work : Work) (ns : List code_rule.Rule) (rs : List (Rule Identifier)) → AreRules work ns rs → length ns ≡ length rs
+rules_many work [] [] h = refl
+rules_many work [] (r ∷ rs) h = absurd h
+rules_many work (n ∷ ns) [] h = absurd h
+rules_many work (n ∷ ns) (r ∷ rs) h = ap suc (rules_many work ns rs h.1)
+
+module _ {X : Type 0} (k : ℕ) (xs ys : List X) (x y : X) (p : drop k xs ≡ x ∷ drop (k + 1) xs) (q : drop k ys ≡ y ∷ drop (k + 1) ys) (so_far : (xs ≡ ys) ↔ (drop k xs ≡ drop k ys)) where
+  pub list_more : x ≡ y → (xs ≡ ys) ↔ (drop (k + 1) xs ≡ drop (k + 1) ys)
+  list_more e = (
+    λ h. let z : x ∷ drop (k + 1) xs ≡ y ∷ drop (k + 1) ys = sym p ∙ (so_far.0 h ∙ q) in cc,
+    λ h. so_far.1 (p ∙ ((λ j. e j ∷ h j) ∙ sym q)),
+  )
+
+  pub list_no_more : (x ≡ y → ⊥) → xs ≡ ys → ⊥
+  list_no_more no h = let z : x ∷ drop (k + 1) xs ≡ y ∷ drop (k + 1) ys = sym p ∙ (so_far.0 h ∙ q) in no cc
+
+-- ---- literals
+
+-- names with their places
+abbrev pub AreNamed : Names → List code_named.Named → List (Named Identifier) → Type 0
+AreNamed names [] [] = Unit {0}
+AreNamed names [] (m ∷ ms) = ⊥
+AreNamed names (n ∷ ns) [] = ⊥
+AreNamed names (n ∷ ns) (m ∷ ms) = IsNamed names n m × AreNamed names ns ms
+
+-- the first leaves tell the literals
+pub literals_told : (names : Names) (leaves : List RuleLeaf) (ls : List (Named Identifier)) (rest : List (Leaf Identifier)) → AreLeaves names leaves (map (λ l. record { leaf = l; literal = true }) ls ++ rest) → AreNamed names (take (length ls) (map (λ l. l.name) leaves)) ls
+literals_told names leaves [] rest h = none leaves
+  where
+    none : (leaves : List RuleLeaf) → AreNamed names (take 0 (map (λ l. l.name) leaves)) []
+    none [] = tt
+    none (l ∷ leaves) = tt
+literals_told names [] (m ∷ ls) rest h = absurd h
+literals_told names (l ∷ leaves) (m ∷ ls) rest h = (h.0.0, literals_told names leaves ls rest h.1)
+
+pub idents_many : (names : Names) (ns : List ℕ) (ls : List (Named Identifier)) → AreIdents names ns ls → length ns ≡ length ls
+idents_many names [] [] h = refl
+idents_many names [] (l ∷ ls) h = absurd h
+idents_many names (n ∷ ns) [] h = absurd h
+idents_many names (n ∷ ns) (l ∷ ls) h = ap suc (idents_many names ns ls h.1)
+
+pub leaves_many : (names : Names) (leaves : List RuleLeaf) (ls : List (Leaf Identifier)) → AreLeaves names leaves ls → length leaves ≡ length ls
+leaves_many names [] [] h = refl
+leaves_many names [] (l ∷ ls) h = absurd h
+leaves_many names (n ∷ ns) [] h = absurd h
+leaves_many names (n ∷ ns) (l ∷ ls) h = ap suc (leaves_many names ns ls h.1)
+
+module _ (names : Names) (apart : AreToldApart names.idents) where
+  -- one name of the code is one of the definition
+  named_same : (n m : code_named.Named) (i j : Named Identifier) → IsNamed names n i → IsNamed names m j → (n ≡ m) ↔ (i ≡ j)
+  named_same n m i j f g = (
+    λ e.
+        let name : i.name ≡ j.name = same_Some i.name j.name (sym f.0 ∙ (ap (λ (x : code_named.Named). slice_get names.idents x.ident) e ∙ g.0)) in
+        let occ : i.occ ≡ j.occ = sym f.1 ∙ (ap (λ (x : code_named.Named). x.occ) e ∙ g.1) in
+        (λ k. record { name = name k; occ = occ k }),
+    λ e.
+        let ident : n.ident ≡ m.ident = apart n.ident m.ident (slice_get_within names.idents n.ident i.name f.0) (f.0 ∙ (ap (λ (x : Named Identifier). Some x.name) e ∙ sym g.0)) in
+        let occ : n.occ ≡ m.occ = f.1 ∙ (ap (λ (x : Named Identifier). x.occ) e ∙ sym g.1) in
+        (λ k. record { ident = ident k; occ = occ k }),
+  )
+
+  pub all_named_same : (ns ms : List code_named.Named) (is js : List (Named Identifier)) → AreNamed names ns is → AreNamed names ms js → (ns ≡ ms) ↔ (is ≡ js)
+  all_named_same [] [] [] [] f g = (λ e. refl, λ e. refl)
+  all_named_same [] [] is (j ∷ js) f g = absurd g
+  all_named_same [] [] (i ∷ is) [] f g = absurd f
+  all_named_same [] (m ∷ ms) is [] f g = absurd g
+  all_named_same [] (m ∷ ms) [] (j ∷ js) f g = (λ e. absurd cc, λ e. absurd cc)
+  all_named_same [] (m ∷ ms) (i ∷ is) (j ∷ js) f g = absurd f
+  all_named_same (n ∷ ns) ms [] js f g = absurd f
+  all_named_same (n ∷ ns) [] (i ∷ is) [] f g = (λ e. absurd cc, λ e. absurd cc)
+  all_named_same (n ∷ ns) [] (i ∷ is) (j ∷ js) f g = absurd g
+  all_named_same (n ∷ ns) (m ∷ ms) (i ∷ is) [] f g = absurd g
+  all_named_same (n ∷ ns) (m ∷ ms) (i ∷ is) (j ∷ js) f g =
+      let one = named_same n m i j f.0 g.0 in
+      let more = all_named_same ns ms is js f.1 g.1 in (
+        λ e. let a : n ≡ m = cc in let b : ns ≡ ms = cc in let x = one.0 a in let y = more.0 b in (λ k. x k ∷ y k),
+        λ e. let a : i ≡ j = cc in let b : is ≡ js = cc in let x = one.1 a in let y = more.1 b in (λ k. x k ∷ y k),
+      )
+
+  -- an ellipsis of the rules' own
+  pub ellipsis_same : (x y : Option ℕ) (e d : Option Identifier) → IsEllipsisOf names x e → IsEllipsisOf names y d → (x ≡ y) ↔ (e ≡ d)
+  ellipsis_same None None None None f g = (λ h. refl, λ h. refl)
+  ellipsis_same None y (Some i) d f g = absurd f
+  ellipsis_same None None None (Some j) f g = absurd g
+  ellipsis_same None (Some m) None None f g = absurd g
+  ellipsis_same None (Some m) None (Some j) f g = (λ h. absurd cc, λ h. absurd cc)
+  ellipsis_same (Some n) y None d f g = absurd f
+  ellipsis_same (Some n) None (Some i) None f g = (λ h. absurd cc, λ h. absurd cc)
+  ellipsis_same (Some n) None (Some i) (Some j) f g = absurd g
+  ellipsis_same (Some n) (Some m) (Some i) None f g = absurd g
+  ellipsis_same (Some n) (Some m) (Some i) (Some j) f g = (
+    λ h. sym f ∙ (ap (slice_get names.idents) (same_Some n m h) ∙ g),
+    λ h. ap (λ (k : ℕ). Some k) (apart n m (slice_get_within names.idents n i f) (f ∙ (h ∙ sym g))),
+  )
+
+-- ---- the whole
+
+pub rules_same : (r q : Rules Identifier) → r.ellipsis ≡ q.ellipsis → r.literals ≡ q.literals → r.rules ≡ q.rules → r ≡ q
+rules_same r q a b c = λ j. record { ellipsis = a j; literals = b j; rules = c j }
+
+pub rule_same : (r q : Rule Identifier) → r.parts ≡ q.parts → r.tail ≡ q.tail → r.template ≡ q.template → r ≡ q
+rule_same r q a b c = λ j. record { parts = a j; tail = b j; template = c j }

@@ -1,0 +1,18 @@
+use Rattle.std.proofs.Common.{◌≡◌, ◌↔◌, ◌+◌, ◌*◌}
+use Rattle.scheme_model.specs.Ident.{Ident as Identifier}
+use Rattle.scheme_model.specs.Matching.{behind}
+use Rattle.scheme_model.specs.Trees.{Trees}
+use Rattle.syntax_tree.specs.Looks.{PartsStand}
+use Rattle.equal_trees.proofs.trees.+trees.Given as goal
+
+abbrev pub decreases-same_within : goal.decreases-same_within
+decreases-same_within l = 2 * l.left
+
+abbrev pub decreases-same_parts : goal.decreases-same_parts
+decreases-same_parts l = 2 * l.left + 1
+
+abbrev pub decreases-same_ends : goal.decreases-same_ends
+decreases-same_ends l = 2 * l.left + 1
+
+abbrev pub invariant-same_parts-loop-k : goal.invariant-same_parts-loop-k
+invariant-same_parts-loop-k l = (ts us : Trees Identifier) → PartsStand l.work l.parts ts → PartsStand l.work l.others us → (ts ≡ us) ↔ (behind l.k ts ≡ behind l.k us)
