@@ -115,3 +115,19 @@ pub own_told : (work : Work) (u : UnitScope) (ls : List Frames) (s : ScopedState
     EditionsTell work.symbols u.macros s e → e o.edition ≡ Some (record { env = []; rules = r })
 own_told work u ls s notes k r f o e h is tells =
     sym (ap (λ (x : Option Macro). e (edition_of x)) is) ∙ (tells.tells f (meanings.Global u.unit k.ident) (Global s.unit h.name) (h.stands.rests.unit, h.ident) refl ∙ ap (option_map bare_macro) h.there)
+
+-- ---- taken out, and kept
+
+if_twice : (b : Bool) (k : Macro) (o : Option Macro) → (if b then Some k else if b then None else o) ≡ (if b then Some k else o)
+if_twice true k o = refl
+if_twice false k o = refl
+
+pub kept_now : (old mid new : Macros) (form unit n : ℕ) (k : Macro) → ((f : ℕ) (m : code_meaning.Meaning) → macro_in mid f m ≡ (if same_key f (meanings.Global unit n) f m then None else macro_in old f m)) →
+    ((f : ℕ) (m : code_meaning.Meaning) → macro_in new f m ≡ (if same_key form (meanings.Global unit n) f m then Some k else macro_in mid f m)) →
+    (f : ℕ) (m : code_meaning.Meaning) → macro_in new f m ≡ (if same_key form (meanings.Global unit n) f m then Some k else macro_in old f m)
+kept_now old mid new form unit n k gone kept f (meanings.Local i) = kept f (meanings.Local i) ∙ gone f (meanings.Local i)
+kept_now old mid new form unit n k gone kept f (meanings.Standard s) = kept f (meanings.Standard s) ∙ gone f (meanings.Standard s)
+kept_now old mid new form unit n k gone kept f (meanings.Free s) = kept f (meanings.Free s) ∙ gone f (meanings.Free s)
+kept_now old mid new form unit n k gone kept f (meanings.Global v j) =
+    let b = nat_eq v unit && nat_eq j n in
+    kept f (meanings.Global v j) ∙ (ap (λ (o : Option Macro). if b then Some k else o) (gone f (meanings.Global v j)) ∙ if_twice b k (macro_in old f (meanings.Global v j)))

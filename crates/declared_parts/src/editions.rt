@@ -53,5 +53,6 @@ pub fn keep_edition(
         unit: units.unit,
         ident: kept.ident,
     };
-    units.macros.keep_as(units.form.number, meaning, own)
+    units.macros.keep_as(units.form.number, meaning, own)?;
+    Ok(())
 }

@@ -9,18 +9,21 @@ use Rattle.scheme_model.specs.Ident.{Ident as Identifier}
 use Rattle.scheme_model.specs.Leaves.{Leaf, leaves_of, all_rule_leaves}
 use Rattle.scheme_model.specs.Matching.{same_atom, same_truth, behind}
 use Rattle.scheme_model.specs.RulesShape.{Rule, Rules}
+use Rattle.scheme_model.specs.TreeParts.{count}
 use Rattle.scheme_model.specs.Trees.{Atom, Numeral, Quoted, Character, Boolean, Bytes, Tree, name, atom, list, vector, Trees, no_trees, tree, Tail, proper, dotted}
 use Rattle.syntax_tree.specs.Macros.{identifiers, IsIdent, AreIdents, IsEllipsisOf, IsRule, AreRules}
 use Rattle.syntax_tree.specs.Names.{Names, AreToldApart}
 use Rattle.syntax_tree.specs.Placed.{tree_place, IsNamed}
-use Rattle.syntax_tree.specs.Works.{StandsFor}
+use Rattle.syntax_tree.specs.Looks.{PartsStand}
+use Rattle.syntax_tree.specs.declared.trees.nodes.Tree as number
+use Rattle.syntax_tree.proofs.Looking.{count_stands}
 use Rattle.syntax_tree.specs.declared.rules.Named as code_named
 use Rattle.syntax_tree.specs.declared.rules.Rule as code_rule
 use Rattle.syntax_tree.specs.declared.trees.Work.{Work}
 use Rattle.rules_check.specs.Gathered.{AreLeaves}
 use Rattle.rules_check.specs.declared.leaf.RuleLeaf.{RuleLeaf}
 
-clash : {P : Type 0} → true ≡ false → P
+pub clash : {P : Type 0} → true ≡ false → P
 clash h = absurd cc
 
 -- what is told not to be, and isn't
@@ -82,50 +85,60 @@ atom_same b x y p u tells is = (
 
 -- ---- rows of trees, from a place on
 
-pub rows_begin : (ts us : Trees Identifier) → (ts ≡ us) ↔ (behind 0 ts ≡ behind 0 us)
-rows_begin ts us = (λ e. e, λ e. e)
-
-module _ (k : ℕ) (ts us : Trees Identifier) (t u : Tree Identifier) (p : behind k ts ≡ tree t (behind (k + 1) ts)) (q : behind k us ≡ tree u (behind (k + 1) us)) (so_far : (ts ≡ us) ↔ (behind k ts ≡ behind k us)) where
-  pub rows_more : t ≡ u → (ts ≡ us) ↔ (behind (k + 1) ts ≡ behind (k + 1) us)
+module _ {P : Type 0} (k : ℕ) (ts us : Trees Identifier) (t u : Tree Identifier) (p : behind k ts ≡ tree t (behind (k + 1) ts)) (q : behind k us ≡ tree u (behind (k + 1) us)) (so_far : P ↔ (behind k ts ≡ behind k us)) where
+  pub rows_more : t ≡ u → P ↔ (behind (k + 1) ts ≡ behind (k + 1) us)
   rows_more e = (
     λ h. let z : tree t (behind (k + 1) ts) ≡ tree u (behind (k + 1) us) = sym p ∙ (so_far.0 h ∙ q) in cc,
     λ h. so_far.1 (p ∙ ((λ j. tree (e j) (h j)) ∙ sym q)),
   )
 
-  pub rows_differ : (t ≡ u → ⊥) → ts ≡ us → ⊥
+  pub rows_differ : (t ≡ u → ⊥) → P → ⊥
   rows_differ no h = let z : tree t (behind (k + 1) ts) ≡ tree u (behind (k + 1) us) = sym p ∙ (so_far.0 h ∙ q) in no cc
 
-pub rows_end : (k : ℕ) (ts us : Trees Identifier) → behind k ts ≡ no_trees → behind k us ≡ no_trees → (ts ≡ us) ↔ (behind k ts ≡ behind k us) → ts ≡ us
+pub rows_end : {P : Type 0} (k : ℕ) (ts us : Trees Identifier) → behind k ts ≡ no_trees → behind k us ≡ no_trees → P ↔ (behind k ts ≡ behind k us) → P
 rows_end k ts us p q so_far = so_far.1 (p ∙ sym q)
+
+count_behind : (k : ℕ) (ts : Trees Identifier) → k ≤ count ts → count (behind k ts) + k ≡ count ts
+count_behind zero ts l = omega arith
+count_behind (suc k) no_trees l = absurd (omega (arith, l))
+count_behind (suc k) (tree t ts) l = let h = count_behind k ts (omega (arith, l)) in omega (arith, h)
+
+-- rows of other lengths
+pub rows_as_long : (work : Work) (from : ℕ) (ns ms : List number.Tree) (ts us : Trees Identifier) → PartsStand work ns ts → PartsStand work ms us → from ≤ length ns → from ≤ length ms → behind from ts ≡ behind from us → length ms ≡ length ns
+rows_as_long work from ns ms ts us f g l m h =
+    let a = count_stands work ns ts f in
+    let b = count_stands work ms us g in
+    let x = count_behind from ts (omega (arith, a, l)) in
+    let y = count_behind from us (omega (arith, b, m)) in
+    let z = ap count h in
+    omega (arith, a, b, x, y, z)
 
 -- ---- whole trees
 
-pub list_same : (a b : Bool) (ts us : Trees Identifier) (tail end : Tail Identifier) (o p : Option Occ) (t u : Tree Identifier) → t ≡ list ts tail o → u ≡ list us end p → tree_place t ≡ tree_place u → a ≡ true → IsTrue a ↔ (ts ≡ us) → IsTrue b ↔ (tail ≡ end) → IsTrue b ↔ (t ≡ u)
-list_same a b ts us tail end o p t u f g place there parts ends = (
-  λ h.
-      let x = parts.0 there in
-      let y = ends.0 h in
-      let z : o ≡ p = sym (ap tree_place f) ∙ (place ∙ ap tree_place g) in
-      f ∙ ((λ j. list (x j) (y j) (z j)) ∙ sym g),
-  λ h. let z : list ts tail o ≡ list us end p = sym f ∙ (h ∙ g) in ends.1 cc,
+module _ (a : Bool) (ts us : Trees Identifier) (tail end : Tail Identifier) (p : Option Occ) (u : Tree Identifier) (is : u ≡ list us end p) (parts : IsTrue a ↔ (ts ≡ us)) where
+  pub list_is : (b : Bool) → a ≡ true → IsTrue b ↔ (tail ≡ end) → IsTrue b ↔ (list ts tail (tree_place u) ≡ u)
+  list_is b there ends = (
+    λ h. let x = parts.0 there in let y = ends.0 h in (λ j. list (x j) (y j) (tree_place (is j))) ∙ sym is,
+    λ h. let z : list ts tail (tree_place u) ≡ list us end p = h ∙ is in ends.1 cc,
+  )
+
+  pub list_isnt : a ≡ false → list ts tail (tree_place u) ≡ u → ⊥
+  list_isnt there h =
+      let z : list ts tail (tree_place u) ≡ list us end p = h ∙ is in
+      let same : ts ≡ us = cc in
+      clash (sym (parts.1 same) ∙ there)
+
+pub vector_is : (a : Bool) (ts us : Trees Identifier) (p : Option Occ) (u : Tree Identifier) → u ≡ vector us p → IsTrue a ↔ (ts ≡ us) → IsTrue a ↔ (vector ts (tree_place u) ≡ u)
+vector_is a ts us p u is parts = (
+  λ h. let x = parts.0 h in (λ j. vector (x j) (tree_place (is j))) ∙ sym is,
+  λ h. let z : vector ts (tree_place u) ≡ vector us p = h ∙ is in parts.1 cc,
 )
 
-pub list_differs : (a : Bool) (ts us : Trees Identifier) (tail end : Tail Identifier) (o p : Option Occ) (t u : Tree Identifier) → t ≡ list ts tail o → u ≡ list us end p → a ≡ false → IsTrue a ↔ (ts ≡ us) → t ≡ u → ⊥
-list_differs a ts us tail end o p t u f g there parts h =
-    let z : list ts tail o ≡ list us end p = sym f ∙ (h ∙ g) in
-    let same : ts ≡ us = cc in
-    clash (sym (parts.1 same) ∙ there)
+-- a tail
+pub end_is : (b : Bool) (t u : Tree Identifier) → IsTrue b ↔ (t ≡ u) → IsTrue b ↔ (dotted t ≡ dotted u)
+end_is b t u h = (λ x. ap (λ (v : Tree Identifier). dotted v) (h.0 x), λ e. let same : t ≡ u = cc in h.1 same)
 
-pub vector_same : (a : Bool) (ts us : Trees Identifier) (o p : Option Occ) (t u : Tree Identifier) → t ≡ vector ts o → u ≡ vector us p → tree_place t ≡ tree_place u → IsTrue a ↔ (ts ≡ us) → IsTrue a ↔ (t ≡ u)
-vector_same a ts us o p t u f g place parts = (
-  λ h.
-      let x = parts.0 h in
-      let z : o ≡ p = sym (ap tree_place f) ∙ (place ∙ ap tree_place g) in
-      f ∙ ((λ j. vector (x j) (z j)) ∙ sym g),
-  λ h. let z : vector ts o ≡ vector us p = sym f ∙ (h ∙ g) in parts.1 cc,
-)
-
--- a name or an atom with the place of the other tree
+-- with the place of the other tree
 pub placed_same : (b : Bool) (x : Tree Identifier) (t u : Tree Identifier) → t ≡ x → IsTrue b ↔ (x ≡ u) → IsTrue b ↔ (t ≡ u)
 placed_same b x t u e h = (λ q. e ∙ h.0 q, λ q. h.1 (sym e ∙ q))
 

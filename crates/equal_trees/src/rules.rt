@@ -4,6 +4,8 @@ ghost use Rattle.std.specs.Prelude.{◌≡◌, ◌↔◌, ◌≤◌, IsTrue, Lis
 ghost use Rattle.scheme_model.specs.Ident.{Ident as Identifier};
 ghost use Rattle.scheme_model.specs.RulesShape.{Rule as ModelRule, Rules as ModelRules};
 ghost use Rattle.scheme_model.specs.Trees.{Tail, Trees};
+ghost use Rattle.scheme_model.specs.Matching.{behind};
+ghost use Rattle.syntax_tree.specs.Looks.{EndStands, EndWithin, PartsStand, PartsWithin};
 ghost use Rattle.syntax_tree.specs.Macros.{AreRules, IsRule};
 ghost use Rattle.equal_trees.specs.Told.{IsPattern, TellsRules};
 
@@ -86,22 +88,34 @@ fn same_rule(work: &Work, rule: Rule, other: Rule) -> bool
 /// Whether two patterns are the same behind their first parts.
 fn same_pattern(work: &Work, pattern: Tree, other: Tree) -> bool
     requires one { (ts : Trees Identifier) × (tail : Tail Identifier) × IsPattern work.now pattern ts tail }
-    requires other { (ts : Trees Identifier) × (tail : Tail Identifier) × IsPattern work.now other ts tail }
-    ensures { (ts : Trees Identifier) (us : Trees Identifier) (tail : Tail Identifier) (end : Tail Identifier) → IsPattern work.now pattern ts tail → IsPattern work.now other us end → IsTrue result ↔ ((ts ≡ us) × (tail ≡ end)) }
+    requires other { (us : Trees Identifier) × (last : Tail Identifier) × IsPattern work.now other us last }
+    ensures { (ts : Trees Identifier) (us : Trees Identifier) (tail : Tail Identifier) (last : Tail Identifier) → IsPattern work.now pattern ts tail → IsPattern work.now other us last → IsTrue result ↔ ((ts ≡ us) × (tail ≡ last)) }
 {
     let left = work.depth(pattern);
     match look_at(work, pattern) {
-        Look::List(parts, end) => match look_at(work, other) {
-            Look::List(others, other_end) => {
-                if !same_parts(work, &parts[1..], &others[1..], left) {
-                    return false;
-                }
-                same_ends(work, end, other_end, left)
+        Look::List(parts, end) => is_pattern(work, other, parts, end, left),
+        Look::Name(_) => false,
+        Look::Atom(_) => false,
+        Look::Vector(_) => false,
+    }
+}
+
+/// Whether a tree is a pattern of these parts, but for the first one, and of this tail, which are at most `left` nodes deep.
+fn is_pattern(work: &Work, tree: Tree, parts: &[Tree], end: Option<Tree>, left: u32) -> bool
+    requires parts { PartsWithin work.now parts.now left }
+    requires first { 1 ≤ length parts.now }
+    requires tail { EndWithin work.now end left }
+    requires tree { (us : Trees Identifier) × (last : Tail Identifier) × IsPattern work.now tree us last }
+    ensures { (ts : Trees Identifier) (us : Trees Identifier) (tail : Tail Identifier) (last : Tail Identifier) → PartsStand work.now parts.now ts → EndStands work.now end tail → IsPattern work.now tree us last →
+        IsTrue result ↔ ((behind 1 ts ≡ us) × (tail ≡ last)) }
+{
+    match look_at(work, tree) {
+        Look::List(others, other_end) => {
+            if !same_parts(work, parts, others, 1, left) {
+                return false;
             }
-            Look::Name(_) => false,
-            Look::Atom(_) => false,
-            Look::Vector(_) => false,
-        },
+            same_ends(work, end, other_end, left)
+        }
         Look::Name(_) => false,
         Look::Atom(_) => false,
         Look::Vector(_) => false,

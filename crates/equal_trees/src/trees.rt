@@ -1,7 +1,8 @@
 //! Whether two trees are the same: the same data with the same identifiers, each at the same place.
-ghost use Rattle.std.specs.Prelude.{◌≡◌, ◌↔◌, IsTrue, length, Option, Some};
+ghost use Rattle.std.specs.Prelude.{◌≡◌, ◌↔◌, ◌≤◌, IsTrue, length, Option, Some};
 ghost use Rattle.scheme_model.specs.Ident.{Ident as Identifier};
-ghost use Rattle.scheme_model.specs.Trees.{Atom, Tree as ModelTree, atom, name, Trees, Tail};
+ghost use Rattle.scheme_model.specs.Matching.{behind};
+ghost use Rattle.scheme_model.specs.Trees.{Atom, Tree as ModelTree, atom, list, name, vector, Trees, Tail};
 ghost use Rattle.scheme_model.specs.declared.Occ.{Occ as AnyOcc};
 ghost use Rattle.syntax_tree.specs.Looks.{AreStanding, EndIsStanding, EndStands, EndWithin, PartsStand, PartsWithin, StandsWithin};
 ghost use Rattle.syntax_tree.specs.Macros.{IsIdent};
@@ -37,37 +38,66 @@ fn same_within(work: &Work, one: Tree, other: Tree, left: u32) -> bool
     match look_at(work, one) {
         Look::Name(ident) => is_name(work, other, ident),
         Look::Atom(leaf) => is_atom(work, other, leaf),
-        Look::List(parts, end) => match look_at(work, other) {
-            Look::List(others, other_end) => {
-                if !same_parts(work, parts, others, left - 1) {
-                    return false;
-                }
-                same_ends(work, end, other_end, left - 1)
-            }
-            Look::Name(_) => false,
-            Look::Atom(_) => false,
-            Look::Vector(_) => false,
-        },
-        Look::Vector(parts) => match look_at(work, other) {
-            Look::Vector(others) => same_parts(work, parts, others, left - 1),
-            Look::Name(_) => false,
-            Look::Atom(_) => false,
-            Look::List(_, _) => false,
-        },
+        Look::List(parts, end) => is_list(work, other, parts, end, left - 1),
+        Look::Vector(parts) => is_vector(work, other, parts, left - 1),
     }
 }
 
-/// Whether the parts of two lists or vectors are the same, of which the first are at most `left` nodes deep.
+/// Whether a tree is the list of these parts and of this tail, which are at most `left` nodes deep.
 #[cycle(trees)]
-pub(crate) fn same_parts(work: &Work, parts: &[Tree], others: &[Tree], left: u32) -> bool
+fn is_list(work: &Work, tree: Tree, parts: &[Tree], end: Option<Tree>, left: u32) -> bool
+    requires parts { PartsWithin work.now parts.now left }
+    requires tail { EndWithin work.now end left }
+    requires tree { IsStanding work.now tree }
+    ensures { (ts : Trees Identifier) (tail : Tail Identifier) (u : ModelTree Identifier) → PartsStand work.now parts.now ts → EndStands work.now end tail → StandsFor work.now tree u → IsTrue result ↔ (list ts tail (tree_place u) ≡ u) }
+{
+    match look_at(work, tree) {
+        Look::List(others, other_end) => {
+            if !same_parts(work, parts, others, 0, left) {
+                return false;
+            }
+            same_ends(work, end, other_end, left)
+        }
+        Look::Name(_) => false,
+        Look::Atom(_) => false,
+        Look::Vector(_) => false,
+    }
+}
+
+/// Whether a tree is the vector of these parts, which are at most `left` nodes deep.
+#[cycle(trees)]
+fn is_vector(work: &Work, tree: Tree, parts: &[Tree], left: u32) -> bool
+    requires parts { PartsWithin work.now parts.now left }
+    requires tree { IsStanding work.now tree }
+    ensures { (ts : Trees Identifier) (u : ModelTree Identifier) → PartsStand work.now parts.now ts → StandsFor work.now tree u → IsTrue result ↔ (vector ts (tree_place u) ≡ u) }
+{
+    match look_at(work, tree) {
+        Look::Vector(others) => same_parts(work, parts, others, 0, left),
+        Look::Name(_) => false,
+        Look::Atom(_) => false,
+        Look::List(_, _) => false,
+    }
+}
+
+/// Whether the parts of two lists or vectors are the same from a place on, of which the first are at most `left` nodes deep.
+#[cycle(trees)]
+pub(crate) fn same_parts(
+    work: &Work,
+    parts: &[Tree],
+    others: &[Tree],
+    from: usize,
+    left: u32,
+) -> bool
     requires one { PartsWithin work.now parts.now left }
     requires other { AreStanding work.now others.now }
-    ensures { (ts : Trees Identifier) (us : Trees Identifier) → PartsStand work.now parts.now ts → PartsStand work.now others.now us → IsTrue result ↔ (ts ≡ us) }
+    requires from { (from ≤ length parts.now) × (from ≤ length others.now) }
+    ensures { (ts : Trees Identifier) (us : Trees Identifier) → PartsStand work.now parts.now ts → PartsStand work.now others.now us → IsTrue result ↔ (behind from ts ≡ behind from us) }
 {
-    if parts.len() != others.len() {
+    let count = parts.len();
+    if others.len() != count {
         return false;
     }
-    for k in 0..parts.len() {
+    for k in from..count {
         if !same_within(work, parts[k], others[k], left) {
             return false;
         }
