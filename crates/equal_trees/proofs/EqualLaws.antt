@@ -1,12 +1,14 @@
 -- Trees and rules are the same where what the code has of them is.
 use Rattle.std.proofs.Common.{◌≡◌, ◌↔◌, ◌==◌, ℕ, zero, suc, ◌+◌, ◌-◌, ◌<◌, ◌≤◌, IsTrue, List, [], ◌∷◌, ◌++◌, map, length, take, drop, get_or, slice_get, Bool, true, false, Option, Some, None, refl, sym, ap, ◌∙◌, subst, arith, eq-eqb, eqb-true}
 use Rattle.std.specs.Str.{bytes_eq}
+use Rattle.std.proofs.lemmas.List.{length-append, length-map}
 use Rattle.std.proofs.lemmas.Option.{same_Some, slice_get_within}
 use Rattle.std.proofs.lemmas.Slice.Eq.{bytes_eq-Decides}
 use Rattle.scheme_model.specs.declared.Occ.{Occ}
 use Rattle.scheme_model.specs.ExpansionFaults.{Named}
 use Rattle.scheme_model.specs.Ident.{Ident as Identifier}
 use Rattle.scheme_model.specs.Leaves.{Leaf, leaves_of, all_rule_leaves}
+use Rattle.scheme_model.specs.Measures.{tail_depth}
 use Rattle.scheme_model.specs.Matching.{same_atom, same_truth, behind}
 use Rattle.scheme_model.specs.RulesShape.{Rule, Rules}
 use Rattle.scheme_model.specs.TreeParts.{count}
@@ -14,13 +16,16 @@ use Rattle.scheme_model.specs.Trees.{Atom, Numeral, Quoted, Character, Boolean, 
 use Rattle.syntax_tree.specs.Macros.{identifiers, IsIdent, AreIdents, IsEllipsisOf, IsRule, AreRules}
 use Rattle.syntax_tree.specs.Names.{Names, AreToldApart}
 use Rattle.syntax_tree.specs.Placed.{tree_place, IsNamed}
-use Rattle.syntax_tree.specs.Looks.{PartsStand}
+use Rattle.syntax_tree.specs.Looks.{PartsStand, EndStands, EndWithin, StandsWithin}
 use Rattle.syntax_tree.specs.declared.trees.nodes.Tree as number
+use Rattle.syntax_tree.specs.Works.{StandsFor}
 use Rattle.syntax_tree.proofs.Looking.{count_stands}
 use Rattle.syntax_tree.specs.declared.rules.Named as code_named
 use Rattle.syntax_tree.specs.declared.rules.Rule as code_rule
+use Rattle.syntax_tree.specs.declared.rules.Rules as code_rules
 use Rattle.syntax_tree.specs.declared.trees.Work.{Work}
 use Rattle.rules_check.specs.Gathered.{AreLeaves}
+use Rattle.equal_trees.specs.Told.{IsPattern, TellsRules}
 use Rattle.rules_check.specs.declared.leaf.RuleLeaf.{RuleLeaf}
 
 pub clash : {P : Type 0} → true ≡ false → P
@@ -28,7 +33,7 @@ clash h = absurd cc
 
 -- what is told not to be, and isn't
 pub is_not : {P : Type 0} (b : Bool) → b ≡ false → (P → ⊥) → IsTrue b ↔ P
-is_not b e no = (λ h. clash (sym h ∙ e), λ p. absurd (no p))
+is_not b e never = (λ h. clash (sym h ∙ e), λ p. absurd (never p))
 
 -- ---- leaves
 
@@ -93,7 +98,7 @@ module _ {P : Type 0} (k : ℕ) (ts us : Trees Identifier) (t u : Tree Identifie
   )
 
   pub rows_differ : (t ≡ u → ⊥) → P → ⊥
-  rows_differ no h = let z : tree t (behind (k + 1) ts) ≡ tree u (behind (k + 1) us) = sym p ∙ (so_far.0 h ∙ q) in no cc
+  rows_differ never h = let z : tree t (behind (k + 1) ts) ≡ tree u (behind (k + 1) us) = sym p ∙ (so_far.0 h ∙ q) in never cc
 
 pub rows_end : {P : Type 0} (k : ℕ) (ts us : Trees Identifier) → behind k ts ≡ no_trees → behind k us ≡ no_trees → P ↔ (behind k ts ≡ behind k us) → P
 rows_end k ts us p q so_far = so_far.1 (p ∙ sym q)
@@ -138,6 +143,32 @@ vector_is a ts us p u is parts = (
 pub end_is : (b : Bool) (t u : Tree Identifier) → IsTrue b ↔ (t ≡ u) → IsTrue b ↔ (dotted t ≡ dotted u)
 end_is b t u h = (λ x. ap (λ (v : Tree Identifier). dotted v) (h.0 x), λ e. let same : t ≡ u = cc in h.1 same)
 
+pub tail_same : (b : Bool) (x tail last : Tail Identifier) → tail ≡ x → IsTrue b ↔ (x ≡ last) → IsTrue b ↔ (tail ≡ last)
+tail_same b x tail last e h = (λ q. e ∙ h.0 q, λ q. h.1 (sym e ∙ q))
+
+pub last_same : (b : Bool) (x last y : Tail Identifier) → last ≡ y → IsTrue b ↔ (x ≡ y) → IsTrue b ↔ (x ≡ last)
+last_same b x last y e h = (λ q. h.0 q ∙ sym e, λ q. h.1 (q ∙ e))
+
+-- the tree of a tail
+pub end_tree : (work : Work) (end : Option number.Tree) (n : number.Tree) (tail : Tail Identifier) → end ≡ Some n → EndStands work end tail → (t : Tree Identifier) × (tail ≡ dotted t) × StandsFor work n t
+end_tree work None n tail e h = absurd cc
+end_tree work (Some m) n proper e h = absurd h
+end_tree work (Some m) n (dotted t) e h = (t, refl, subst (λ (x : number.Tree). StandsFor work x t) (same_Some m n e) h.1)
+
+pub end_part : (work : Work) (end : Option number.Tree) (n : number.Tree) (d : ℕ) → end ≡ Some n → EndWithin work end d → StandsWithin work n d
+end_part work end n d e h =
+    let t = end_tree work end n h.0 e h.1 in
+    let below : tail_depth (dotted t.0) ≤ d = subst (λ (x : Tail Identifier). tail_depth x ≤ d) t.1 h.2 in
+    (t.0, t.2, below)
+
+pub no_tail : (work : Work) (end : Option number.Tree) (tail : Tail Identifier) → end ≡ None → EndStands work end tail → tail ≡ proper
+no_tail work None proper e h = refl
+no_tail work None (dotted t) e h = absurd h
+no_tail work (Some n) tail e h = absurd cc
+
+pub not_proper : (work : Work) (end : Option number.Tree) (n : number.Tree) (last : Tail Identifier) → end ≡ Some n → EndStands work end last → proper ≡ last → ⊥
+not_proper work end n last e g h = let d = end_tree work end n last e g in let z : proper ≡ dotted d.0 = h ∙ d.1 in absurd cc
+
 -- with the place of the other tree
 pub placed_same : (b : Bool) (x : Tree Identifier) (t u : Tree Identifier) → t ≡ x → IsTrue b ↔ (x ≡ u) → IsTrue b ↔ (t ≡ u)
 placed_same b x t u e h = (λ q. e ∙ h.0 q, λ q. h.1 (sym e ∙ q))
@@ -154,12 +185,12 @@ rule_there work (suc k) (n ∷ ns) (r ∷ rs) d h l =
     let e : suc (k + 1) ≡ suc k + 1 = omega arith in
     (p.0, p.1, p.2 ∙ ap (λ (n : ℕ). p.0 ∷ drop n (r ∷ rs)) e)
 
+drop_none : (X : Type 0) (k : ℕ) → drop {A = X} k [] ≡ []
+drop_none X zero = refl
+drop_none X (suc k) = refl
+
 pub rules_past : (work : Work) (k : ℕ) (ns : List code_rule.Rule) (rs : List (Rule Identifier)) → AreRules work ns rs → length ns ≤ k → drop k rs ≡ []
-rules_past work k [] [] h l = drop_none k
-  where
-    drop_none : (k : ℕ) → drop k [] ≡ []
-    drop_none zero = refl
-    drop_none (suc k) = refl
+rules_past work k [] [] h l = drop_none (Rule Identifier) k
 rules_past work k [] (r ∷ rs) h l = absurd h
 rules_past work k (n ∷ ns) [] h l = absurd h
 rules_past work zero (n ∷ ns) (r ∷ rs) h l = absurd (omega (arith, l))
@@ -179,7 +210,46 @@ module _ {X : Type 0} (k : ℕ) (xs ys : List X) (x y : X) (p : drop k xs ≡ x 
   )
 
   pub list_no_more : (x ≡ y → ⊥) → xs ≡ ys → ⊥
-  list_no_more no h = let z : x ∷ drop (k + 1) xs ≡ y ∷ drop (k + 1) ys = sym p ∙ (so_far.0 h ∙ q) in no cc
+  list_no_more never h = let z : x ∷ drop (k + 1) xs ≡ y ∷ drop (k + 1) ys = sym p ∙ (so_far.0 h ∙ q) in never cc
+
+-- the rule's pattern
+pub pattern_of : (work : Work) (n : code_rule.Rule) (r : Rule Identifier) → IsRule work n r → IsPattern work n.pattern r.parts r.tail
+pattern_of work n r h = record { head = h.head; head_place = h.head_place; place = h.place; stands = h.pattern }
+
+abbrev pub whole_pattern : (work : Work) (n : number.Tree) (ts : Trees Identifier) (tail : Tail Identifier) → IsPattern work n ts tail → Tree Identifier
+whole_pattern work n ts tail h = list (tree (name h.head h.head_place) ts) tail h.place
+
+pub pattern_same : (b : Bool) (h : Tree Identifier) (ts us xs : Trees Identifier) (tail last end : Tail Identifier) → tree h ts ≡ xs → tail ≡ end → IsTrue b ↔ ((behind 1 xs ≡ us) × (end ≡ last)) → IsTrue b ↔ ((ts ≡ us) × (tail ≡ last))
+pattern_same b h ts us xs tail last end e d is = (λ q. let p = is.0 q in (ap (behind 1) e ∙ p.0, d ∙ p.1), λ p. is.1 (sym (ap (behind 1) e) ∙ p.0, sym d ∙ p.1))
+
+-- ---- first items
+
+pub take_next : {X : Type 0} (k : ℕ) (xs : List X) (x : X) → slice_get xs k ≡ Some x → take (k + 1) xs ≡ take k xs ++ x ∷ []
+take_next k [] x e = absurd cc
+take_next zero (y ∷ xs) x e = let same : y ≡ x = same_Some y x e in ap (λ z. z ∷ []) same
+take_next (suc k) (y ∷ xs) x e = let n : suc k + 1 ≡ suc (k + 1) = omega arith in ap (λ (m : ℕ). take m (y ∷ xs)) n ∙ ap (λ zs. y ∷ zs) (take_next k xs x e)
+
+pub same_there : {X : Type 0} (n k : ℕ) (xs ys : List X) → take n xs ≡ take n ys → k < n → slice_get xs k ≡ slice_get ys k
+same_there zero k xs ys e l = absurd (omega (arith, l))
+same_there (suc n) k [] [] e l = refl
+same_there (suc n) k [] (y ∷ ys) e l = absurd cc
+same_there (suc n) k (x ∷ xs) [] e l = absurd cc
+same_there (suc n) zero (x ∷ xs) (y ∷ ys) e l = let same : x ≡ y = cc in ap (λ z. Some z) same
+same_there (suc n) (suc k) (x ∷ xs) (y ∷ ys) e l = let rest : take n xs ≡ take n ys = cc in same_there n k xs ys rest (omega (arith, l))
+
+named_at : (xs : List RuleLeaf) (k : ℕ) (d : RuleLeaf) → k < length xs → slice_get (map (λ l. l.name) xs) k ≡ Some (get_or xs k d).name
+named_at [] k d l = absurd (omega (arith, l))
+named_at (x ∷ xs) zero d l = refl
+named_at (x ∷ xs) (suc k) d l = named_at xs k d (omega (arith, l))
+
+module _ (k : ℕ) (xs ys : List RuleLeaf) (d e : RuleLeaf) (l : k < length xs) (m : k < length ys) where
+  pub names_more : take k (map (λ x. x.name) xs) ≡ take k (map (λ x. x.name) ys) → (get_or xs k d).name ≡ (get_or ys k e).name → take (k + 1) (map (λ x. x.name) xs) ≡ take (k + 1) (map (λ x. x.name) ys)
+  names_more so_far same =
+      take_next k (map (λ x. x.name) xs) (get_or xs k d).name (named_at xs k d l)
+      ∙ ((λ j. so_far j ++ same j ∷ []) ∙ sym (take_next k (map (λ x. x.name) ys) (get_or ys k e).name (named_at ys k e m)))
+
+  pub name_there : (n : ℕ) → take n (map (λ x. x.name) xs) ≡ take n (map (λ x. x.name) ys) → k < n → (get_or xs k d).name ≡ (get_or ys k e).name
+  name_there n all lt = same_Some (get_or xs k d).name (get_or ys k e).name (sym (named_at xs k d l) ∙ (same_there n k (map (λ x. x.name) xs) (map (λ x. x.name) ys) all lt ∙ named_at ys k e m))
 
 -- ---- literals
 
@@ -261,6 +331,43 @@ module _ (names : Names) (apart : AreToldApart names.idents) where
   )
 
 -- ---- the whole
+
+-- the literals, by the leaves that tell them
+module _ (work : Work) (apart : AreToldApart work.symbols.idents) (one other : code_rules.Rules) (leaves others : List RuleLeaf) (r q : Rules Identifier) (f : TellsRules work one leaves r) (g : TellsRules work other others q) where
+  abbrev Same : Type 0
+  Same = (length one.literals ≡ length other.literals) × (take (length one.literals) (map (λ l. l.name) leaves) ≡ take (length one.literals) (map (λ l. l.name) others))
+
+  count : length one.literals ≡ length r.literals
+  count = idents_many work.symbols one.literals r.literals f.stands.literals
+
+  count_too : length other.literals ≡ length q.literals
+  count_too = idents_many work.symbols other.literals q.literals g.stands.literals
+
+  told : AreNamed work.symbols (take (length one.literals) (map (λ l. l.name) leaves)) r.literals
+  told = subst (λ (n : ℕ). AreNamed work.symbols (take n (map (λ l. l.name) leaves)) r.literals) (sym count) (literals_told work.symbols leaves r.literals (all_rule_leaves identifiers r r.rules) f.told)
+
+  told_too : AreNamed work.symbols (take (length other.literals) (map (λ l. l.name) others)) q.literals
+  told_too = subst (λ (n : ℕ). AreNamed work.symbols (take n (map (λ l. l.name) others)) q.literals) (sym count_too) (literals_told work.symbols others q.literals (all_rule_leaves identifiers q q.rules) g.told)
+
+  pub literals_same : Same ↔ (r.literals ≡ q.literals)
+  literals_same = (
+    λ p.
+        let there = subst (λ (n : ℕ). AreNamed work.symbols (take n (map (λ l. l.name) others)) q.literals) (sym p.0) told_too in
+        (all_named_same work.symbols apart (take (length one.literals) (map (λ l. l.name) leaves)) (take (length one.literals) (map (λ l. l.name) others)) r.literals q.literals told there).0 p.1,
+    λ e.
+        let n : length one.literals ≡ length other.literals = count ∙ (ap (λ (ls : List (Named Identifier)). length ls) e ∙ sym count_too) in
+        let there = subst (λ (n : ℕ). AreNamed work.symbols (take n (map (λ l. l.name) others)) q.literals) (sym n) told_too in
+        (n, (all_named_same work.symbols apart (take (length one.literals) (map (λ l. l.name) leaves)) (take (length one.literals) (map (λ l. l.name) others)) r.literals q.literals told there).1 e),
+  )
+
+  -- there are as many leaves
+  pub enough : length one.literals ≤ length leaves
+  enough =
+      let a = leaves_many work.symbols leaves (leaves_of identifiers r) f.told in
+      let b = length-append (map (λ l. record { leaf = l; literal = true }) r.literals) (all_rule_leaves identifiers r r.rules) in
+      let c = length-map r.literals (λ (l : Named Identifier). record { leaf = l; literal = true }) in
+      let d = count in
+      omega (arith, a, b, c, d)
 
 pub rules_same : (r q : Rules Identifier) → r.ellipsis ≡ q.ellipsis → r.literals ≡ q.literals → r.rules ≡ q.rules → r ≡ q
 rules_same r q a b c = λ j. record { ellipsis = a j; literals = b j; rules = c j }

@@ -32,14 +32,32 @@ pub fn same_rules(
     if !same_ident(one.ellipsis, other.ellipsis) {
         return false;
     }
-    let count = one.literals.as_slice().len();
-    if count != other.literals.as_slice().len() {
-        return false;
-    }
-    if !same_names(one_leaves, other_leaves, count) {
+    if !same_literals(
+        one_leaves,
+        one.literals.as_slice().len(),
+        other_leaves,
+        other.literals.as_slice().len(),
+    ) {
         return false;
     }
     all_same(work, one.rules.as_slice(), other.rules.as_slice())
+}
+
+/// Whether as many of two rows of leaves tell literals, and the same.
+fn same_literals(
+    leaves: &[RuleLeaf],
+    count: usize,
+    others: &[RuleLeaf],
+    other_count: usize,
+) -> bool
+    requires one { count ≤ length leaves.now }
+    requires other { other_count ≤ length others.now }
+    ensures { IsTrue result ↔ ((count ≡ other_count) × (take count (map (λ l. l.name) leaves.now) ≡ take count (map (λ l. l.name) others.now))) }
+{
+    if count != other_count {
+        return false;
+    }
+    same_names(leaves, others, count)
 }
 
 /// Whether the first so many of two rows of leaves are the same names.
@@ -111,10 +129,7 @@ fn is_pattern(work: &Work, tree: Tree, parts: &[Tree], end: Option<Tree>, left: 
 {
     match look_at(work, tree) {
         Look::List(others, other_end) => {
-            if !same_parts(work, parts, others, 1, left) {
-                return false;
-            }
-            same_ends(work, end, other_end, left)
+            same_parts(work, parts, others, 1, left) && same_ends(work, end, other_end, left)
         }
         Look::Name(_) => false,
         Look::Atom(_) => false,

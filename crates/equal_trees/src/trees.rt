@@ -2,13 +2,14 @@
 ghost use Rattle.std.specs.Prelude.{◌≡◌, ◌↔◌, ◌≤◌, IsTrue, length, Option, Some};
 ghost use Rattle.scheme_model.specs.Ident.{Ident as Identifier};
 ghost use Rattle.scheme_model.specs.Matching.{behind};
-ghost use Rattle.scheme_model.specs.Trees.{Atom, Tree as ModelTree, atom, list, name, vector, Trees, Tail};
+ghost use Rattle.scheme_model.specs.Trees.{Atom, Tree as ModelTree, atom, dotted, list, name, proper, vector, Trees, Tail};
 ghost use Rattle.scheme_model.specs.declared.Occ.{Occ as AnyOcc};
 ghost use Rattle.syntax_tree.specs.Looks.{AreStanding, EndIsStanding, EndStands, EndWithin, PartsStand, PartsWithin, StandsWithin};
 ghost use Rattle.syntax_tree.specs.Macros.{IsIdent};
 ghost use Rattle.syntax_tree.specs.Placed.{tree_place};
 ghost use Rattle.syntax_tree.specs.Standing.{leaf_tree};
 ghost use Rattle.syntax_tree.specs.Works.{IsStanding, StandsFor};
+ghost use Rattle.syntax_tree.specs.declared.trees.Work.{Work as AnyWork};
 
 use scheme_model::Occ;
 use syntax_tree::look::{Look, look_at, place_of};
@@ -53,10 +54,7 @@ fn is_list(work: &Work, tree: Tree, parts: &[Tree], end: Option<Tree>, left: u32
 {
     match look_at(work, tree) {
         Look::List(others, other_end) => {
-            if !same_parts(work, parts, others, 0, left) {
-                return false;
-            }
-            same_ends(work, end, other_end, left)
+            same_parts(work, parts, others, 0, left) && same_ends(work, end, other_end, left)
         }
         Look::Name(_) => false,
         Look::Atom(_) => false,
@@ -113,11 +111,31 @@ pub(crate) fn same_ends(work: &Work, end: Option<Tree>, other: Option<Tree>, lef
     ensures { (tail : Tail Identifier) (last : Tail Identifier) → EndStands work.now end tail → EndStands work.now other last → IsTrue result ↔ (tail ≡ last) }
 {
     match end {
-        None => other.is_none(),
-        Some(end) => match other {
-            None => false,
-            Some(other) => same_within(work, end, other, left),
-        },
+        None => is_proper(other),
+        Some(end) => is_dotted(work, other, end, left),
+    }
+}
+
+/// Whether a list's tail is this tree, which is at most `left` nodes deep.
+#[cycle(trees)]
+fn is_dotted(work: &Work, end: Option<Tree>, tree: Tree, left: u32) -> bool
+    requires tree { StandsWithin work.now tree left }
+    requires end { EndIsStanding work.now end }
+    ensures { (t : ModelTree Identifier) (last : Tail Identifier) → StandsFor work.now tree t → EndStands work.now end last → IsTrue result ↔ (dotted t ≡ last) }
+{
+    match end {
+        None => false,
+        Some(end) => same_within(work, tree, end, left),
+    }
+}
+
+/// Whether a list has no tail.
+fn is_proper(end: Option<Tree>) -> bool
+    ensures { (work : AnyWork) (last : Tail Identifier) → EndStands work end last → IsTrue result ↔ (proper ≡ last) }
+{
+    match end {
+        None => true,
+        Some(_) => false,
     }
 }
 

@@ -1,0 +1,34 @@
+use Rattle.std.proofs.Common.{◌≡◌, ◌<◌, ◌≤◌, length, false, refl, sym, ◌∙◌, arith}
+use Rattle.equal_trees.proofs.EqualLaws.{clash, is_not, rule_there, rules_past, rules_many, list_more, list_no_more}
+use Rattle.equal_trees.proofs.rules.all_same.Goals as goal
+
+pub loop-k-init : goal.loop-k-init
+loop-k-init c = λ rs qs f g. (λ e. e, λ e. e)
+
+pub loop-k-preserved : goal.loop-k-preserved
+loop-k-preserved c = λ rs qs f g.
+    let w = c.args.work.now in
+    let k = c.loop-k.k in
+    let l : k < length c.args.rules.now = omega arith in
+    let m : k < length c.args.others.now = omega arith in
+    let p = rule_there w k c.args.rules.now rs _ f l in
+    let q = rule_there w k c.args.others.now qs _ g m in
+    list_more k rs qs p.0 q.0 p.2 q.2 (c.loop-k.invariant rs qs f g) ((c.same_rule.ensures p.0 q.0 p.1 q.1).0 c.if-not-same_rule.false)
+
+pub returns-then-not-same_rule : goal.returns-then-not-same_rule
+returns-then-not-same_rule c = λ rs qs f g.
+    let w = c.args.work.now in
+    let k = c.loop-k.k in
+    let l : k < length c.args.rules.now = omega arith in
+    let m : k < length c.args.others.now = omega arith in
+    let p = rule_there w k c.args.rules.now rs _ f l in
+    let q = rule_there w k c.args.others.now qs _ g m in
+    is_not false refl (list_no_more k rs qs p.0 q.0 p.2 q.2 (c.loop-k.invariant rs qs f g) (λ e. clash (sym ((c.same_rule.ensures p.0 q.0 p.1 q.1).1 e) ∙ c.if-not-same_rule.true)))
+
+pub returns : goal.returns
+returns c = λ rs qs f g.
+    let w = c.args.work.now in
+    let k = c.loop-k.k in
+    let l : length c.args.rules.now ≤ k = omega arith in
+    let m : length c.args.others.now ≤ k = omega arith in
+    (λ h. (c.loop-k.invariant rs qs f g).1 (rules_past w k c.args.rules.now rs f l ∙ sym (rules_past w k c.args.others.now qs g m)), λ h. refl)

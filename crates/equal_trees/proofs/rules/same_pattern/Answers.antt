@@ -1,0 +1,39 @@
+use Rattle.std.proofs.Common.{◌≡◌}
+use Rattle.scheme_model.specs.Trees.{tree, name, atom, list, vector}
+use Rattle.equal_trees.proofs.EqualLaws.{pattern_same, whole_pattern}
+use Rattle.equal_trees.proofs.rules.same_pattern.Goals as goal
+
+pub is_pattern-requires-clause-parts : goal.is_pattern-requires-clause-parts
+is_pattern-requires-clause-parts c = ?
+
+pub is_pattern-requires-clause-first : goal.is_pattern-requires-clause-first
+is_pattern-requires-clause-first c = ?
+
+pub is_pattern-requires-clause-tail : goal.is_pattern-requires-clause-tail
+is_pattern-requires-clause-tail c = ?
+
+pub returns-in-List : goal.returns-in-List
+returns-in-List c = λ ts us tail last f g.
+    let l = c.in-List.ensures.look (whole_pattern c.args.work.now c.args.pattern ts tail f) f.stands in
+    let z : list (tree (name f.head f.head_place) ts) tail f.place ≡ list l.0 l.1 l.2 = l.3 in
+    let a : tree (name f.head f.head_place) ts ≡ l.0 = cc in
+    let b : tail ≡ l.1 = cc in
+    pattern_same c.is_pattern.result (name f.head f.head_place) ts us l.0 tail last l.1 a b (c.is_pattern.ensures l.0 us l.1 last l.4 l.5 g)
+
+pub returns-in-Name : goal.returns-in-Name
+returns-in-Name c = λ ts us tail last f g.
+    let l = c.in-Name.ensures.look (whole_pattern c.args.work.now c.args.pattern ts tail f) f.stands in
+    let z : list (tree (name f.head f.head_place) ts) tail f.place ≡ name l.0 l.1 = l.2 in
+    absurd cc
+
+pub returns-in-Atom : goal.returns-in-Atom
+returns-in-Atom c = λ ts us tail last f g.
+    let l = c.in-Atom.ensures.look (whole_pattern c.args.work.now c.args.pattern ts tail f) f.stands in
+    let z : list (tree (name f.head f.head_place) ts) tail f.place ≡ atom l.0 l.1 = l.2 in
+    absurd cc
+
+pub returns-in-Vector : goal.returns-in-Vector
+returns-in-Vector c = λ ts us tail last f g.
+    let l = c.in-Vector.ensures.look (whole_pattern c.args.work.now c.args.pattern ts tail f) f.stands in
+    let z : list (tree (name f.head f.head_place) ts) tail f.place ≡ vector l.0 l.1 = l.2 in
+    absurd cc
