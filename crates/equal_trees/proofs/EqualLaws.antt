@@ -337,17 +337,17 @@ module _ (work : Work) (apart : AreToldApart work.symbols.idents) (one other : c
   abbrev Same : Type 0
   Same = (length one.literals ≡ length other.literals) × (take (length one.literals) (map (λ l. l.name) leaves) ≡ take (length one.literals) (map (λ l. l.name) others))
 
-  count : length one.literals ≡ length r.literals
-  count = idents_many work.symbols one.literals r.literals f.stands.literals
+  literal_count : length one.literals ≡ length r.literals
+  literal_count = idents_many work.symbols one.literals r.literals f.stands.literals
 
-  count_too : length other.literals ≡ length q.literals
-  count_too = idents_many work.symbols other.literals q.literals g.stands.literals
+  other_count : length other.literals ≡ length q.literals
+  other_count = idents_many work.symbols other.literals q.literals g.stands.literals
 
   told : AreNamed work.symbols (take (length one.literals) (map (λ l. l.name) leaves)) r.literals
-  told = subst (λ (n : ℕ). AreNamed work.symbols (take n (map (λ l. l.name) leaves)) r.literals) (sym count) (literals_told work.symbols leaves r.literals (all_rule_leaves identifiers r r.rules) f.told)
+  told = subst (λ (n : ℕ). AreNamed work.symbols (take n (map (λ l. l.name) leaves)) r.literals) (sym literal_count) (literals_told work.symbols leaves r.literals (all_rule_leaves identifiers r r.rules) f.told)
 
   told_too : AreNamed work.symbols (take (length other.literals) (map (λ l. l.name) others)) q.literals
-  told_too = subst (λ (n : ℕ). AreNamed work.symbols (take n (map (λ l. l.name) others)) q.literals) (sym count_too) (literals_told work.symbols others q.literals (all_rule_leaves identifiers q q.rules) g.told)
+  told_too = subst (λ (n : ℕ). AreNamed work.symbols (take n (map (λ l. l.name) others)) q.literals) (sym other_count) (literals_told work.symbols others q.literals (all_rule_leaves identifiers q q.rules) g.told)
 
   pub literals_same : Same ↔ (r.literals ≡ q.literals)
   literals_same = (
@@ -355,7 +355,7 @@ module _ (work : Work) (apart : AreToldApart work.symbols.idents) (one other : c
         let there = subst (λ (n : ℕ). AreNamed work.symbols (take n (map (λ l. l.name) others)) q.literals) (sym p.0) told_too in
         (all_named_same work.symbols apart (take (length one.literals) (map (λ l. l.name) leaves)) (take (length one.literals) (map (λ l. l.name) others)) r.literals q.literals told there).0 p.1,
     λ e.
-        let n : length one.literals ≡ length other.literals = count ∙ (ap (λ (ls : List (Named Identifier)). length ls) e ∙ sym count_too) in
+        let n : length one.literals ≡ length other.literals = literal_count ∙ (ap (λ (ls : List (Named Identifier)). length ls) e ∙ sym other_count) in
         let there = subst (λ (n : ℕ). AreNamed work.symbols (take n (map (λ l. l.name) others)) q.literals) (sym n) told_too in
         (n, (all_named_same work.symbols apart (take (length one.literals) (map (λ l. l.name) leaves)) (take (length one.literals) (map (λ l. l.name) others)) r.literals q.literals told there).1 e),
   )
@@ -366,7 +366,7 @@ module _ (work : Work) (apart : AreToldApart work.symbols.idents) (one other : c
       let a = leaves_many work.symbols leaves (leaves_of identifiers r) f.told in
       let b = length-append (map (λ l. record { leaf = l; literal = true }) r.literals) (all_rule_leaves identifiers r r.rules) in
       let c = length-map r.literals (λ (l : Named Identifier). record { leaf = l; literal = true }) in
-      let d = count in
+      let d = literal_count in
       omega (arith, a, b, c, d)
 
 pub rules_same : (r q : Rules Identifier) → r.ellipsis ≡ q.ellipsis → r.literals ≡ q.literals → r.rules ≡ q.rules → r ≡ q

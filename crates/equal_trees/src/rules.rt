@@ -32,29 +32,21 @@ pub fn same_rules(
     if !same_ident(one.ellipsis, other.ellipsis) {
         return false;
     }
-    if !same_literals(
-        one_leaves,
-        one.literals.as_slice().len(),
-        other_leaves,
-        other.literals.as_slice().len(),
-    ) {
+    if !same_literals(one, one_leaves, other, other_leaves) {
         return false;
     }
     all_same(work, one.rules.as_slice(), other.rules.as_slice())
 }
 
-/// Whether as many of two rows of leaves tell literals, and the same.
-fn same_literals(
-    leaves: &[RuleLeaf],
-    count: usize,
-    others: &[RuleLeaf],
-    other_count: usize,
-) -> bool
-    requires one { count ≤ length leaves.now }
-    requires other { other_count ≤ length others.now }
-    ensures { IsTrue result ↔ ((count ≡ other_count) × (take count (map (λ l. l.name) leaves.now) ≡ take count (map (λ l. l.name) others.now))) }
+/// Whether two macros have as many literals, and the same, as their first leaves tell.
+fn same_literals(one: &Rules, leaves: &[RuleLeaf], other: &Rules, others: &[RuleLeaf]) -> bool
+    requires one { length one.now.literals ≤ length leaves.now }
+    requires other { length other.now.literals ≤ length others.now }
+    ensures { IsTrue result ↔ ((length one.now.literals ≡ length other.now.literals) × (take (length one.now.literals) (map (λ l. l.name) leaves.now) ≡ take (length one.now.literals) (map (λ l. l.name) others.now))) }
 {
-    if count != other_count {
+    let count = one.literals.as_slice().len();
+    let other_count = other.literals.as_slice().len();
+    if other_count != count {
         return false;
     }
     same_names(leaves, others, count)
@@ -80,10 +72,11 @@ fn all_same(work: &Work, rules: &[Rule], others: &[Rule]) -> bool
     requires other { (rs : List (ModelRule Identifier)) × AreRules work.now others.now rs }
     ensures { (rs : List (ModelRule Identifier)) (qs : List (ModelRule Identifier)) → AreRules work.now rules.now rs → AreRules work.now others.now qs → IsTrue result ↔ (rs ≡ qs) }
 {
-    if rules.len() != others.len() {
+    let count = rules.len();
+    if others.len() != count {
         return false;
     }
-    for k in 0..rules.len() {
+    for k in 0..count {
         if !same_rule(work, rules[k], others[k]) {
             return false;
         }

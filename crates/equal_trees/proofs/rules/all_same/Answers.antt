@@ -1,6 +1,14 @@
-use Rattle.std.proofs.Common.{◌≡◌, ◌<◌, ◌≤◌, length, false, refl, sym, ◌∙◌, arith}
+use Rattle.std.proofs.Common.{◌≡◌, ◌<◌, ◌≤◌, List, length, false, refl, sym, ap, ◌∙◌, arith}
+use Rattle.scheme_model.specs.Ident.{Ident}
+use Rattle.scheme_model.specs.RulesShape.{Rule}
 use Rattle.equal_trees.proofs.EqualLaws.{clash, is_not, rule_there, rules_past, rules_many, list_more, list_no_more}
 use Rattle.equal_trees.proofs.rules.all_same.Goals as goal
+
+pub returns-then-others-count : goal.returns-then-others-count
+returns-then-others-count c = λ rs qs f g.
+    let a = rules_many c.args.work.now c.args.rules.now rs f in
+    let b = rules_many c.args.work.now c.args.others.now qs g in
+    is_not false refl (λ e. let n : length rs ≡ length qs = ap (λ (xs : List (Rule Ident)). length xs) e in absurd (omega (arith, a, b, n)))
 
 pub loop-k-init : goal.loop-k-init
 loop-k-init c = λ rs qs f g. (λ e. e, λ e. e)

@@ -1,4 +1,6 @@
-use Rattle.std.proofs.Common.{◌≡◌}
+use Rattle.std.proofs.Common.{◌≡◌, ap, arith}
+use Rattle.scheme_model.specs.TreeParts.{count}
+use Rattle.syntax_tree.proofs.Looking.{count_stands}
 use Rattle.scheme_model.specs.Trees.{tree, name, atom, list, vector}
 use Rattle.equal_trees.proofs.EqualLaws.{pattern_same, whole_pattern}
 use Rattle.equal_trees.proofs.rules.same_pattern.Goals as goal
@@ -7,7 +9,15 @@ pub is_pattern-requires-clause-parts : goal.is_pattern-requires-clause-parts
 is_pattern-requires-clause-parts c = ?
 
 pub is_pattern-requires-clause-first : goal.is_pattern-requires-clause-first
-is_pattern-requires-clause-first c = ?
+is_pattern-requires-clause-first c =
+    let p = c.requires.one in
+    let f = p.2 in
+    let l = c.in-List.ensures.look (whole_pattern c.args.work.now c.args.pattern p.0 p.1 f) f.stands in
+    let z : list (tree (name f.head f.head_place) p.0) p.1 f.place ≡ list l.0 l.1 l.2 = l.3 in
+    let a : tree (name f.head f.head_place) p.0 ≡ l.0 = cc in
+    let n = ap count a in
+    let m = count_stands c.args.work.now c.in-List.parts.now l.0 l.4 in
+    omega (arith, n, m)
 
 pub is_pattern-requires-clause-tail : goal.is_pattern-requires-clause-tail
 is_pattern-requires-clause-tail c = ?

@@ -2,7 +2,7 @@ use Rattle.std.proofs.Common.{◌≡◌, ◌<◌, ◌≤◌, length, false, refl
 use Rattle.scheme_model.specs.Trees.{name, atom, list, vector, proper, dotted}
 use Rattle.syntax_tree.specs.Placed.{tree_place}
 use Rattle.syntax_tree.proofs.Looking.{part_there, part_within, part_standing, split_one, behind_past, within_positive, list_parts_within, end_within, vector_parts_within}
-use Rattle.equal_trees.proofs.EqualLaws.{clash, is_not, placed_same, list_is, list_isnt, vector_is, end_is, tail_same, last_same, end_tree, end_part, no_tail, rows_more, rows_differ, rows_end}
+use Rattle.equal_trees.proofs.EqualLaws.{clash, is_not, placed_same, list_is, list_isnt, vector_is, end_is, tail_same, last_same, end_tree, end_part, no_tail, rows_more, rows_differ, rows_end, rows_as_long}
 use Rattle.equal_trees.proofs.trees.+trees.Goals as goal
 
 -- ---- trees
@@ -104,6 +104,10 @@ same_parts-returns-then-not-same_within t c = λ ts us f g.
     let q = part_there w k c.args.others.now us (record { number = 0 }) g m in
     is_not false refl
     (rows_differ k ts us p.part q.part (split_one w k ts _ p) (split_one w k us _ q) (c.loop-k.invariant ts us f g) (λ e. clash (sym ((c.same_within.ensures p.part q.part p.stands q.stands).1 e) ∙ c.if-not-same_within.true)))
+
+pub same_parts-returns-then-others-count : goal.same_parts-returns-then-others-count
+same_parts-returns-then-others-count t c = λ ts us f g.
+    is_not false refl (λ h. let e = rows_as_long c.args.work.now c.args.from c.args.parts.now c.args.others.now ts us f g c.requires.from.0 c.requires.from.1 h in absurd (omega (arith, e)))
 
 pub same_parts-loop-k-init : goal.same_parts-loop-k-init
 same_parts-loop-k-init t c = λ ts us parts others. (λ e. e, λ e. e)
