@@ -364,8 +364,9 @@ module _ (work : Work) (apart : AreToldApart work.symbols.idents) (one other : c
   pub enough : length one.literals ≤ length leaves
   enough =
       let a = leaves_many work.symbols leaves (leaves_of identifiers r) f.told in
-      let b = length-append (map (λ l. record { leaf = l; literal = true }) r.literals) (all_rule_leaves identifiers r r.rules) in
-      let c = length-map r.literals (λ (l : Named Identifier). record { leaf = l; literal = true }) in
+      let literal : Named Identifier → Leaf Identifier = λ l. record { leaf = l; literal = true } in
+      let b = length-append (map literal r.literals) (all_rule_leaves identifiers r r.rules) in
+      let c = length-map r.literals literal in
       let d = literal_count in
       omega (arith, a, b, c, d)
 

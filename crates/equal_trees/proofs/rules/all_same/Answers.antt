@@ -13,6 +13,22 @@ returns-then-others-count c = λ rs qs f g.
 pub loop-k-init : goal.loop-k-init
 loop-k-init c = λ rs qs f g. (λ e. e, λ e. e)
 
+pub same_rule-requires-clause-one : goal.same_rule-requires-clause-one
+same_rule-requires-clause-one c =
+    let f = c.requires.one in
+    let k = c.loop-k.k in
+    let l : k < length c.args.rules.now = omega arith in
+    let p = rule_there c.args.work.now k c.args.rules.now f.0 _ f.1 l in
+    (p.0, p.1)
+
+pub same_rule-requires-clause-other : goal.same_rule-requires-clause-other
+same_rule-requires-clause-other c =
+    let g = c.requires.other in
+    let k = c.loop-k.k in
+    let l : k < length c.args.others.now = omega arith in
+    let p = rule_there c.args.work.now k c.args.others.now g.0 _ g.1 l in
+    (p.0, p.1)
+
 pub loop-k-preserved : goal.loop-k-preserved
 loop-k-preserved c = λ rs qs f g.
     let w = c.args.work.now in

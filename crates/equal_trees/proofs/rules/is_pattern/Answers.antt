@@ -6,6 +6,9 @@ use Rattle.syntax_tree.proofs.Looking.{count_stands}
 use Rattle.equal_trees.proofs.EqualLaws.{clash, is_not, whole_pattern}
 use Rattle.equal_trees.proofs.rules.is_pattern.Goals as goal
 
+pub look_at-requires : goal.look_at-requires
+look_at-requires c = let p = c.requires.tree in (whole_pattern c.args.work.now c.args.tree p.0 p.1 p.2, p.2.stands)
+
 pub same_parts-requires-clause-other : goal.same_parts-requires-clause-other
 same_parts-requires-clause-other c =
     let p = c.requires.tree in

@@ -1,12 +1,27 @@
 use Rattle.std.proofs.Common.{◌≡◌, ap, arith}
 use Rattle.scheme_model.specs.TreeParts.{count}
-use Rattle.syntax_tree.proofs.Looking.{count_stands}
+use Rattle.syntax_tree.proofs.Looking.{count_stands, list_parts_within, end_within}
 use Rattle.scheme_model.specs.Trees.{tree, name, atom, list, vector}
 use Rattle.equal_trees.proofs.EqualLaws.{pattern_same, whole_pattern}
 use Rattle.equal_trees.proofs.rules.same_pattern.Goals as goal
 
+pub depth-left-requires : goal.depth-left-requires
+depth-left-requires c = let p = c.requires.one in (whole_pattern c.args.work.now c.args.pattern p.0 p.1 p.2, p.2.stands)
+
+pub look_at-requires : goal.look_at-requires
+look_at-requires c = let p = c.requires.one in (whole_pattern c.args.work.now c.args.pattern p.0 p.1 p.2, p.2.stands)
+
 pub is_pattern-requires-clause-parts : goal.is_pattern-requires-clause-parts
-is_pattern-requires-clause-parts c = ?
+is_pattern-requires-clause-parts c =
+    let w = c.args.work.now in
+    let p = c.requires.one in
+    let f = p.2 in
+    let t = whole_pattern w c.args.pattern p.0 p.1 f in
+    let l = c.in-List.ensures.look t f.stands in
+    let d = c.depth-left.ensures t f.stands in
+    let q = list_parts_within w c.depth-left.result t c.in-List.parts.now l.0 l.1 l.2 (omega (arith, d)) l.3 l.4 in
+    let few = q.2 in
+    (q.0, q.1, omega (arith, few))
 
 pub is_pattern-requires-clause-first : goal.is_pattern-requires-clause-first
 is_pattern-requires-clause-first c =
@@ -20,7 +35,16 @@ is_pattern-requires-clause-first c =
     omega (arith, n, m)
 
 pub is_pattern-requires-clause-tail : goal.is_pattern-requires-clause-tail
-is_pattern-requires-clause-tail c = ?
+is_pattern-requires-clause-tail c =
+    let w = c.args.work.now in
+    let p = c.requires.one in
+    let f = p.2 in
+    let t = whole_pattern w c.args.pattern p.0 p.1 f in
+    let l = c.in-List.ensures.look t f.stands in
+    let d = c.depth-left.ensures t f.stands in
+    let q = end_within w c.depth-left.result t c.in-List.end l.0 l.1 l.2 (omega (arith, d)) l.3 l.5 in
+    let few = q.2 in
+    (q.0, q.1, omega (arith, few))
 
 pub returns-in-List : goal.returns-in-List
 returns-in-List c = λ ts us tail last f g.
