@@ -17,3 +17,5 @@ pub mod Stepping  -- A note of a definition, where a form is declared again
 pub mod EndGoing  -- All notes of a form tell what they told, and all its definitions are made again; or one doesn't
 pub mod LaterGoing  -- A note that is no definition's, where a form is declared again
 pub mod DoneLaws  -- What a form that is declared again leaves in its unit, or one that isn't
+pub mod StoodMacros  -- A definition that stood as a keyword's is that of a macro, whatever stood behind it
+pub mod EditionLaws  -- A macro of the open unit has another edition

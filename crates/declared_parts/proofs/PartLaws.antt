@@ -1,7 +1,7 @@
 -- What is taken of a form that was gone through stands for what it left in its unit.
-use Rattle.std.proofs.Common.{◌≡◌, ℕ, zero, suc, ◌+◌, ◌≤◌, ◌<◌, List, [], ◌∷◌, ◌++◌, append_assoc, map, length, drop, get_or, reverse, Bool, true, false, cond, Option, Some, None, refl, sym, ap, ◌∙◌, subst, arith}
+use Rattle.std.proofs.Common.{◌≡◌, ℕ, zero, suc, ◌+◌, ◌≤◌, ◌<◌, List, [], ◌∷◌, ◌++◌, append_assoc, map, length, drop, get_or, slice_get, reverse, Bool, true, false, cond, Option, Some, None, refl, sym, ap, ◌∙◌, subst, arith}
 use Rattle.std.specs.List.{Contains}
-use Rattle.std.proofs.lemmas.List.{reverse-append, length-reverse, drop_all}
+use Rattle.std.proofs.lemmas.List.{reverse-append, length-reverse}
 use Rattle.std.proofs.lemmas.List.Elements.{Contains-append_right}
 use Rattle.std.proofs.lemmas.Option.{same_Some}
 use Rattle.scheme_model.specs.Ident.{Ident as Identifier}
@@ -44,6 +44,12 @@ item_then k [] d l = absurd (omega (arith, l))
 item_then zero (x ∷ xs) d l = refl
 item_then (suc k) (x ∷ xs) d l = let e : suc (k + 1) ≡ suc k + 1 = omega arith in item_then k xs d (omega (arith, l)) ∙ ap (λ (n : ℕ). get_or xs k d ∷ drop n (x ∷ xs)) e
 
+-- and so from the item that is there
+pub item_at : {X : Type 0} (k : ℕ) (xs : List X) (x : X) → slice_get xs k ≡ Some x → drop k xs ≡ x ∷ drop (k + 1) xs
+item_at k [] x e = absurd cc
+item_at zero (y ∷ xs) x e = let same : y ≡ x = same_Some y x e in ap (λ z. z ∷ xs) same
+item_at (suc k) (y ∷ xs) x e = let n : suc (k + 1) ≡ suc k + 1 = omega arith in item_at k xs x e ∙ ap (λ (m : ℕ). x ∷ drop m (y ∷ xs)) n
+
 drop_matched : {X Y : Type 0} (P : X → Y → Type 0) (xs : List X) (ys zs : List Y) → AllMatch P xs (ys ++ zs) → AllMatch P (drop (length ys) xs) zs
 drop_matched P xs [] zs h = h
 drop_matched P [] (y ∷ ys) zs h = absurd h
@@ -70,6 +76,14 @@ own_all work ls [] [] h roots = tt
 own_all work ls [] (n ∷ ns) h roots = absurd h
 own_all work ls (x ∷ xs) [] h roots = absurd h
 own_all work ls (x ∷ xs) (n ∷ ns) h roots = (own_one work ls x n h.0 roots.0, own_all work ls xs ns h.1 roots.1)
+
+-- one more
+pub own_more : (k : ℕ) (xs : List unit_note.Note) (x : unit_note.Note) (y : own_note.OwnNote) (old new all : List own_note.OwnNote) → slice_get xs k ≡ Some x → y ≡ without_scopes x → new ≡ old ++ y ∷ [] → old ++ map without_scopes (drop k xs) ≡ all → new ++ map without_scopes (drop (k + 1) xs) ≡ all
+own_more k xs x y old new all at is added so_far =
+    let rest = map without_scopes (drop (k + 1) xs) in
+    ap (λ (ys : List own_note.OwnNote). ys ++ rest) added
+    ∙ (append_assoc old (y ∷ []) rest
+    ∙ (ap (λ (z : own_note.OwnNote). old ++ z ∷ rest) is ∙ (ap (λ (zs : List unit_note.Note). old ++ map without_scopes zs) (sym (item_at k xs x at)) ∙ so_far)))
 
 -- the notes behind those that the unit had
 pub own_asked : (work : Work) (ls : List Frames) (asked : Asked) (own found : List (Note FramedIdent)) (from : ℕ) → NotesFor work ls asked (own ++ found) → AreAtRoot own → from ≡ length found →
@@ -157,20 +171,18 @@ module _ (work : Work) (ls : List Frames) (u : UnitScope) (s : ScopedState) (r :
         };
       }
 
+  kept_first : (o : Option ℕ) (x : code_note.Note) (xs : List code_note.Note) → keyword_made x.question ≡ o → (m : Noted) × Contains ms m × IsNote work.symbols r x m → AllMatch (IsKeptMacro work r ms) (macros_taken u.macros form u.unit xs) (keyword_notes xs) →
+      AllMatch (IsKeptMacro work r ms) (macro_taken u.macros form u.unit o ++ macros_taken u.macros form u.unit xs) (cond (is_some o) (x ∷ keyword_notes xs) (keyword_notes xs))
+  kept_first None x xs e m rest = rest
+  kept_first (Some n) x xs e m rest =
+      let k = kept_one x n m.0 m.1 m.2 e in
+      subst (λ (o : Option Macro). AllMatch (IsKeptMacro work r ms) (kept_if n o ++ macros_taken u.macros form u.unit xs) (x ∷ keyword_notes xs)) (sym k.there) (k.is, rest)
+
   pub kept_all : (xs : List code_note.Note) → ((x : code_note.Note) → Contains xs x → (m : Noted) × Contains ms m × IsNote work.symbols r x m) → AllMatch (IsKeptMacro work r ms) (macros_taken u.macros form u.unit xs) (keyword_notes xs)
   kept_all [] told = tt
-  kept_all (x ∷ xs) told = go (keyword_made x.question) refl
-    where
-      rest : AllMatch (IsKeptMacro work r ms) (macros_taken u.macros form u.unit xs) (keyword_notes xs)
-      rest = kept_all xs (λ y c. told y (Contains-append_right (x ∷ []) xs y c))
-
-      go : (o : Option ℕ) → keyword_made x.question ≡ o → AllMatch (IsKeptMacro work r ms) (macro_taken u.macros form u.unit o ++ macros_taken u.macros form u.unit xs) (cond (is_some o) (x ∷ keyword_notes xs) (keyword_notes xs))
-      go None e = rest
-      go (Some n) e =
-          let first : Contains (x ∷ xs) x = (zero, omega arith, refl) in
-          let m = told x first in
-          let k = kept_one x n m.0 m.1 m.2 e in
-          subst (λ (o : Option Macro). AllMatch (IsKeptMacro work r ms) (kept_if n o ++ macros_taken u.macros form u.unit xs) (x ∷ keyword_notes xs)) (sym k.there) (k.is, rest)
+  kept_all (x ∷ xs) told =
+      let first : Contains (x ∷ xs) x = (zero, omega arith, refl) in
+      kept_first (keyword_made x.question) x xs refl (told x first) (kept_all xs (λ y c. told y (Contains-append_right (x ∷ []) xs y c)))
 
 -- one note more
 pub taken_more : (macros : Macros) (form unit k : ℕ) (xs : List code_note.Note) (x : code_note.Note) (old new : List KeptMacro) → drop k xs ≡ x ∷ drop (k + 1) xs → new ≡ old ++ macro_taken macros form unit (keyword_made x.question) →

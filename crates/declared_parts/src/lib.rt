@@ -3,8 +3,11 @@
 
 pub mod again;
 mod defining;
+pub mod editions;
+pub mod laws;
 pub mod parts;
 mod undoing;
 
 pub use again::declare_again;
+pub use editions::keep_edition;
 pub use parts::{DeclaredPart, KeptMacro, OwnNote, take_part};
