@@ -3,3 +3,4 @@ pub mod TreeLaws  -- Trees under other numbers
 pub mod LeafLaws  -- Leaves of cores stand under other numbers for what they stood for
 pub mod CoreLaws  -- Cores stand under other numbers for what they stood for
 pub mod FormLaws  -- Forms of units stand under other numbers for what they stood for
+pub mod NoteLaws  -- Notes under other numbers stand for what they stood for

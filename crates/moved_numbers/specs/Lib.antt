@@ -1,2 +1,3 @@
 pub mod Leaves  -- What binders, targets and other leaves of cores become under other numbers
 pub mod Standing  -- That values stand under other numbers for what they stood for
+pub mod Notes  -- Notes under other numbers

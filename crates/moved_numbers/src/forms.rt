@@ -9,9 +9,10 @@ ghost use Rattle.renumbering_laws.specs.Renumbering.{macro_use_as, parts_as, bro
 ghost use Rattle.moves.specs.Numbers.{numbers_of};
 ghost use Rattle.moves.specs.Works.{NamesMove};
 ghost use Rattle.moved_numbers.specs.Leaves.{binder_as, target_as};
+ghost use Rattle.moved_numbers.specs.Notes.{note_as};
 ghost use Rattle.moved_numbers.specs.Standing.{StandsOn, UseStands, ItemsStand, ResultStands, result_as};
 
-use crate::{cores, leaves};
+use crate::{cores, leaves, notes};
 use core_tree::cores::{Binder, Target};
 use core_tree::traces::{FormFault, MacroUse, Trace};
 use core_tree::units::{ExpandedItem, UnitForm};
@@ -21,7 +22,7 @@ use std::alloc::Global;
 use std::mem;
 
 /// Takes the items of a list out of it.
-fn take<T: Drop>(alloc: Global, items: &mut Items<T>) -> Vec<T>
+pub(crate) fn take<T: Drop>(alloc: Global, items: &mut Items<T>) -> Vec<T>
     ensures { result.items ≡ items.old }
 {
     mem::replace(items, Items::new(alloc)).into_vec()
@@ -107,10 +108,12 @@ fn trace(alloc: Global, moves: &Moves, it: &mut Trace)
     ensures keywords { it.new.keywords ≡ map (target_as (numbers_of moves.now)) it.old.keywords }
     ensures length { length it.new.uses ≡ length it.old.uses }
     ensures uses { StandsOn (numbers_of moves.now) (λ work unit form. AllMatch (UseStands work unit form)) (map (macro_use_as (numbers_of moves.now))) it.old.uses it.new.uses }
+    ensures notes { it.new.notes.notes ≡ map (note_as (numbers_of moves.now)) it.old.notes.notes }
 {
     binders(alloc, moves, &mut it.definitions);
     targets(alloc, moves, &mut it.keywords);
     uses(alloc, moves, &mut it.uses);
+    notes::notes(alloc, moves, &mut it.notes.notes);
 }
 
 /// A form of a unit: what it expands to and what that met, or its fault.
@@ -118,6 +121,7 @@ pub fn unit_form(alloc: Global, moves: &Moves, form: &mut UnitForm)
     ensures result { StandsOn (numbers_of moves.now) ResultStands (result_as (numbers_of moves.now)) form.old form.new }
     ensures blank { IsBlank form.old → IsBlank form.new }
     ensures definitions { form.new.trace.definitions ≡ map (binder_as (numbers_of moves.now)) form.old.trace.definitions }
+    ensures notes { form.new.trace.notes.notes ≡ map (note_as (numbers_of moves.now)) form.old.trace.notes.notes }
 {
     parts(alloc, moves, &mut form.items);
     trace(alloc, moves, &mut form.trace);

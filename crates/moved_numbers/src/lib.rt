@@ -4,3 +4,4 @@
 pub mod cores;
 pub mod forms;
 pub mod leaves;
+pub mod notes;
