@@ -10,9 +10,8 @@ use Rattle.ls_base.specs.declared.encoding.Encoding.TheVariants.{Utf16}
 use Rattle.ls_base.specs.declared.places.Pos.{Pos}
 use Rattle.document_store.specs.Texts.{Added, Document, Refusal, Texts, after, has_room}
 use Rattle.document_store.proofs.Events.{adds}
-use Rattle.read_documents.specs.Readings.{AreReadAs, Read}
+use Rattle.read_documents.specs.Readings.{AreReadAs, Read, uses_in}
 use Rattle.program_answers.proofs.TextLists.{some_row}
-use Rattle.program_expansion.specs.UsesInTurn.{uses_in}
 use Rattle.document_changes.specs.Events.{leaves}
 use Rattle.rename_conditions.specs.Readers.{IsReader, Reader}
 use Rattle.rename_answers.specs.ToldRenames.{rename_uses, text_uses, texts_of, uris_of}

@@ -7,9 +7,8 @@ ghost use Rattle.std.specs.Ordering.{nat_cmp};
 ghost use Rattle.ls_base.specs.Limits.{max_documents, max_text};
 ghost use Rattle.ls_base.specs.declared.encoding.Encoding.TheVariants.{Utf16};
 ghost use Rattle.command_lines.specs.Diagnostics as diagnostics;
-ghost use Rattle.read_documents.specs.Readings.{Read, AreReadAs};
+ghost use Rattle.read_documents.specs.Readings.{Read, AreReadAs, uses_in};
 ghost use Rattle.program_answers.specs.Updates.{AreListsOf, entries_shown};
-ghost use Rattle.program_expansion.specs.UsesInTurn.{uses_in};
 ghost use Rattle.file_commands.specs.Checking.{checked_in, bytes_in, open_file, opened, printed, with_file};
 
 use command_lines::{diagnostic_lines, has_error, not_utf8};

@@ -3,9 +3,8 @@ use Rattle.std.proofs.Common.{◌≡◌, ◌⊎◌, ◌∙◌, ap, refl, sym, su
 use Rattle.std.specs.FinMap.{entries}
 use Rattle.ls_base.specs.Limits.{max_text}
 use Rattle.ls_base.specs.declared.places.Pos.{Pos}
-use Rattle.read_documents.specs.Readings.{Read, AreReadAs}
+use Rattle.read_documents.specs.Readings.{Read, AreReadAs, uses_in}
 use Rattle.program_answers.proofs.TextLists.{some_row}
-use Rattle.program_expansion.specs.UsesInTurn.{uses_in}
 use Rattle.rename_conditions.specs.Readers.{Reader, IsReader}
 use Rattle.rename_conditions.proofs.ReaderLaws.{reader_is_there}
 use Rattle.file_fetching.specs.FilesSeen.{FilesSeen}

@@ -3,8 +3,7 @@ use Rattle.std.specs.Prelude.{◌≡◌, ◌⊎◌, ℕ, ◌+◌, List, Bool, tr
 use Rattle.std.specs.FinMap.{entries}
 use Rattle.ls_base.specs.Limits.{max_text}
 use Rattle.ls_base.specs.declared.places.Pos.{Pos}
-use Rattle.read_documents.specs.Readings.{Read, AreReadAs}
-use Rattle.program_expansion.specs.UsesInTurn.{uses_in}
+use Rattle.read_documents.specs.Readings.{Read, AreReadAs, uses_in}
 use Rattle.rename_conditions.specs.Readers.{Reader, IsReader}
 use Rattle.file_fetching.specs.FilesSeen.{FilesSeen}
 use Rattle.file_fetching.specs.Fetching.{FetchStopsAs, Fetches, FetchesAll, FetchingEndsAs}

@@ -6,11 +6,10 @@ use Rattle.ls_base.specs.Limits.{max_documents, max_text}
 use Rattle.ls_base.specs.declared.encoding.Encoding.{Encoding}
 use Rattle.document_store.specs.Texts.{Added, Refusal, Texts, after, is_open}
 use Rattle.document_store.proofs.Events.{adds}
-use Rattle.read_documents.specs.Readings.{AreReadAs, Read}
+use Rattle.read_documents.specs.Readings.{AreReadAs, Read, uses_in}
 use Rattle.program_answers.specs.Updates.{IsNewsOf, Publishes}
 use Rattle.program_answers.specs.declared.publications.Published.{Published}
 use Rattle.program_answers.proofs.TextLists.{some_row}
-use Rattle.program_expansion.specs.UsesInTurn.{uses_in}
 use Rattle.rename_conditions.specs.Readers.{IsReader, Reader}
 use Rattle.rename_planner.proofs.ReadingLaws.{uses_one}
 use Rattle.document_changes.specs.Events.{leaves}

@@ -5,9 +5,7 @@ use Rattle.scheme_model.specs.Requirements.{Known}
 use Rattle.scheme_model.specs.IncludedUnits.{Placed}
 use Rattle.scheme_model.specs.Program.{Prepared, prepare}
 use Rattle.scheme_model.specs.ScopedProgram.{ScopedProgress, scoped_worked, scoped_before}
-use Rattle.macro_uses.specs.MacroUses.{program_uses}
 use Rattle.macro_uses.specs.ScopedUses.{scoped_worked_uses}
-use Rattle.read_documents.specs.Readings.{Read, documents_in}
 
 -- what is expanded so far, and the macro uses that were counted
 abbrev pub counted_worked : List Placed → Known → Option Prepared → ScopedProgress × ℕ → ScopedProgress × ℕ
@@ -19,7 +17,3 @@ counted_by_number all known c n = counted_worked all known (slice_get (prepare a
 -- after the units at these places
 abbrev pub uses_at : List Placed → Known → List ℕ → ℕ
 uses_at all known places = (fold (counted_by_number all known) (scoped_before, 0) places).1
-
--- the macro uses of the program of texts that are read so
-abbrev pub uses_in : List Read → ℕ
-uses_in rs = program_uses (documents_in rs)

@@ -21,11 +21,11 @@ ghost use Rattle.program_expansion.specs.UnitResults.{IsUpTo};
 ghost use Rattle.unit_imports.specs.Collected.{AreHeadsOf};
 ghost use Rattle.read_documents.specs.DataRead.{AreOpened, AreReadIn};
 ghost use Rattle.unit_results.specs.Formed.{CameFormed};
-ghost use Rattle.read_documents.specs.Readings.{AreDocuments, AreReadAs, Read, program_in};
+ghost use Rattle.read_documents.specs.Readings.{AreDocuments, AreReadAs, Read, program_in, uses_in};
 ghost use Rattle.document_units.specs.Sound.{IsSound};
 ghost use Rattle.document_units.specs.Turned.{turns};
 ghost use Rattle.unit_results.specs.UnitsExpanded.{AreAllFound};
-ghost use Rattle.program_expansion.specs.UsesInTurn.{uses_at, uses_in};
+ghost use Rattle.program_expansion.specs.UsesInTurn.{uses_at};
 ghost use Rattle.unit_results.specs.UnitsFound.{AreTold};
 ghost use Rattle.document_units.specs.UnitsListed.{WritesProper};
 

@@ -7,6 +7,7 @@ use Rattle.scheme_model.specs.Kinds.{Token}
 use Rattle.scheme_model.specs.Includes as model
 use Rattle.scheme_model.specs.Program as program
 use Rattle.scheme_model.specs.Diagnostics.{Span}
+use Rattle.macro_uses.specs.MacroUses.{program_uses}
 use Rattle.datum_reader.specs.Texts.{TextReads, IsReading, StopsAt}
 use Rattle.document_store.specs.Texts.{Document}
 use Rattle.included_documents.specs.Meant.{meant}
@@ -106,3 +107,7 @@ AreDocuments (d ∷ ds) (c ∷ cs) = IsDocument d c × AreDocuments ds cs
 abbrev pub AddsDocument : List code.Document → List code.Document → Option (List ℕ × Document) → Type 0
 AddsDocument old new None = new ≡ old
 AddsDocument old new (Some d) = (c : code.Document) × (new ≡ old ++ c ∷ []) × IsDocument d c
+
+-- the macro uses of the program of texts that are read so
+abbrev pub uses_in : List Read → ℕ
+uses_in rs = program_uses (documents_in rs)

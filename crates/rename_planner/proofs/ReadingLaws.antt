@@ -1,9 +1,8 @@
 -- The macro uses of documents that are read so.
 use Rattle.std.proofs.Common.{◌≡◌, ℕ, List, ap}
 use Rattle.document_store.specs.Texts.{Document}
-use Rattle.read_documents.specs.Readings.{Read, AreReadAs}
+use Rattle.read_documents.specs.Readings.{Read, AreReadAs, uses_in}
 use Rattle.macro_uses.specs.MacroUses.{program_uses}
-use Rattle.program_expansion.specs.UsesInTurn.{uses_in}
 use Rattle.rename_conditions.specs.Readers.{Reader, IsReader}
 use Rattle.rename_answers.specs.ToldRenames.{texts_of, text_uses, uris_of}
 use Rattle.rename_answers.proofs.ReadersAgree.{documents_are}

@@ -9,12 +9,11 @@ use Rattle.scheme_model.specs.declared.Occ.{Occ}
 use Rattle.scheme_model.specs.Program.{units_of}
 use Rattle.rename_model.specs.Difference.{Difference, first_difference}
 use Rattle.document_store.specs.Texts.{Document, Texts}
-use Rattle.read_documents.specs.Readings.{Read, AreReadAs, documents_in, program_in}
+use Rattle.read_documents.specs.Readings.{Read, AreReadAs, documents_in, program_in, uses_in}
 use Rattle.program_answers.specs.ToldAnswers.{name_there}
 use Rattle.program_differences.specs.Differences.{plan_as}
 use Rattle.program_differences.specs.declared.plan.Difference as code
 use Rattle.program_differences.specs.Exported.{changes_as}
-use Rattle.program_expansion.specs.UsesInTurn.{uses_in}
 use Rattle.rename_conditions.specs.Readers.{Reader, IsReader}
 use Rattle.rename_conditions.specs.Opened.{Opened, edited_in, plan_in, program_read}
 use Rattle.rename_conditions.specs.Renames.{Refusal, Differs, ◌>>=◌, unless, difference_by, rename_in}

@@ -3,9 +3,8 @@ ghost use Rattle.std.specs.Prelude.{◌≡◌, ◌≢◌, ◌+◌, List, Err, ma
 ghost use Rattle.std.specs.FinMap.{entries};
 ghost use Rattle.scheme_model.specs.Program.{units_of};
 ghost use Rattle.rename_model.specs.Difference as difference;
-ghost use Rattle.read_documents.specs.Readings.{Read, AreReadAs, documents_in, program_in};
+ghost use Rattle.read_documents.specs.Readings.{Read, AreReadAs, documents_in, program_in, uses_in};
 ghost use Rattle.program_differences.specs.Differences.{plan_as};
-ghost use Rattle.program_expansion.specs.UsesInTurn.{uses_in};
 ghost use Rattle.document_changes.specs.Edited.{CanEdit, edited_texts};
 ghost use Rattle.rename_conditions.specs.Renames as model;
 ghost use Rattle.rename_planner.specs.Planning.{ComesTo, Holds};

@@ -9,8 +9,7 @@ use Rattle.ls_outside.specs.Sources.{AreCuts, bytes_of}
 use Rattle.command_words.specs.declared.command.Command.{Command}
 use Rattle.command_words.specs.declared.command.Command.TheVariants.{Arrows, Check, Rename, Replay, Selfrun, Serve, ServeAhead, TooManyFiles, Unknown}
 use Rattle.command_words.proofs.OneCommand.{one_command}
-use Rattle.read_documents.specs.Readings.{Read, AreReadAs}
-use Rattle.program_expansion.specs.UsesInTurn.{uses_in}
+use Rattle.read_documents.specs.Readings.{Read, AreReadAs, uses_in}
 use Rattle.program_answers.proofs.TextLists.{one_row}
 use Rattle.rename_conditions.specs.Readers.{Reader}
 use Rattle.rename_conditions.proofs.ReaderLaws.{readers_are_one}

@@ -9,9 +9,8 @@ use Rattle.scheme_model.specs.Session.{Reply, Id, Call, Note, Initialize, Shutdo
 use Rattle.scheme_model.specs.Texts as texts
 use Rattle.scheme_model.specs.Texts.{Texts, after}
 use Rattle.document_changes.specs.Events.{leaves}
-use Rattle.read_documents.specs.Readings.{Read, AreReadAs}
+use Rattle.read_documents.specs.Readings.{Read, AreReadAs, uses_in}
 use Rattle.program_answers.proofs.TextLists.{some_row, one_row}
-use Rattle.program_expansion.specs.UsesInTurn.{uses_in}
 use Rattle.session_replies.specs.Agreement.{said_event, said_after, said_refusal}
 use Rattle.rename_conditions.specs.Readers.{Reader, IsReader}
 use Rattle.rename_conditions.proofs.ReaderLaws.{reader_is_there, readers_are_one}

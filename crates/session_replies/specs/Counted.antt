@@ -4,8 +4,7 @@ use Rattle.std.specs.Prelude.{◌≡◌, ℕ, ◌+◌, List, [], ◌∷◌}
 use Rattle.std.specs.FinMap.{entries}
 use Rattle.scheme_model.specs.Session.{Reply, Capabilities, Result, Renamed, Error, Publish, Log}
 use Rattle.scheme_model.specs.Texts.{Texts}
-use Rattle.read_documents.specs.Readings.{Read, AreReadAs}
-use Rattle.program_expansion.specs.UsesInTurn.{uses_in}
+use Rattle.read_documents.specs.Readings.{Read, AreReadAs, uses_in}
 use Rattle.rename_conditions.specs.Readers.{Reader, IsReader}
 use Rattle.rename_answers.specs.ToldRenames.{rename_uses}
 use Rattle.session_replies.specs.Asked.{Question, Nothing, About, Renaming, News}

@@ -21,14 +21,13 @@ use Rattle.document_store.specs.Texts.{Added, Document, Refusal, Texts, after, h
 use Rattle.document_changes.specs.Events.{leaves}
 use Rattle.read_documents.specs.Listed.{found_of, lists_of, of_stop, told_in}
 use Rattle.program_answers.specs.Listings.{or_none}
-use Rattle.read_documents.specs.Readings.{Read, Reads, Stops, AreReadAs, first_unread}
+use Rattle.read_documents.specs.Readings.{Read, Reads, Stops, AreReadAs, first_unread, uses_in}
 use Rattle.workspace_state.specs.State as workspace
 use Rattle.program_answers.specs.ToldAnswers.{answer_of}
 use Rattle.program_answers.specs.Updates.{AreListsOfTexts, ArePublished, IsNewsOf, IsPublished, Lists, Publishes, listed_in}
 use Rattle.program_answers.specs.declared.publications.Published.{Published}
 use Rattle.program_answers.proofs.PublishedMaps.{is_tied, ties_are}
 use Rattle.program_answers.proofs.TextLists.{one_row, some_row}
-use Rattle.program_expansion.specs.UsesInTurn.{uses_in}
 use Rattle.text_arrows.specs.Alone.{ArePublishedAlone, HoldsAlone, IsDrawn}
 use Rattle.command_lines.specs.Diagnostics.{diagnostic_line, diagnostic_lines}
 use Rattle.text_arrows.specs.Printed.{AreLines, IsReadAlone, IsStopLine, alone, arrows_alone, input_name, lines_of, published_lines}

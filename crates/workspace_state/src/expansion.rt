@@ -1,7 +1,7 @@
 //! The program of the open documents, with the trees that it is over, and the index of it once that was collected.
 ghost use Rattle.std.specs.Prelude.{◌≡◌, ◌+◌, [], List, IfOk, OnOk};
 ghost use Rattle.std.specs.FinMap.{entries};
-ghost use Rattle.read_documents.specs.Readings.{Read, AreReadAs};
+ghost use Rattle.read_documents.specs.Readings.{Read, AreReadAs, uses_in};
 ghost use Rattle.program_leaves.specs.Formed.{AreFormedIn};
 ghost use Rattle.core_tree.specs.Units.{IsProgramOf};
 ghost use Rattle.workspace_state.specs.Expansions.{IsIndexFor};
@@ -9,7 +9,6 @@ ghost use Rattle.workspace_state.specs.Indexed.{index_in};
 ghost use Rattle.workspace_state.specs.ProgramOfTexts.{IsProgramOfTexts};
 ghost use Rattle.syntax_tree.specs.Names.{KeepsNames};
 ghost use Rattle.syntax_tree.specs.Works.{KeepsTrees};
-ghost use Rattle.program_expansion.specs.UsesInTurn.{uses_in};
 
 use arrow_index::index::Index;
 use core_tree::units::Program;

@@ -11,7 +11,7 @@ ghost use Rattle.read_documents.specs.Listed.{AreFoundOf};
 ghost use Rattle.document_changes.specs.Parts.{is_part_at, meant_by};
 ghost use Rattle.workspace_state.specs.ProgramOfTexts.{IsProgramOfTexts};
 ghost use Rattle.workspace_state.specs.State.{ArePartsOf};
-ghost use Rattle.read_documents.specs.Readings.{Read, AreReadAs, documents_in, first_unread, program_in};
+ghost use Rattle.read_documents.specs.Readings.{Read, AreReadAs, documents_in, first_unread, program_in, uses_in};
 ghost use Rattle.core_tree.specs.Units.{IsProgramOf};
 ghost use Rattle.program_leaves.specs.Formed.{AreFormedIn};
 ghost use Rattle.program_leaves.specs.Pairs.{pair_cmp};
@@ -27,7 +27,6 @@ ghost use Rattle.document_changes.specs.Events.{leaves, event_of, fault_of, uri_
 ghost use Rattle.syntax_tree.specs.Names.{KeepsNames};
 ghost use Rattle.syntax_tree.specs.Works.{KeepsTrees};
 ghost use Rattle.program_answers.specs.Updates.{Publishes};
-ghost use Rattle.program_expansion.specs.UsesInTurn.{uses_in};
 
 use crate::expansion::{Expansion, Indexed};
 use crate::trial::Trial;
