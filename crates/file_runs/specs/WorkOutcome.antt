@@ -13,7 +13,8 @@ use Rattle.file_commands.specs.Renaming.{renamed_in, renaming_uses}
 use Rattle.file_commands.specs.declared.renaming.Renamed.{Renamed}
 use Rattle.file_commands.specs.declared.renaming.Renamed.TheVariants.{Edits, Refused, NotUtf8}
 use Rattle.generated_workspace.specs.Generated.{selfrun_texts}
-use Rattle.generated_workspace.specs.Selfrun.{selfrun_lines, selfrun_uses}
+use Rattle.generated_workspace.specs.Selfrun.{selfrun_lines}
+pub use Rattle.generated_workspace.specs.Selfrun.{selfrun_uses}
 use Rattle.command_output.specs.Prints.{Prints, PrintsFront, SinkSeen}
 use Rattle.command_output.specs.Statuses.{fetch_status}
 use Rattle.command_output.specs.declared.status.Status.{Status}

@@ -20,7 +20,6 @@ use Rattle.file_commands.specs.Checking.{opened}
 use Rattle.file_commands.specs.Renaming.{renaming_uses}
 use Rattle.file_commands.specs.declared.renaming.Renamed.{Renamed}
 use Rattle.file_commands.specs.declared.renaming.Renamed.TheVariants as renamed
-use Rattle.generated_workspace.specs.Selfrun.{selfrun_uses}
 use Rattle.command_output.specs.Reads.{source_seen}
 use Rattle.command_output.specs.Statuses.{code_of, fetch_status}
 use Rattle.command_output.specs.Streams.{Streams, streams}
@@ -40,7 +39,7 @@ use Rattle.text_arrows.specs.declared.arrows.ArrowsEnd.TheVariants as arrows
 use Rattle.text_arrows.specs.declared.arrows.TextEnd.TheVariants as text
 use Rattle.text_arrows.proofs.OneText as alone
 use Rattle.scheme_ls.specs.RunOutcome.{CommandEndsAs, NothingDone, RunEnds, Seen, counting}
-use Rattle.file_runs.specs.WorkOutcome.{CheckEndsAs, PrintsLines, RenameEndsAs, RunsOut, WorkEndsAs, WorkSeen, check_status, rename_status, work_seen}
+use Rattle.file_runs.specs.WorkOutcome.{CheckEndsAs, PrintsLines, RenameEndsAs, RunsOut, WorkEndsAs, WorkSeen, check_status, rename_status, work_seen, selfrun_uses}
 use Rattle.scheme_ls.specs.ReplayOutcome.{Replays, ReplayEndsAs, recording_piece}
 
 -- a number that neither want of memory nor a failed write has
