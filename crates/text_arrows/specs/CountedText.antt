@@ -1,7 +1,7 @@
 -- The macro uses that are counted of a text alone (R7RS 4.3).
 use Rattle.std.specs.Prelude.{◌≡◌, ℕ, ◌+◌, List, [], ◌∷◌}
 use Rattle.std.specs.Str.{IsUtf8}
-use Rattle.read_documents.specs.Read, uses_inings.{Read, uses_in}
+use Rattle.read_documents.specs.Readings.{Read, uses_in}
 use Rattle.text_arrows.specs.Printed.{IsReadAlone}
 
 -- those of the program that a text alone is. A text that isn't UTF-8 is no program

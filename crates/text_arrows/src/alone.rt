@@ -5,7 +5,7 @@ ghost use Rattle.std.specs.String.{string_bytes};
 ghost use Rattle.ls_base.specs.Limits.{max_text};
 ghost use Rattle.ls_base.specs.declared.answers.Arrow as drawn;
 ghost use Rattle.ls_base.specs.declared.encoding.Encoding.{Encoding};
-ghost use Rattle.read_documents.specs.Read, uses_inings.{Read, uses_in};
+ghost use Rattle.read_documents.specs.Readings.{Read, uses_in};
 ghost use Rattle.text_arrows.specs.Alone.{HoldsAlone, HoldsText, IsDrawn, IsTold};
 ghost use Rattle.text_arrows.specs.Printed.{IsReadAlone, lines_of};
 
