@@ -131,11 +131,11 @@ module _ (all : List Placed) (ps : List Prepared) (known : Known) (n : ℕ) (h :
         let there = (forgetting_kept all ps known g b placed p new xs forms h o).0 k in
         let closed = anew_closed known enough_turns xs t (programs_closed all ps known n p) in
         let C : Around → FormOrKept → Type 0 = λ v x. IsClosed v.state in
-        let C2 : Around → LeftOrKept → Type 0 = λ v r. IsClosed v.state in
-        let both = turns_with (anew enough_turns) known (IsKept enough_turns) C First1 (IsRestKept enough_turns) C2 Second1 (λ v x a c. (a, c)) (λ v r a c. (a, c)) xs t there.1 closed in
+        let D : Around → LeftOrKept → Type 0 = λ v r. IsClosed v.state in
+        let both = turns_with (anew enough_turns) known (IsKept enough_turns) C First1 (IsRestKept enough_turns) D Second1 (λ v x a c. (a, c)) (λ v r a c. (a, c)) xs t there.1 closed in
         let here = turns_out macros_outside (λ ps. []) (λ ds. []) enough_turns (forgetting enough_turns) law known xs s t (start_outside all ps known g b placed p new xs forms h o) (begins all ps known g b placed p new xs forms) First1 First1 Second1 Second1
         (λ v x a. a.0) (λ v r a. a.0) (λ v w x same c a. ((law.kept v w same x.tree x.kept c.0).1 a.0, closed_there v w same a.1)) (λ v w r same i c a. ((law.rest_kept v w same r.left r.kept i.0 c.0).1 a.0, closed_there v w same a.1)) k.0 both in
-        turns_with (forgetting enough_turns) known First1 First1 C Second1 Second1 C2 (λ v x a c. a.1) (λ v r a c. a.1) xs s here here
+        turns_with (forgetting enough_turns) known First1 First1 C Second1 Second1 D (λ v x a c. a.1) (λ v r a c. a.1) xs s here here
 
     pub unit_ready : AllKept (forgetting enough_turns) enough_turns known xs s → AllReady (forgetting enough_turns) known xs s
     unit_ready k = record {

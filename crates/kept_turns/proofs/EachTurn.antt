@@ -95,11 +95,11 @@ module _ (way : Way) (known : Known) (fs : List ℕ) where
 
 -- ---- both turns
 
-pub turns_with : (way : Way) (known : Known) (P Q R : Around → FormOrKept → Type 0) (P2 Q2 R2 : Around → LeftOrKept → Type 0) → ((v : Around) (x : FormOrKept) → P v x → Q v x → R v x)
-    → ((v : Around) (r : LeftOrKept) → P2 v r → Q2 v r → R2 v r) → (xs : List FormOrKept) (s : ScopedState) → AtTurns P P2 way known xs s → AtTurns Q Q2 way known xs s → AtTurns R R2 way known xs s
-turns_with way known P Q R P2 Q2 R2 f f2 xs s h k =
+pub turns_with : (way : Way) (known : Known) (P Q R : Around → FormOrKept → Type 0) (S T U : Around → LeftOrKept → Type 0) → ((v : Around) (x : FormOrKept) → P v x → Q v x → R v x)
+    → ((v : Around) (r : LeftOrKept) → S v r → T v r → U v r) → (xs : List FormOrKept) (s : ScopedState) → AtTurns P S way known xs s → AtTurns Q T way known xs s → AtTurns R U way known xs s
+turns_with way known P Q R S T U f g xs s h k =
     let fs = numbers_of xs in (
       firsts_with way known fs P Q R f xs [] s h.0 k.0,
-      onwards_with (λ rs t. AtSeconds P2 way known fs rs t) (λ rs t. AtSeconds Q2 way known fs rs t) (λ rs t. AtSeconds R2 way known fs rs t) (λ rs t a b. seconds_with way known fs P2 Q2 R2 f2 rs t a b)
+      onwards_with (λ rs t. AtSeconds S way known fs rs t) (λ rs t. AtSeconds T way known fs rs t) (λ rs t. AtSeconds U way known fs rs t) (λ rs t a b. seconds_with way known fs S T U g rs t a b)
           (firsts_by way known fs xs [] s) h.1 k.1,
     )

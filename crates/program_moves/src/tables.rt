@@ -1,6 +1,5 @@
 //! Tables of new numbers: what goes on gets the number that it has in the next program, all else one that nothing has there.
 ghost use Rattle.std.specs.Prelude.{◌≡◌, ℕ, ◌+◌, ◌<◌, ◌≤◌, ◌^◌, false, length, slice_get, true, Some, IfOk};
-ghost use Rattle.std.specs.Option.{option_copied};
 ghost use Rattle.moves.specs.Numbers.{moved, numbers_of, IsPermutation, ArePermutations};
 ghost use Rattle.scheme_model.specs.Program.{prelude_unit};
 ghost use Rattle.program_moves.specs.Permutations.{AreInverse};
@@ -164,8 +163,8 @@ fn unit_numbers(alloc: Global, pairs: &[UnitPair], homes: &[Home]) -> Mem<Vec<u3
     Ok(numbers.forth)
 }
 
-/// The numbers that units and forms get. Units that go on and their forms get the numbers of their pairs, homes those of theirs, and
-/// all else numbers that nothing has afterwards.
+/// The numbers that units and forms get in the next program. A unit that goes on and its forms get those of its pair, and a home its
+/// number after. A unit that doesn't go on gets a number that no unit has, and a form that doesn't one that no form of its unit has.
 pub fn moves_of(alloc: Global, pairs: &[UnitPair], homes: &[Home]) -> Mem<Moves>
     requires pairs { ArePaired pairs.now }
     requires homes { AreHomes pairs.now homes.now }
