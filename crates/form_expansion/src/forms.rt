@@ -283,9 +283,7 @@ fn finish_all<L: Ledger>(
             break;
         }
         let number = number_of(place)?;
-        forms.push(finish_form(
-            alloc, bench, unit, number, form, total, steps,
-        )?)?;
+        forms.push(finish_form(alloc, bench, unit, number, form, total, steps)?)?;
     }
     Ok(forms)
 }

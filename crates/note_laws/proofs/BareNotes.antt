@@ -95,13 +95,20 @@ module _ (names : Names) (r : Since) where
       let e = h.4 in
       let name = sym (ap (name_or h.1) e) in
       let rules = sym (ap (rules_or h.2) e) in
-      let notes = sym (ap (notes_or h.3) e) in
-      (fs, x, rs, ns, refl, h.5, record {
-        name = subst (λ (n : Named Ident). IsIdent names d.ident n.name) name h.6.name;
-        place = h.6.place ∙ ap (λ (n : Named Ident). n.occ) name;
-        keyword = h.6.keyword ∙ ap is_some rules;
-        asked = h.6.asked ∙ (ap length notes ∙ length-map ns bare_note);
-      })
+      let notes = sym (ap (notes_or h.3) e) in (
+        fs,
+        x,
+        rs,
+        ns,
+        refl,
+        h.5,
+        record {
+          name = subst (λ (n : Named Ident). IsIdent names d.ident n.name) name h.6.name;
+          place = h.6.place ∙ ap (λ (n : Named Ident). n.occ) name;
+          keyword = h.6.keyword ∙ ap is_some rules;
+          asked = h.6.asked ∙ (ap length notes ∙ length-map ns bare_note);
+        },
+      )
   defined_with (code.Definition d ends) (LooksUp i) a h = let z : false ≡ true = ap is_definition h.4 in absurd cc
   defined_with (code.Definition d ends) (UsesRules m) a h = let z : false ≡ true = ap is_definition h.4 in absurd cc
   defined_with (code.Definition d ends) (Compares l i) a h = let z : false ≡ true = ap is_definition h.4 in absurd cc

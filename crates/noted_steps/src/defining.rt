@@ -104,9 +104,7 @@ fn definition(units: &UnitScope, name: NamePart, keyword: bool, asked: &Asked) -
         ident: name.ident,
         occ: name.occ,
         keyword,
-        asked: asked
-            .count()
-            .saturating_sub(units.form.trace.notes.before),
+        asked: asked.count().saturating_sub(units.form.trace.notes.before),
     }
 }
 

@@ -35,9 +35,10 @@ one_place symbols j k s apart p q = apart j k (slice_get_within symbols j s p) (
 before_taken : (s t m n : ℕ) (xs : List Ident) → AreBefore t m xs → ((i : ℕ) (x : Ident) → i < n → slice_get xs i ≡ Some x → IsBelow s (m + i) x) → AreBefore s m (take n xs)
 before_taken s t m zero xs h below = tt
 before_taken s t m (suc n) [] h below = tt
-before_taken s t m (suc n) (x ∷ xs) h below =
-    (subst (λ (k : ℕ). IsBelow s k x) (omega arith) (below 0 x (omega arith) refl)
-    , before_taken s t (suc m) n xs h.1 (λ i y lt at. subst (λ (k : ℕ). IsBelow s k y) (omega arith) (below (suc i) y (omega (arith, lt)) at)))
+before_taken s t m (suc n) (x ∷ xs) h below = (
+  subst (λ (k : ℕ). IsBelow s k x) (omega arith) (below 0 x (omega arith) refl),
+  before_taken s t (suc m) n xs h.1 (λ i y lt at. subst (λ (k : ℕ). IsBelow s k y) (omega arith) (below (suc i) y (omega (arith, lt)) at)),
+)
 
 -- of the first identifiers each has its number among the first symbols
 below_taken : (symbols : List (List ℕ)) (xs : List Ident) (s n : ℕ) → AreToldApart symbols → AreBefore (length symbols) 0 xs →

@@ -38,7 +38,7 @@ returns c = λ r q f g.
     let ellipsis = ellipsis_same w.symbols c.told_apart.ensures.idents c.args.one.now.ellipsis c.args.other.now.ellipsis r.ellipsis q.ellipsis f.stands.ellipsis g.stands.ellipsis in
     let literals = literals_same w c.told_apart.ensures.idents c.args.one.now c.args.other.now c.args.one_leaves.now c.args.other_leaves.now r q f g in
     let all = c.all_same.ensures r.rules q.rules (subst (λ (xs : List code_rule.Rule). AreRules w xs r.rules) (sym c.as_slice.ensures) f.stands.rules)
-        (subst (λ (xs : List code_rule.Rule). AreRules w xs q.rules) (sym c.as_slice-2.ensures) g.stands.rules) in (
+    (subst (λ (xs : List code_rule.Rule). AreRules w xs q.rules) (sym c.as_slice-2.ensures) g.stands.rules) in (
       λ h. rules_same r q (ellipsis.0 (c.same_ident.ensures.0 c.if-not-same_ident.false)) (literals.0 (c.same_literals.ensures.0 c.if-not-same_literals.false)) (all.0 h),
       λ e. all.1 (ap (λ (x : Rules Ident). x.rules) e),
     )

@@ -62,7 +62,7 @@ returns-clause-noted c = λ known ls s notes us editions ms stands counts waits 
     let e = turned_to work u u1 n b tr ls s notes c.turn.ensures stands counts in
     let can1 = note_turned work u u1 n b tr (s.uses n) editions ms (turned n s) c.turn.ensures can in
     let begun = c.begin_notes.ensures.begun work ls (turned n s) true (length notes) editions ms e (λ h. can1.tells)
-        (λ h. ap (λ (x : UnitScope). length x.asked.notes.items) c.turn.ensures ∙ notes_counted work ls u.asked notes stands.notes) (λ h. can1.notes) in
+    (λ h. ap (λ (x : UnitScope). length x.asked.notes.items) c.turn.ensures ∙ notes_counted work ls u.asked notes stands.notes) (λ h. can1.notes) in
     let waits1 = subst (λ (x : UnitScope). AllMatch (WaitsFor work x.unit x.form.number) c.args.uses.now us) (sym c.begin_notes.ensures.rest) (waits_turned work u u1 n b tr c.args.uses.now us c.turn.ensures waits) in
     let start = part_begun (s.uses n) notes editions ms (turned n s) in
     let met = c.in_ok-meet_all.ensures.met known ls start [] us begun e.root waits1 in
