@@ -7,8 +7,9 @@ use Rattle.scheme_model.specs.Ident.{Ident}
 use Rattle.scheme_model.specs.RulesShape.{Rules}
 use Rattle.scheme_model.specs.Order.{Note, is_some}
 use Rattle.scheme_model.specs.ScopedExpansion.{Frames, FramedIdent}
-use Rattle.scheme_model.specs.Questions.{Moment, Outcome, Stands, Question, LooksUp, UsesRules, Compares, IsAssigned, Requires, Defines, Answer, bare}
+use Rattle.scheme_model.specs.Questions.{Moment, Around, Outcome, Stands, Question, LooksUp, UsesRules, Compares, IsAssigned, Requires, Defines, Answer, bare}
 use Rattle.scheme_model.specs.FormsAlike.{bare_note}
+use Rattle.syntax_tree.specs.Names.{Names}
 use Rattle.syntax_tree.specs.declared.trees.Work.{Work}
 use Rattle.core_tree.specs.Names.{AllMatch}
 use Rattle.form_notes.specs.Noted.{Noted, Since}
@@ -43,6 +44,10 @@ rules_bare (Compares l i) = refl
 rules_bare (IsAssigned i) = refl
 rules_bare (Requires l) = refl
 rules_bare (Defines fs x r ns) = refl
+
+rules_found : (names : Names) (d : Definition) (before : Around) (q : Moment × Question) (o : Outcome) (f : IsOf names d before q o) (m : Noted) (rules : Rules Ident) → told before q ≡ bare_noted m → rules_defined m.question ≡ Some rules → f.rules ≡ Some rules
+rules_found names d before q o f m rules same defines =
+    sym (ap rules_defined f.question) ∙ (sym (rules_bare q.1) ∙ (ap (λ (n : Noted). rules_defined n.question) same ∙ (rules_bare m.question ∙ defines)))
 
 module _ (work : Work) (old : UnitScope) (number : ℕ) (part : DeclaredPart) (can : CanDeclare work old number part) where
   abbrev r : Since
@@ -152,8 +157,7 @@ module _ (work : Work) (old : UnitScope) (number : ℕ) (part : DeclaredPart) (c
         let q = asked_of is.noted is.there in
         let t : StandsSo q.0 = (q.1, subst (IsNote work.symbols r stands_so) (sym q.2) (definition_told d outcomes.Stands made is.noted is.is)) in
         let f = of work old number part can u g made h d outcomes.Stands q.0 t in
-        let same : f.rules ≡ Some is.rules =
-        sym (ap rules_defined f.question) ∙ (sym (rules_bare q.0.1) ∙ (ap (λ (m : Noted). rules_defined m.question) q.2 ∙ (rules_bare is.noted.question ∙ is.defines))) in
+        let same : f.rules ≡ Some is.rules = rules_found work.symbols d can.again.before q.0 Stands f is.noted is.rules q.2 is.defines in
         let has : HasMacro work can.editions (Some k) true (Some is.rules) = (is.checked, is.stands, is.leaves, is.edition) in
         record {
           question = q.0;

@@ -22,7 +22,7 @@ use Rattle.question_laws.specs.Noted as questions
 use Rattle.question_laws.specs.Noted.{is_to_come, before_uses, is_defined_in, defines_within, answers_alone, compares_alone, noted, all_noted}
 use Rattle.form_notes.specs.Noted.{Noted}
 use Rattle.note_laws.specs.Told.{bare_question, bare_noted, told}
-use Rattle.moved_notes.specs.Moved.{noted_as}
+use Rattle.moved_numbers.specs.Notes.{noted_as}
 
 -- ---- lists
 

@@ -11,7 +11,7 @@ ghost use Rattle.renumbering_laws.specs.Asked.{new_asked, TurnsMove};
 ghost use Rattle.question_laws.specs.Noted.{all_noted};
 ghost use Rattle.form_notes.specs.Noted.{Noted};
 ghost use Rattle.note_laws.specs.Told.{bare_noted, told};
-ghost use Rattle.moved_notes.specs.Moved.{noted_as};
+ghost use Rattle.moved_numbers.specs.Notes.{noted_as};
 
 /// What is to be noted of a form's questions is the same under other numbers, where its turn comes in surroundings that correspond (R7RS 4.3, 5.3): so
 /// notes of the form, renumbered, are its notes there.

@@ -20,7 +20,7 @@ question_as r (Definition d answer) = Definition (record d { occ = place r d.occ
 abbrev pub note_as : Renumbering → Note → Note
 note_as r x = record { behind = x.behind; question = question_as r x.question }
 
--- what a note stands for
+-- the question and its answer under the new numbers, and as many definitions of the form
 abbrev pub noted_as : Renumbering → Noted → Noted
 noted_as r m = record { behind = m.behind; question = new_question r m.question; answer = new_answer r m.answer }
 

@@ -50,7 +50,7 @@ module _ (work : Work) (u : UnitScope) (v : Around) (r : Since) (before : Macros
   edition_kept (code.Rules c e) m is outside told = rules_keep c e m is outside told
   edition_kept (code.Assigned n h) m is outside told = tt
   edition_kept (code.Library x h) m is outside told = tt
-  edition_kept (code.Definition n o) m is outside told = tt
+  edition_kept (code.Definition d o) m is outside told = tt
 
 -- one more macro
 pub one_made : (before old new : Macros) (form : ℕ) (editions : ℕ → Option (Transformer Frames Ident)) (d : Meaning) → EditionsGoOn before old form editions → ((c : Meaning) → (c ≡ d → ⊥) → edition_in new form c ≡ edition_in old form c)

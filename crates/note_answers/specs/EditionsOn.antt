@@ -25,4 +25,4 @@ RulesTold before form (code.Literal l n h) = Unit {0}
 RulesTold before form (code.Rules c e) = (e ≡ 0) ⊎ (e ≡ edition_in before form c)
 RulesTold before form (code.Assigned n h) = Unit {0}
 RulesTold before form (code.Library x h) = Unit {0}
-RulesTold before form (code.Definition n o) = Unit {0}
+RulesTold before form (code.Definition d o) = Unit {0}

@@ -51,8 +51,8 @@ pub fn units_forget_while_they_search()
         ForgetsLocals (scoped_unit_over known p (scoped_start_after all p g)) (unit_by (searching enough_turns) known (forms_anew p) (scoped_start_after all p h)) }
 {}
 
-/// Notes of the code stand for notes exactly where they stand for these without times (R7RS 5.3): of a definition a note tells its identifier and how it
-/// ends alone.
+/// Notes of the code stand for notes exactly where they stand for these without times (R7RS 5.3): of a definition a note tells its name and place, whether
+/// it is a keyword's, how many notes it came after, and how it ends.
 pub fn notes_tell_no_times()
     ensures { (names : AnyNames) (r : Since) (xs : List AnyNote) (ms : List Noted) → HaveNotes names r xs ms ↔ HaveNotes names r xs (map bare_noted ms) }
 {}
