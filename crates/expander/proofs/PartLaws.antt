@@ -124,8 +124,8 @@ note_turned work u u1 number budget trace uses editions ms s turn h = subst (λ 
 
 -- the notes where a part has ended that noted all
 pub noted_ends : (work : Work) (v : UnitScope) (ls : List Frames) (s : Noting) → Stands work v ls s → s.exact ≡ true → HaveNotes work.symbols s.since v.form.trace.notes.notes s.noted →
-    InOrder v.form.trace.notes.first v.form.trace.notes.notes (length s.since.own) → HasNoted work v.form.trace s
-noted_ends work v ls s e exact notes order = record { notes = notes; begun = (e.notes exact).since.uses; order = order; start = e.start exact }
+    InOrder v.form.trace.notes.first v.form.trace.notes.notes (length s.since.own) → HasNoted work v.macros v.form.trace s
+noted_ends work v ls s e exact notes order = record { notes = notes; begun = (e.notes exact).since.uses; order = order; start = e.start exact; editions = e.editions exact }
 
 -- ---- uses that are met
 

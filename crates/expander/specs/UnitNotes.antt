@@ -24,10 +24,11 @@ use Rattle.unit_scopes.specs.Editions.{EditionsTell}
 use Rattle.unit_scopes.specs.Kept.{NotesFor}
 use Rattle.unit_scopes.specs.Outcomes.{Leaves, MayFill}
 use Rattle.unit_scopes.specs.Units.{LeftFor}
+use Rattle.unit_scopes.specs.declared.macros.Macros.{Macros}
 use Rattle.unit_scopes.specs.declared.scope.UnitScope.{UnitScope}
 use Rattle.noted_steps.specs.Noting.{Noting, going, noting}
 use Rattle.noted_steps.specs.Outcomes.{Stays}
-use Rattle.noted_steps.specs.Standing.{StartsAt}
+use Rattle.noted_steps.specs.Standing.{EditionsStand, StartsAt}
 
 abbrev pub Editions : Type 0
 Editions = ℕ → Option (Transformer Frames Identifier)
@@ -43,12 +44,14 @@ pub record CanNote (work : Work) (u : UnitScope) (trace : Trace) (uses : ℕ) (e
   pub tells : EditionsTell work.symbols u.macros s editions
   pub notes : HaveNotes work.symbols (beginning s.unit s.form uses editions) trace.notes.notes ms
 
--- the notes where it has ended, in order from where it began, and what there was then
-pub record HasNoted (work : Work) (trace : Trace) (s : Noting) : Type 0 where
+-- the notes where it has ended, in order from where it began, and what there was then; macros that it hasn't made have editions that tell their
+-- rules still
+pub record HasNoted (work : Work) (macros : Macros) (trace : Trace) (s : Noting) : Type 0 where
   pub notes : HaveNotes work.symbols s.since trace.notes.notes s.noted
   pub begun : trace.notes.begun ≡ s.since.uses
   pub order : InOrder trace.notes.first trace.notes.notes (length s.since.own)
   pub start : StartsAt trace.notes s.before s.anew
+  pub editions : EditionsStand work.symbols macros s
 
 -- a call that ended with its form, well or by a fault of the form
 abbrev pub OnEnded : {X : Type 0} → Result X ExpandFault → Type 0 → Type 0

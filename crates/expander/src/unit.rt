@@ -68,7 +68,7 @@ pub fn declare_form<L: Ledger>(
         Declares work.old work.new region.now units.old units.new budget.old budget.new ls number trace.new result (declared known number t notes s) }
     ensures noted { (known : Known) (ls : List Frames) (s : ScopedState) (notes : List (Note FramedIdent)) (t : ModelTree Identifier) (editions : Editions) (ms : List Noted) → Knows units.old.libraries known →
         UnitStands work.old units.old ls s notes → CountsFor work.old s number budget.old trace.old → StandsFor work.old form t → CanNote work.old units.old trace.old (s.uses number) editions ms (turned number s) →
-        OnEnded result (HasNoted work.new trace.new (set_noting known t notes (part_begun (s.uses number) notes editions ms (turned number s))).1) }
+        OnEnded result (HasNoted work.new units.new.macros trace.new (set_noting known t notes (part_begun (s.uses number) notes editions ms (turned number s))).1) }
     ensures space { OnOk result (HasSpace (2 ^ 43) budget.new) }
     ensures ticks { steps.new + budget.old.uses ≡ steps.old + budget.new.uses }
     ensures keeps { KeepsTrees work.old work.new }
@@ -109,7 +109,7 @@ pub fn meet_uses(
         OnOk result (UnitStands work.now units.new ls (uses_met known number us s) notes × CountsFor work.now (uses_met known number us s) number budget trace.new) }
     ensures noted { (known : Known) (ls : List Frames) (s : ScopedState) (notes : List (Note FramedIdent)) (us : List (ModelWaiting Identifier)) (editions : Editions) (ms : List Noted) → UnitStands work.now units.old ls s notes →
         CountsFor work.now s number budget trace.old → AllMatch (WaitsFor work.now units.old.unit number) uses.now us → CanNote work.now units.old trace.old (s.uses number) editions ms (turned number s) →
-        OnOk result (HasNoted work.now trace.new (met_noting known us (part_begun (s.uses number) notes editions ms (turned number s)))) }
+        OnOk result (HasNoted work.now units.new.macros trace.new (met_noting known us (part_begun (s.uses number) notes editions ms (turned number s)))) }
     ensures scope { OnOk result (units.new ≡ record units.old { form = units.new.form }) }
 {
     turn(units, number, budget, trace);
@@ -142,7 +142,7 @@ pub fn expand_item<L: Ledger>(
         Expands work.old work.new region.now units.old units.new budget.old budget.new ls number trace.new notes result (expanded known number i s) }
     ensures noted { (known : Known) (ls : List Frames) (s : ScopedState) (notes : List (Note FramedIdent)) (i : ModelItem Identifier) (editions : Editions) (ms : List Noted) → Knows units.old.libraries known →
         UnitStands work.old units.old ls s notes → CountsFor work.old s number budget.old trace.old → ItemFor work.old region.now units.old.unit number item.now i → CanNote work.old units.old trace.old trace.old.notes.begun editions ms (turned number s) →
-        OnEnded result (HasNoted work.new trace.new (expand_noting known i (part_begun trace.old.notes.begun notes editions ms (turned number s))).1) }
+        OnEnded result (HasNoted work.new units.new.macros trace.new (expand_noting known i (part_begun trace.old.notes.begun notes editions ms (turned number s))).1) }
     ensures space { OnOk result (HasSpace (2 ^ 43) budget.new) }
     ensures ticks { steps.new + budget.old.uses ≡ steps.old + budget.new.uses }
     ensures keeps { KeepsTrees work.old work.new }
@@ -216,7 +216,7 @@ fn declare(
         Sets work.old work.new region.now units.old units.new ls result (set_aside known t notes s) }
     ensures noted { (known : Known) (ls : List Frames) (s : ScopedState) (notes : List (Note FramedIdent)) (t : ModelTree Identifier) (editions : Editions) (ms : List Noted) → Knows units.old.libraries known → Stands work.old units.old ls s →
         NotesFor work.old ls units.old.asked notes → StandsFor work.old form t → CanNote work.old units.old units.old.form.trace (s.uses s.form) editions ms s →
-        OnEnded result (HasNoted work.new units.new.form.trace (set_noting known t notes (part_begun (s.uses s.form) notes editions ms s)).1) }
+        OnEnded result (HasNoted work.new units.new.macros units.new.form.trace (set_noting known t notes (part_begun (s.uses s.form) notes editions ms s)).1) }
     ensures work { Adds work.old work.new region.now units.old.form.budget }
     ensures counts { Counts units.old units.new result }
     ensures full { result ≡ Err ExpandFault.Full → MayFill work.old units.old }
@@ -285,7 +285,7 @@ fn expand_apart(
         (item_part (expand (searched known) enough_turns) (searched known) max_depth [] i s) }
     ensures noted { (known : Known) (ls : List Frames) (s : ScopedState) (notes : List (Note FramedIdent)) (i : ModelItem Identifier) (editions : Editions) (ms : List Noted) → Knows units.old.libraries known → Stands work.old units.old ls s →
         NotesFor work.old ls units.old.asked notes → ItemFor work.old region.now units.old.unit units.old.form.number item.now i → CanNote work.old units.old units.old.form.trace units.old.form.trace.notes.begun editions ms s →
-        OnEnded result (HasNoted work.new units.new.form.trace (expand_noting known i (part_begun units.old.form.trace.notes.begun notes editions ms s)).1) }
+        OnEnded result (HasNoted work.new units.new.macros units.new.form.trace (expand_noting known i (part_begun units.old.form.trace.notes.begun notes editions ms s)).1) }
     ensures asked { units.new.asked ≡ units.old.asked }
     ensures work { Adds work.old work.new region.now units.old.form.budget }
     ensures counts { Counts units.old units.new result }

@@ -52,7 +52,7 @@ returns-clause-sets c = λ known ls s notes t knows stands asked for.
 
 pub returns-in_err-end_notes-clause-noted : goal.returns-in_err-end_notes-clause-noted
 returns-in_err-end_notes-clause-noted c = λ known ls s notes t editions ms knows stands asked for can.
-    not_ended c.from_residual.result (HasNoted c.go_through-left.new.work c.go_through-left.new.units.form.trace (set_noting known t notes (part_begun (s.uses s.form) notes editions ms s)).1) c.from_residual.ensures.1
+    not_ended c.from_residual.result (HasNoted c.go_through-left.new.work c.go_through-left.new.units.macros c.go_through-left.new.units.form.trace (set_noting known t notes (part_begun (s.uses s.form) notes editions ms s)).1) c.from_residual.ensures.1
 
 pub returns-clause-noted : goal.returns-clause-noted
 returns-clause-noted c = λ known ls s notes t editions ms knows stands asked for can.
@@ -62,7 +62,7 @@ returns-clause-noted c = λ known ls s notes t editions ms knows stands asked fo
     let asked1 = subst (λ (x : UnitScope). NotesFor w ls x.asked notes) (sym same) asked in
     let p = set_noting known t notes start in
     let h = c.go_through-left.ensures.sets known ls start notes t (noted_knows u u1 known same knows) begun asked1 for in
-    ended_sets w new region u1 v ls (HasNoted new v.form.trace p.1) c.go_through-left.result p h (λ st.
+    ended_sets w new region u1 v ls (HasNoted new v.macros v.form.trace p.1) c.go_through-left.result p h (λ st.
     let exact = run_exact known enough_turns (one_form t notes) start in
     noted_ends new v ls p.1 st exact (c.in_ok-end_notes.ensures.notes new ls p.1 st exact) (c.in_ok-end_notes.ensures.order new ls p.1 st exact))
 

@@ -42,7 +42,8 @@ returns-in-Ok-clause-noted g c = λ known ls s notes t editions ms knows stands 
     let knows1 = subst (λ (x : UnitScope). Knows x.libraries known) (sym c.turn.ensures) knows in
     let noted = subst (λ (x : UnitScope). NotesFor old ls x.asked notes) (sym c.turn.ensures) stands.notes in
     let h = c.in-Ok.ensures.noted known ls (turned n s) notes t editions ms knows1 (turned_to old u u1 n b tr ls s notes c.turn.ensures stands counts) noted for (note_turned old u u1 n b tr (s.uses n) editions ms (turned n s) c.turn.ensures can) in
-    subst (λ (x : Trace). HasNoted new x (set_noting known t notes (part_begun (s.uses n) notes editions ms (turned n s))).1) (sym c.rest.ensures.trace) h
+    let v = c.declare.new.units in let p = set_noting known t notes (part_begun (s.uses n) notes editions ms (turned n s)) in
+    subst (λ (x : UnitScope). HasNoted new x.macros c.rest.new.trace p.1) (sym c.rest.ensures.scope) (subst (λ (x : Trace). HasNoted new v.macros x p.1) (sym c.rest.ensures.trace) h)
 
 pub returns-in-Err-At-clause-noted : goal.returns-in-Err-At-clause-noted
 returns-in-Err-At-clause-noted g c = λ known ls s notes t editions ms knows stands counts for can.
@@ -52,5 +53,5 @@ returns-in-Err-At-clause-noted g c = λ known ls s notes t editions ms knows sta
     let noted = subst (λ (x : UnitScope). NotesFor old ls x.asked notes) (sym c.turn.ensures) stands.notes in
     let p = set_noting known t notes (part_begun (s.uses n) notes editions ms (turned n s)) in
     let h = c.in-Err-At.ensures.noted known ls (turned n s) notes t editions ms knows1 (turned_to old u u1 n b tr ls s notes c.turn.ensures stands counts) noted for (note_turned old u u1 n b tr (s.uses n) editions ms (turned n s) c.turn.ensures can) in
-    let h1 = subst (λ (e : ExpandFault). OnEnded {X = Left} (Err e) (HasNoted new v.form.trace p.1)) c.in-Err-At.field-0-is h in
-    subst (λ (x : Trace). HasNoted new x p.1) (sym c.rest-in-Err-At.ensures.trace) h1
+    let h1 = subst (λ (e : ExpandFault). OnEnded {X = Left} (Err e) (HasNoted new v.macros v.form.trace p.1)) c.in-Err-At.field-0-is h in
+    subst (λ (x : UnitScope). HasNoted new x.macros c.rest-in-Err-At.new.trace p.1) (sym c.rest-in-Err-At.ensures.scope) (subst (λ (x : Trace). HasNoted new v.macros x p.1) (sym c.rest-in-Err-At.ensures.trace) h1)

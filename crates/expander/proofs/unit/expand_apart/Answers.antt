@@ -62,7 +62,7 @@ returns-clause-part c = λ known ls s i knows stands item.
 
 pub returns-in_err-end_notes-clause-noted : goal.returns-in_err-end_notes-clause-noted
 returns-in_err-end_notes-clause-noted c = λ known ls s notes i editions ms knows stands asked item can.
-    not_ended c.from_residual.result (HasNoted c.expand_at_root-part.new.work c.expand_at_root-part.new.units.form.trace (expand_noting known i (part_begun c.args.units.now.form.trace.notes.begun notes editions ms s)).1) c.from_residual.ensures.1
+    not_ended c.from_residual.result (HasNoted c.expand_at_root-part.new.work c.expand_at_root-part.new.units.macros c.expand_at_root-part.new.units.form.trace (expand_noting known i (part_begun c.args.units.now.form.trace.notes.begun notes editions ms s)).1) c.from_residual.ensures.1
 
 pub returns-clause-noted : goal.returns-clause-noted
 returns-clause-noted c = λ known ls s notes i editions ms knows stands asked item can.
@@ -72,7 +72,7 @@ returns-clause-noted c = λ known ls s notes i editions ms knows stands asked it
     let item1 = subst (λ (x : UnitScope). ItemFor w region x.unit x.form.number c.args.item.now i) (sym same) item in
     let p = expand_noting known i start in
     let h = c.expand_at_root-part.ensures.part known ls start i (noted_knows u u1 known same knows) begun item1 in
-    ended_ends w new region u1 v ls (HasNoted new v.form.trace p.1) (λ layout. PartStands new v.unit v.form.number) c.expand_at_root-part.result p h
+    ended_ends w new region u1 v ls (HasNoted new v.macros v.form.trace p.1) (λ layout. PartStands new v.unit v.form.number) c.expand_at_root-part.result p h
     (λ layout st.
     let exact = item_exact known enough_turns i start in
     noted_ends new v layout p.1 st exact (c.in_ok-end_notes.ensures.notes new layout p.1 st exact) (c.in_ok-end_notes.ensures.order new layout p.1 st exact))

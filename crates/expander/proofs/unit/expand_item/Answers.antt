@@ -58,8 +58,9 @@ returns-in-Ok-clause-noted g c = λ known ls s notes i editions ms knows stands 
     let can1 = subst (λ (k : ℕ). CanNote old u1 u1.form.trace k editions ms (turned n s)) (sym begun) (note_turned old u u1 n b tr tr.notes.begun editions ms (turned n s) c.turn.ensures can) in
     let h = c.in-Ok.ensures.noted known ls (turned n s) notes i editions ms knows1 (turned_to old u u1 n b tr ls s notes c.turn.ensures stands counts)
     (subst (λ (x : UnitScope). NotesFor old ls x.asked notes) (sym c.turn.ensures) stands.notes) item1 can1 in
-    subst (λ (x : Trace). HasNoted new x (expand_noting known i (part_begun tr.notes.begun notes editions ms (turned n s))).1) (sym c.rest.ensures.trace)
-    (subst (λ (k : ℕ). HasNoted new v.form.trace (expand_noting known i (part_begun k notes editions ms (turned n s))).1) begun h)
+    let p : ℕ → Noting = λ k. (expand_noting known i (part_begun k notes editions ms (turned n s))).1 in
+    subst (λ (x : UnitScope). HasNoted new x.macros c.rest.new.trace (p tr.notes.begun)) (sym c.rest.ensures.scope)
+    (subst (λ (x : Trace). HasNoted new v.macros x (p tr.notes.begun)) (sym c.rest.ensures.trace) (subst (λ (k : ℕ). HasNoted new v.macros v.form.trace (p k)) begun h))
 
 pub returns-in-Err-At-clause-noted : goal.returns-in-Err-At-clause-noted
 returns-in-Err-At-clause-noted g c = λ known ls s notes i editions ms knows stands counts item can.
@@ -72,5 +73,6 @@ returns-in-Err-At-clause-noted g c = λ known ls s notes i editions ms knows sta
     let p : ℕ → Noting = λ k. (expand_noting known i (part_begun k notes editions ms (turned n s))).1 in
     let h = c.in-Err-At.ensures.noted known ls (turned n s) notes i editions ms knows1 (turned_to old u u1 n b tr ls s notes c.turn.ensures stands counts)
     (subst (λ (x : UnitScope). NotesFor old ls x.asked notes) (sym c.turn.ensures) stands.notes) item1 can1 in
-    let h1 = subst (λ (e : ExpandFault). OnEnded {X = CorePart} (Err e) (HasNoted new v.form.trace (p u1.form.trace.notes.begun))) c.in-Err-At.field-0-is h in
-    subst (λ (x : Trace). HasNoted new x (p tr.notes.begun)) (sym c.rest-in-Err-At.ensures.trace) (subst (λ (k : ℕ). HasNoted new v.form.trace (p k)) begun h1)
+    let h1 = subst (λ (e : ExpandFault). OnEnded {X = CorePart} (Err e) (HasNoted new v.macros v.form.trace (p u1.form.trace.notes.begun))) c.in-Err-At.field-0-is h in
+    subst (λ (x : UnitScope). HasNoted new x.macros c.rest-in-Err-At.new.trace (p tr.notes.begun)) (sym c.rest-in-Err-At.ensures.scope)
+    (subst (λ (x : Trace). HasNoted new v.macros x (p tr.notes.begun)) (sym c.rest-in-Err-At.ensures.trace) (subst (λ (k : ℕ). HasNoted new v.macros v.form.trace (p k)) begun h1))

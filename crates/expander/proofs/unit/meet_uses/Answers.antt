@@ -66,7 +66,7 @@ returns-clause-noted c = λ known ls s notes us editions ms stands counts waits 
     let waits1 = subst (λ (x : UnitScope). AllMatch (WaitsFor work x.unit x.form.number) c.args.uses.now us) (sym c.begin_notes.ensures.rest) (waits_turned work u u1 n b tr c.args.uses.now us c.turn.ensures waits) in
     let start = part_begun (s.uses n) notes editions ms (turned n s) in
     let met = c.in_ok-meet_all.ensures.met known ls start [] us begun e.root waits1 in
-    subst (λ (x : Trace). HasNoted work x (met_noting known us start)) (sym c.swap.ensures.y_after)
+    subst (λ (x : Trace). HasNoted work v.macros x (met_noting known us start)) (sym c.swap.ensures.y_after)
     (noted_ends work v ls (met_noting known us start) met (uses_exact known [] us start) (c.in_ok-end_notes.ensures.notes work ls (met_noting known us start) met (uses_exact known [] us start)) (c.in_ok-end_notes.ensures.order work ls (met_noting known us start) met (uses_exact known [] us start)))
 
 pub returns-clause-scope : goal.returns-clause-scope
