@@ -22,7 +22,7 @@ use std::alloc::Global;
 use std::mem;
 
 /// Takes the items of a list out of it.
-pub(crate) fn take<T: Drop>(alloc: Global, items: &mut Items<T>) -> Vec<T>
+pub fn take<T: Drop>(alloc: Global, items: &mut Items<T>) -> Vec<T>
     ensures { result.items ≡ items.old }
 {
     mem::replace(items, Items::new(alloc)).into_vec()
