@@ -1,5 +1,5 @@
 -- What a form that is declared again leaves in its unit, or one that isn't.
-use Rattle.std.proofs.Common.{◌≡◌, ℕ, ◌<◌, List, [], ◌∷◌, ◌++◌, length, reverse, Bool, true, false, refl, sym, ap, ◌∙◌, subst}
+use Rattle.std.proofs.Common.{ℕ, ◌<◌, List, ◌++◌, length, reverse, sym, ap, ◌∙◌, subst}
 use Rattle.std.proofs.lemmas.List.{reverse-reverse}
 use Rattle.std.specs.FinMap as map_of
 use Rattle.scheme_model.specs.Order.{Note}
@@ -10,8 +10,8 @@ use Rattle.unit_scopes.specs.Kept.{NotesFor}
 use Rattle.unit_scopes.specs.State.{Rests}
 use Rattle.unit_scopes.specs.declared.asked.Asked.{Asked}
 use Rattle.unit_scopes.specs.declared.scope.UnitScope.{UnitScope}
-use Rattle.declared_parts.specs.Again.{Again, moment_of, own_notes, noted_of, state_after, notes_after, CanDeclare, StandsAfter}
-use Rattle.declared_parts.specs.Going.{GoesOn, HasGone}
+use Rattle.declared_parts.specs.Again.{moment_of, own_notes, state_after, notes_after, CanDeclare, StandsAfter}
+use Rattle.declared_parts.specs.Going.{GoesOn}
 use Rattle.declared_parts.specs.Undone.{IsBack}
 use Rattle.declared_parts.specs.declared.again.Going.{Going}
 use Rattle.declared_parts.specs.declared.parts.DeclaredPart.{DeclaredPart}

@@ -1,18 +1,18 @@
 -- A form's next definition is made: all that was known where it goes on is known behind it.
-use Rattle.std.proofs.Common.{◌≡◌, ℕ, zero, suc, ◌+◌, ◌<◌, ◌≤◌, List, [], ◌∷◌, ◌++◌, length, reverse, slice_get, Bool, true, false, cond, Option, Some, None, refl, sym, ap, ◌∙◌, subst, arith}
+use Rattle.std.proofs.Common.{◌≡◌, ℕ, ◌+◌, ◌<◌, ◌≤◌, List, [], ◌∷◌, ◌++◌, length, reverse, slice_get, Bool, true, false, cond, Option, Some, None, refl, sym, ap, ◌∙◌, subst, arith}
 use Rattle.std.specs.Prelude.{if◌then◌else◌, ◌&&◌, nat_eq}
 use Rattle.std.proofs.Common.{eqb-true}
 use Rattle.std.specs.Prelude.{is_some as is_kept}
-use Rattle.std.specs.BTreeMap.{BTreeMap, get, btree_map_len}
+use Rattle.std.specs.BTreeMap.{get, btree_map_len}
 use Rattle.std.specs.Ordering.{nat_cmp, is_eq}
 use Rattle.std.specs.Option.{option_map}
 use Rattle.std.proofs.lemmas.List.{reverse-append}
-use Rattle.std.proofs.lemmas.Option.{slice_get_within, same_Some}
+use Rattle.std.proofs.lemmas.Option.{slice_get_within}
 use Rattle.scheme_model.specs.Ident.{Ident}
 use Rattle.scheme_model.specs.ExpansionFaults.{Named}
 use Rattle.scheme_model.specs.Meaning as model
 use Rattle.scheme_model.specs.RulesShape.{Rules}
-use Rattle.scheme_model.specs.Order.{Note, Transformer, is_some}
+use Rattle.scheme_model.specs.Order.{Transformer, is_some}
 use Rattle.scheme_model.specs.Questions.{Moment, Around}
 use Rattle.scheme_model.specs.Substitution.{Defined, Table, defined_in}
 use Rattle.scheme_model.specs.ScopedExpansion.{Frames, ScopedState, macro_at, definition_added, is_defined}
@@ -24,11 +24,10 @@ use Rattle.syntax_tree.specs.declared.trees.Work.{Work}
 use Rattle.scope_env.specs.Environment.{Environment, bound_in, with_bound}
 use Rattle.scope_env.specs.Resolved.{bound_at}
 use Rattle.scope_env.proofs.Places.{length-changed_at}
-use Rattle.core_forms.specs.Parts.{IsName}
 use Rattle.form_notes.specs.declared.notes.Definition.{Definition}
-use Rattle.unit_scopes.specs.Defining.{IsKept, KeepsAny, IsPlaced, Places, next_here}
+use Rattle.unit_scopes.specs.Defining.{KeepsAny, IsPlaced}
 use Rattle.unit_scopes.specs.Editions.{EditionsTell}
-use Rattle.unit_scopes.specs.Macros.{macro_in, same_key, Keeps}
+use Rattle.unit_scopes.specs.Macros.{macro_in, same_key}
 use Rattle.unit_scopes.specs.State.{IsMacroIfAny, Stands, most_locals}
 use Rattle.unit_scopes.specs.Stepped.{with_macros, with_told}
 use Rattle.unit_scopes.specs.declared.asked.Asked.{Asked}
@@ -42,7 +41,7 @@ use Rattle.declared_parts.specs.declared.again.Going.{Going}
 use Rattle.declared_parts.specs.declared.parts.DeclaredPart.{DeclaredPart}
 use Rattle.declared_parts.specs.declared.parts.KeptMacro.{KeptMacro}
 use Rattle.declared_parts.specs.declared.undoing.Made.{Made}
-use Rattle.declared_parts.proofs.MadeNext.{HasEdition, next_settled, closed_more, editions_more, kept_of}
+use Rattle.declared_parts.proofs.MadeNext.{next_settled, closed_more, editions_more, kept_of}
 use Rattle.declared_parts.proofs.UndoneLaws.{rest_on}
 
 no_definition : {A : Type 0} (o : Option A) → is_some o ≡ false → o ≡ None

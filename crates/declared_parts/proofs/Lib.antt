@@ -18,4 +18,5 @@ pub mod EndGoing  -- All notes of a form tell what they told, and all its defini
 pub mod LaterGoing  -- A note that is no definition's, where a form is declared again
 pub mod DoneLaws  -- What a form that is declared again leaves in its unit, or one that isn't
 pub mod StoodMacros  -- A definition that stood as a keyword's is that of a macro, whatever stood behind it
+pub mod NotedMacros  -- A macro that a form noted to be defined is there behind the form
 pub mod EditionLaws  -- A macro of the open unit has another edition

@@ -1,30 +1,26 @@
 -- A note of a definition, where a form is declared again: what it demands, and what is known behind it.
-use Rattle.std.proofs.Common.{◌≡◌, ℕ, zero, suc, ◌+◌, ◌≤◌, List, [], ◌∷◌, ◌++◌, map, length, slice_get, Bool, true, false, cond, Option, Some, None, Ok, Contains, refl, sym, ap, ◌∙◌, subst, arith}
+use Rattle.std.proofs.Common.{◌≡◌, ℕ, ◌+◌, ◌≤◌, List, [], ◌∷◌, ◌++◌, map, length, slice_get, Bool, true, false, Option, Some, None, Ok, Contains, refl, sym, ap, ◌∙◌, subst, arith}
 use Rattle.std.specs.Prelude.{if◌then◌else◌, Vec, reverse}
 use Rattle.std.specs.declared.alloc.Global.{Global}
 use Rattle.std.proofs.lemmas.List.{length-map, length-reverse}
 use Rattle.scheme_model.specs.Ident.{Ident}
 use Rattle.scheme_model.specs.RulesShape.{Rules}
-use Rattle.scheme_model.specs.Order.{Note, is_some}
-use Rattle.scheme_model.specs.ScopedExpansion.{Frames, FramedIdent}
-use Rattle.scheme_model.specs.Questions.{Moment, Around, Outcome, Stands, Question, LooksUp, UsesRules, Compares, IsAssigned, Requires, Defines, Answer, bare}
+use Rattle.scheme_model.specs.Questions.{Moment, Around, Outcome, Stands, Question, LooksUp, UsesRules, Compares, IsAssigned, Requires, Defines, bare}
 use Rattle.scheme_model.specs.FormsAlike.{bare_note}
 use Rattle.syntax_tree.specs.Names.{Names}
 use Rattle.syntax_tree.specs.declared.trees.Work.{Work}
-use Rattle.core_tree.specs.Names.{AllMatch}
 use Rattle.form_notes.specs.Noted.{Noted, Since}
-use Rattle.form_notes.specs.Standing.{IsNote, IsQuestion, IsDefinitionOf, outcome_as, made_by}
+use Rattle.form_notes.specs.Standing.{IsNote, outcome_as, made_by}
 use Rattle.form_notes.specs.declared.notes.Definition.{Definition}
 use Rattle.form_notes.specs.declared.notes.Note as code_note
 use Rattle.form_notes.specs.declared.notes.Outcome as code_outcome
 use Rattle.form_notes.specs.declared.notes.Outcome.TheVariants as outcomes
-use Rattle.form_notes.specs.declared.notes.Question.TheVariants as code
 use Rattle.unit_scopes.specs.Defining.{outcome_here}
 use Rattle.unit_scopes.specs.Kept.{NotesFor}
 use Rattle.unit_scopes.specs.declared.asked.Asked.{Asked}
 use Rattle.unit_scopes.specs.declared.scope.UnitScope.{UnitScope}
 use Rattle.note_laws.specs.Told.{bare_question, bare_noted, told, since_of}
-use Rattle.declared_parts.specs.Again.{Again, own_notes, noted_of, SameLater, CanDeclare}
+use Rattle.declared_parts.specs.Again.{own_notes, noted_of, CanDeclare}
 use Rattle.declared_parts.specs.Going.{Tells, TellsSame, TellsOther, note_of, notes_first, settled, OwnSoFar, CanSetOwn, CanEnd, GoesOn, HasGoneBy, HasMacro, IsNext, KeptFrom}
 use Rattle.declared_parts.specs.Parts.{OwnNoteFor, IsKeptMacro, keyword_if, keyword_made, rules_defined}
 use Rattle.declared_parts.specs.Undone.{AreDefined}

@@ -1,15 +1,8 @@
-use Rattle.std.proofs.Common.{◌≡◌, ℕ, List, [], ◌++◌, reverse, true, false, Bool, Ok, refl, sym, ap, ◌∙◌, subst}
-use Rattle.scheme_model.specs.Order.{Note}
-use Rattle.scheme_model.specs.ScopedExpansion.{FramedIdent}
-use Rattle.syntax_tree.specs.declared.trees.Work.{Work}
+use Rattle.std.proofs.Common.{List, reverse, true, false, Bool, Ok, refl, sym, subst}
 use Rattle.core_tree.specs.Names.{AllMatch}
-use Rattle.unit_scopes.specs.Kept.{NotesFor}
-use Rattle.unit_scopes.specs.declared.scope.UnitScope.{UnitScope}
 use Rattle.declared_parts.specs.Again.{own_notes, CanDeclare}
-use Rattle.declared_parts.specs.Going.{GoesOn, HasGone}
+use Rattle.declared_parts.specs.Going.{HasGone}
 use Rattle.declared_parts.specs.Parts.{OwnNoteFor}
-use Rattle.declared_parts.specs.declared.again.Going.{Going}
-use Rattle.declared_parts.specs.declared.parts.DeclaredPart.{DeclaredPart}
 use Rattle.declared_parts.specs.declared.parts.OwnNote.{OwnNote}
 use Rattle.declared_parts.proofs.DoneLaws.{declared_so, refused_so}
 use Rattle.declared_parts.proofs.StartGoing.{begins}

@@ -1,4 +1,4 @@
-use Rattle.std.proofs.Common.{◌≡◌, ℕ, ◌+◌, List, [], ◌∷◌, ◌++◌, Option, None, slice_get, refl, sym, ap, ◌∙◌, subst}
+use Rattle.std.proofs.Common.{◌≡◌, ℕ, ◌+◌, List, [], ◌++◌, Option, None, slice_get, sym, ap, ◌∙◌, subst}
 use Rattle.scheme_model.specs.Ident.{Ident as Identifier}
 use Rattle.scheme_model.specs.ExpansionFaults.{Named}
 use Rattle.scheme_model.specs.RulesShape.{Rules}
@@ -11,7 +11,6 @@ use Rattle.std.specs.Prelude.{if◌then◌else◌}
 use Rattle.form_notes.specs.Standing.{outcome_as, made_by}
 use Rattle.form_notes.specs.declared.notes.Definition.{Definition}
 use Rattle.form_notes.specs.declared.notes.Outcome as code_outcome
-use Rattle.form_notes.specs.declared.notes.Outcome.TheVariants as outcomes
 use Rattle.unit_scopes.specs.Defining.{outcome_here}
 use Rattle.unit_scopes.specs.declared.scope.UnitScope.{UnitScope}
 use Rattle.declared_parts.specs.Again.{own_notes, CanDeclare}

@@ -1,4 +1,4 @@
-use Rattle.std.proofs.Common.{◌≡◌, ℕ, ◌+◌, ◌<◌, ◌≤◌, ◌^◌, ◌*◌, List, [], ◌++◌, ◌∷◌, length, slice_get, true, Option, Some, None, refl, sym, ap, ◌∙◌, subst, arith}
+use Rattle.std.proofs.Common.{◌≡◌, ℕ, ◌<◌, List, [], slice_get, true, refl, sym, ◌∙◌, subst}
 use Rattle.std.proofs.lemmas.Option.{slice_get_within}
 use Rattle.scheme_model.specs.ScopedExpansion.{Frames, ScopedState}
 use Rattle.syntax_tree.specs.declared.trees.Work.{Work}
@@ -8,7 +8,6 @@ use Rattle.form_parts.specs.declared.items.Spot.{Spot}
 use Rattle.unit_scopes.specs.Defining.{IsPlaced}
 use Rattle.unit_scopes.specs.Kept.{SpotFor}
 use Rattle.unit_scopes.specs.State.{Stands}
-use Rattle.unit_scopes.specs.declared.asked.Asked.{Asked}
 use Rattle.unit_scopes.specs.declared.scope.UnitScope.{UnitScope}
 use Rattle.declared_parts.specs.Going.{own_spot, name_of, settled}
 use Rattle.declared_parts.proofs.GoOn.{goes_next, next_there, few_there}
