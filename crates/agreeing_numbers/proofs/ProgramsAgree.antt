@@ -195,8 +195,7 @@ module _ (r q : Renumbering) where
           let ts = forms_over (Written p.number) p.number 0 (forms_at_work p) in
           let trees = unit_trees p same in
           let last = unit_leaves r q b c known p.number same.unit ts s (start same) trees work.0 in
-          let x = scoped_unit_over known p s in
-          (
+          let x = scoped_unit_over known p s in (
             (forms_ask r q b c known p.number same.unit ts s (start same) trees work.0, tt),
             record {
               all = record { table = last.1.table; macros = last.1.macros; entry = entries same };

@@ -60,11 +60,10 @@ module _ (known : Known) (f : Item Ident → Step ScopedState Part) where
       go true x e law = (record { front = i ∷ []; rest = is; split = refl }, one x ∙ ap (λ (y : Result Part Broken × ScopedState). (y >>= λ p. λ t. parts f [] t >>= λ ps. done (part p ps)).1) (sym e))
       go false (Err d, u) e law = (record { front = i ∷ []; rest = is; split = refl }, ap (λ (y : Result Part Broken × ScopedState). (y >>= λ p. λ t. parts f [] t >>= λ ps. done (part p ps)).1) (sym e))
       go false (Ok p, u) e law =
-          let h = law u in
-          (
+          let h = law u in (
             record { front = i ∷ h.0.front; rest = h.0.rest; split = ap (λ js. i ∷ js) h.0.split },
             ends_behind p (items_parts (counted known) fs f is u) ∙ (h.1 ∙ (sym (goes_behind p (parts f h.0.front u))
-            ∙ ap (λ (y : Result Part Broken × ScopedState). (y >>= λ p. λ t. parts f h.0.front t >>= λ ps. done (part p ps)).1) (sym e))),
+                ∙ ap (λ (y : Result Part Broken × ScopedState). (y >>= λ p. λ t. parts f h.0.front t >>= λ ps. done (part p ps)).1) (sym e))),
           )
 
 each_front : {X : Type 0} (P : X → Type 0) (xs ys : List X) → Each P (xs ++ ys) → Each P xs
@@ -212,10 +211,9 @@ module _ (r q : Renumbering) (b : HasOldNumbers r) (c : HasOldNumbers q) where
         let h = work.0 in
         let l = later_agrees x s at a h.counts in
         let pass = ap (λ z. z.1.asked) (pass_same r q b c x.around a.around enough_turns x.tree a.tree) in
-        let rest = ap (λ z. z.1.asked) (left_same r q b c w l enough_turns x.left a.left) in
-        (
+        let rest = ap (λ z. z.1.asked) (left_same r q b c w l enough_turns x.left a.left) in (
           λ g. (let i = alike_same r q b c x.around a.around g.around (set_aside_asking x.around enough_turns x.tree).1.asked pass in
-          let k = alike_same r q b c w l g.later (finish_asking w enough_turns x.left).1.asked rest in λ j. i j && k j),
+              let k = alike_same r q b c w l g.later (finish_asking w enough_turns x.left).1.asked rest in λ j. i j && k j),
           on gs (finish w enough_turns x.left).1 (finish_agrees x s at a h) agrees.1 work.1,
         )
 
