@@ -10,7 +10,7 @@ use Rattle.scheme_model.specs.DataTrees.{tree_of}
 use Rattle.scheme_model.specs.Meaning.{Meaning, Global, Standard}
 use Rattle.scheme_model.specs.Requirements.{Known}
 use Rattle.scheme_model.specs.RulesShape.{Rules, rules_parts}
-use Rattle.scheme_model.specs.Declarations.{UnitForm, home_of, is_part_kind}
+use Rattle.scheme_model.specs.Declarations.{UnitForm, home_of}
 use Rattle.scheme_model.specs.Substitution.{Table, Entries, Defined, defined_in}
 use Rattle.scheme_model.specs.Prelude.{PreludeMacro, prelude}
 use Rattle.scheme_model.specs.UnitExpansion.{Formed}
@@ -77,14 +77,7 @@ module _ (r q : Renumbering) where
       go false more = ((here.form_same, tree_agrees u (home_of u k f) f unit here.home_unit_same here.home_form_same), more)
 
   unit_trees : (p : Prepared) → AgreeOnUnit r q p → Each (TreeAgrees r q p.number) (forms_over (Written p.number) p.number 0 (forms_at_work p))
-  unit_trees p h = go (is_part_kind p.placed.source.kind)
-    where
-      own : (n : ℕ) (f : UnitForm) → At p.forms n f → let i = home_of p.number (0 + n) f in AgreeOnForm r q p.number (0 + n) i.unit i.form
-      own n f at = subst (λ m. let i = home_of p.number m f in AgreeOnForm r q p.number m i.unit i.form) (let e : n ≡ 0 + n = omega arith in e) (h.forms n f at)
-
-      go : (b : Bool) → Each (TreeAgrees r q p.number) (forms_over (Written p.number) p.number 0 (cond b [] p.forms))
-      go true = tt
-      go false = trees_agree p.number 0 h.unit p.forms own
+  unit_trees p h = trees_agree p.number 0 h.unit (forms_at_work p) (λ n f at. subst (λ m. let i = home_of p.number m f in AgreeOnForm r q p.number m i.unit i.form) (let e : n ≡ 0 + n = omega arith in e) (h.forms n f at))
 
   -- ---- what units import and export
 

@@ -2,7 +2,7 @@
 use Rattle.std.specs.Prelude.{◌≡◌, ◌<◌, ℕ, List}
 use Rattle.scheme_model.specs.Declarations.{UnitForm, home_of}
 use Rattle.scheme_model.specs.Includes.{Document, max_units}
-use Rattle.scheme_model.specs.Program.{Prepared, prepare, prelude_unit, units_of}
+use Rattle.scheme_model.specs.Program.{Prepared, prepare, prelude_unit, units_of, forms_at_work}
 use Rattle.form_laws.specs.Begins.{Each}
 use Rattle.renumbering_laws.specs.Renumbering.{Renumbering}
 use Rattle.carried_laws.specs.Homes.{At}
@@ -13,9 +13,10 @@ pub record AgreeOnForm (r q : Renumbering) (unit form home_unit home_form : ℕ)
   pub home_unit_same : r.unit home_unit ≡ q.unit home_unit
   pub home_form_same : r.form home_unit home_form ≡ q.form home_unit home_form
 
+-- of a part no form is at work
 pub record AgreeOnUnit (r q : Renumbering) (p : Prepared) : Type 0 where
   pub unit : r.unit p.number ≡ q.unit p.number
-  pub forms : (n : ℕ) (f : UnitForm) → At p.forms n f → let h = home_of p.number n f in AgreeOnForm r q p.number n h.unit h.form
+  pub forms : (n : ℕ) (f : UnitForm) → At (forms_at_work p) n f → let h = home_of p.number n f in AgreeOnForm r q p.number n h.unit h.form
 
 -- units behind the most aren't worked on
 pub record AgreeOn (r q : Renumbering) (ds : List Document) : Type 0 where
