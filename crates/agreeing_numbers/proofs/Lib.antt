@@ -2,3 +2,4 @@ pub mod Agreeing  -- Two renumberings that make the same of what is around a for
 pub mod FormsAgree  -- So they do of what a form leaves
 pub mod UnitsAgree  -- So they do at each turn of each form of a unit, and of what the unit leaves
 pub mod ProgramsAgree  -- So they do in a program, unit by unit
+pub mod TablesAgree  -- Numbers that tables of an event tell agree with those of its pairs

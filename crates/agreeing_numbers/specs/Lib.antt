@@ -1,1 +1,2 @@
 pub mod Agreeing  -- Renumberings that agree on the numbers of a program (R7RS 5.1)
+pub mod Tables  -- Numbers that tables of an event tell, where included forms that go on keep their numbers at home (R7RS 4.1.7, 5.1)
