@@ -242,7 +242,7 @@ module _ (r q : Renumbering) where
     pub left_same : (turns : ℕ) (l : Result (Left Ident) Broken) → result_as r (left_as r (ident r)) l ≡ result_as q (left_as q (ident q)) l → rest_as r (finish_asking w turns l) ≡ rest_as q (finish_asking w turns l)
     left_same turns l h = sym (finish_asks r one w there by_one turns l) ∙ (ap (finish_asking there turns) h ∙ finish_asks q other w there by_other turns l)
 
-    answers_same : (n : Moment) (x : Question) → new_asked r (n, x) ≡ new_asked q (n, x) → new_answer r (answer w n x) ≡ new_answer q (answer w n x)
+    pub answers_same : (n : Moment) (x : Question) → new_asked r (n, x) ≡ new_asked q (n, x) → new_answer r (answer w n x) ≡ new_answer q (answer w n x)
     answers_same n x h =
         sym (answer_moved r one w there by_one.around n x) ∙ (ap (λ (y : Moment × Question). answer there y.0 y.1) h ∙ answer_moved q other w there by_other.around n x)
 

@@ -33,7 +33,7 @@ use Rattle.carried_laws.specs.Homes.{At}
 use Rattle.carried_laws.proofs.StayingPrograms.{each_joined, program_begins}
 use Rattle.agreeing_numbers.specs.Agreeing.{AgreeOnForm, AgreeOnUnit, AgreeOn}
 use Rattle.agreeing_numbers.proofs.Agreeing.{same_head, same_tail, Imported, Agrees}
-use Rattle.agreeing_numbers.proofs.UnitsAgree.{TreeAgrees, AsksSame, forms_ask, unit_leaves}
+use Rattle.agreeing_numbers.proofs.UnitsAgree.{TreeAgrees, FormAgrees, forms_ask, unit_leaves}
 
 -- ---- lists
 
@@ -168,7 +168,7 @@ module _ (r q : Renumbering) where
 
   module _ (b : HasOldNumbers r) (c : HasOldNumbers q) (all : List Placed) (ps : List Prepared) (known : Known) (agree : Each Agreed ps) where
     abbrev Asks : WorkedUnit → Type 0
-    Asks w = Each (AsksSame r q) w.forms
+    Asks w = Each (FormAgrees r q) w.forms
 
     module _ (g : ScopedProgress) (h : Stand g) (p : Prepared) where
       imports_fit : Fits P (unit_entries all g.results p).0
@@ -271,8 +271,8 @@ module _ (r q : Renumbering) (unit : r.unit prelude_unit ≡ q.unit prelude_unit
     exports = tt;
   }
 
-pub program_asks : (ds : List Document) (r q : Renumbering) → HasOldNumbers r → HasOldNumbers q → AgreeOn r q ds → Each (λ (w : WorkedUnit). Each (AsksSame r q) w.forms) (units_at_work ds)
-program_asks ds r q b c h =
+pub program_agrees : (ds : List Document) (r q : Renumbering) → HasOldNumbers r → HasOldNumbers q → AgreeOn r q ds → Each (λ (w : WorkedUnit). Each (FormAgrees r q) w.forms) (units_at_work ds)
+program_agrees ds r q b c h =
     let all = units_of ds in
     let ps = prepare all 0 all in
     units_ask r q b c all ps (known_in ds) h.units (length ps) scoped_before (before_stands r q h.prelude h.prelude_form) (program_begins ds)

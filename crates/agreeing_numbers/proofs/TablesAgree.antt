@@ -19,21 +19,21 @@ use Rattle.agreeing_numbers.specs.Tables.{Includes, FollowsPairs}
 
 -- ---- lists
 
-each_placed : {X : Type 0} (P : X → Type 0) (xs : List X) → ((i : ℕ) (x : X) → slice_get xs i ≡ Some x → P x) → Each P xs
+pub each_placed : {X : Type 0} (P : X → Type 0) (xs : List X) → ((i : ℕ) (x : X) → slice_get xs i ≡ Some x → P x) → Each P xs
 each_placed P [] h = tt
 each_placed P (x ∷ xs) h = (h 0 x refl, each_placed P xs (λ i y e. h (suc i) y e))
 
-each_get : {X : Type 0} (P : X → Type 0) (xs : List X) → Each P xs → (i : ℕ) (x : X) → slice_get xs i ≡ Some x → P x
+pub each_get : {X : Type 0} (P : X → Type 0) (xs : List X) → Each P xs → (i : ℕ) (x : X) → slice_get xs i ≡ Some x → P x
 each_get P [] h i x e = absurd cc
 each_get P (y ∷ xs) h zero x e = let q : y ≡ x = cc in subst P q h.0
 each_get P (y ∷ xs) h (suc i) x e = each_get P xs h.1 i x e
 
-at_get : {X : Type 0} (xs : List X) (i : ℕ) (x : X) → At xs i x → slice_get xs i ≡ Some x
+pub at_get : {X : Type 0} (xs : List X) (i : ℕ) (x : X) → At xs i x → slice_get xs i ≡ Some x
 at_get [] i x h = absurd h
 at_get (y ∷ xs) zero x h = ap (λ z. Some z) h
 at_get (y ∷ xs) (suc i) x h = at_get xs i x h
 
-numbered : (all : List Placed) (k : ℕ) (us : List Placed) (i : ℕ) (p : Prepared) → slice_get (prepare all k us) i ≡ Some p → p.number ≡ k + i
+pub numbered : (all : List Placed) (k : ℕ) (us : List Placed) (i : ℕ) (p : Prepared) → slice_get (prepare all k us) i ≡ Some p → p.number ≡ k + i
 numbered all k [] i p h = absurd cc
 numbered all k (u ∷ us) zero p h = let e : prepared all k u ≡ p = cc in ap (λ (z : Prepared). z.number) (sym e) ∙ (let z : k ≡ k + 0 = omega arith in z)
 numbered all k (u ∷ us) (suc i) p h = numbered all (suc k) us i p h ∙ (let e : suc k + i ≡ k + suc i = omega arith in e)

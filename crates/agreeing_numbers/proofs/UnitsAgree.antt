@@ -78,9 +78,20 @@ left_or d (Err e) = d
 abbrev pub TreeAgrees : Renumbering → Renumbering → (unit : ℕ) → ℕ × Tree Ident → Type 0
 TreeAgrees r q u t = (r.form u t.0 ≡ q.form u t.0) × (move_tree (change r) t.1 ≡ move_tree (change q) t.1)
 
--- and it asks alike by both, or by neither
-abbrev pub AsksSame : Renumbering → Renumbering → WorkedForm → Type 0
-AsksSame r q f = (g : WorkedForm) → asks_alike r f g ≡ asks_alike q f g
+-- and of all that is around it at its turns, of its tree, and of what it set aside
+pub record FormAgrees (r q : Renumbering) (f : WorkedForm) : Type 0 where
+  pub around : AroundAgrees r q f.around
+  pub later : AroundAgrees r q f.later
+  pub tree : move_tree (change r) f.tree ≡ move_tree (change q) f.tree
+  pub left : result_as r (left_as r (ident r)) f.left ≡ result_as q (left_as q (ident q)) f.left
+
+-- so it asks alike by both, or by neither
+pub asks_same : (r q : Renumbering) → HasOldNumbers r → HasOldNumbers q → (f : WorkedForm) → FormAgrees r q f → (g : WorkedForm) → asks_alike r f g ≡ asks_alike q f g
+asks_same r q b c f a g =
+    let pass = ap (λ z. z.1.asked) (pass_same r q b c f.around a.around enough_turns f.tree a.tree) in
+    let rest = ap (λ z. z.1.asked) (left_same r q b c f.later a.later enough_turns f.left a.left) in
+    let i = alike_same r q b c f.around a.around g.around (set_aside_asking f.around enough_turns f.tree).1.asked pass in
+    let k = alike_same r q b c f.later a.later g.later (finish_asking f.later enough_turns f.left).1.asked rest in λ j. i j && k j
 
 module _ (r q : Renumbering) (b : HasOldNumbers r) (c : HasOldNumbers q) where
   abbrev Same_left : Result (Left Ident) Broken → Type 0
@@ -203,19 +214,12 @@ module _ (r q : Renumbering) (b : HasOldNumbers r) (c : HasOldNumbers q) where
         let w = around_form known [] s g.form in
         let z = rest_agrees r q b c w (later_agrees g s at a h.counts) g.left h.rest a.left in (z.1 ∙ at.0, z.0)
 
-    on : (gs : List GoneForm) (s : ScopedState) → At s → Each (GoneAgrees u) gs → Each (IsAtWork u) (gone_on known gs s) → Each (AsksSame r q) (gone_on known gs s)
+    on : (gs : List GoneForm) (s : ScopedState) → At s → Each (GoneAgrees u) gs → Each (IsAtWork u) (gone_on known gs s) → Each (FormAgrees r q) (gone_on known gs s)
     on [] s at agrees work = tt
     on (x ∷ gs) s at agrees work =
-        let w = around_form known [] s x.form in
         let a = agrees.0 in
         let h = work.0 in
-        let l = later_agrees x s at a h.counts in
-        let pass = ap (λ z. z.1.asked) (pass_same r q b c x.around a.around enough_turns x.tree a.tree) in
-        let rest = ap (λ z. z.1.asked) (left_same r q b c w l enough_turns x.left a.left) in (
-          λ g. (let i = alike_same r q b c x.around a.around g.around (set_aside_asking x.around enough_turns x.tree).1.asked pass in
-              let k = alike_same r q b c w l g.later (finish_asking w enough_turns x.left).1.asked rest in λ j. i j && k j),
-          on gs (finish w enough_turns x.left).1 (finish_agrees x s at a h) agrees.1 work.1,
-        )
+        (record { around = a.around; later = later_agrees x s at a h.counts; tree = a.tree; left = a.left }, on gs (finish (around_form known [] s x.form) enough_turns x.left).1 (finish_agrees x s at a h) agrees.1 work.1)
 
     ended : (fs : List ℕ) (gs : List GoneForm) (s : ScopedState) → At s → Each (GoneAgrees u) gs → Each (IsAtWork u) (gone_on known gs s) → At (finished (counted known) (expand (counted known) enough_turns) [] fs (map left_of gs) s).1
     ended fs [] s at agrees work = at
@@ -253,7 +257,7 @@ module _ (r q : Renumbering) (b : HasOldNumbers r) (c : HasOldNumbers q) where
       all : AllGone x.0 x.1
       all = gone ts [] s at refl trees (begins_new x.0 x.1 work)
 
-      pub forms_ask : Each (AsksSame r q) (worked_forms known ts s)
+      pub forms_ask : Each (FormAgrees r q) (worked_forms known ts s)
       forms_ask = on x.0 x.1 all.at all.each work
 
       pub unit_leaves : At (unit (counted known) enough_turns [] ts s).1
