@@ -1,5 +1,5 @@
 pub mod Agreeing  -- Two renumberings that make the same of what is around a form make the same of what it asks and of the answers
-pub mod NumbersFollow  -- Where all numbers to which a renumbering leads are kept by another, they are sent alike by each that sends such numbers so
+pub mod NumbersFollow  -- Where all numbers to which a renumbering leads in what a form asks, and in an answer, are kept by another, these are sent alike by each renumbering that sends such numbers so
 pub mod FormsAgree  -- So they do of what a form leaves
 pub mod UnitsAgree  -- So they do at each turn of each form of a unit, and of what the unit leaves
 pub mod ProgramsAgree  -- So they do in a program, unit by unit
