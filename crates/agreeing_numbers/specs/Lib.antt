@@ -1,0 +1,1 @@
+pub mod Agreeing  -- Renumberings that agree on the numbers of a program (R7RS 5.1)
