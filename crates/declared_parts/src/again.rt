@@ -43,7 +43,8 @@ pub fn declare_again(
     requires { CanDeclare work.now units.old number part.now }
     ensures good { (can : CanDeclare work.now units.old number part.now) → IfOk result (λ b. IsTrue b ↔ AreSameLater can.again) }
     ensures declared { (can : CanDeclare work.now units.old number part.now) → result ≡ Ok true →
-        StandsAfter work.now units.old units.new can.layout can.editions (state_after can.again) (notes_after can.again) × HasEditions part.now units.new }
+        StandsAfter work.now units.old units.new can.layout can.editions (state_after can.again) (notes_after can.again) }
+    ensures editions { result ≡ Ok true → HasEditions part.now units.new }
     ensures refused { (can : CanDeclare work.now units.old number part.now) → result ≡ Ok false →
         StandsAfter work.now units.old units.new can.layout can.editions can.again.now.state can.again.now.notes }
 {
