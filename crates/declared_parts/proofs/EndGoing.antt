@@ -10,6 +10,7 @@ use Rattle.scheme_model.specs.ScopedExpansion.{ScopedMacro}
 use Rattle.forgotten_locals.specs.Outside.{macros_outside}
 use Rattle.syntax_tree.specs.Names.{Names}
 use Rattle.syntax_tree.specs.declared.trees.Work.{Work}
+use Rattle.core_tree.specs.Names.{AllMatch}
 use Rattle.form_notes.specs.Noted.{Since}
 use Rattle.form_notes.specs.Standing.{IsNote, IsQuestion, IsAsked, HaveNotes, RisesTo, stood}
 use Rattle.form_notes.specs.declared.notes.Note as code_note
@@ -23,12 +24,14 @@ use Rattle.note_laws.specs.Told.{bare_question, told, since_of}
 use Rattle.note_laws.proofs.BareNotes.{notes_bare}
 use Rattle.declared_parts.specs.Again.{moment_of, own_notes, noted_of, AreSameLater, SameLater, CanDeclare}
 use Rattle.declared_parts.specs.Going.{Tells, TellsSame, TellsOther, GoesOn, KeptFrom, HasGoneBy, HasGone}
+use Rattle.declared_parts.specs.Parts.{IsKeptMacro}
 use Rattle.declared_parts.specs.declared.again.Going.{Going}
 use Rattle.declared_parts.specs.declared.parts.DeclaredPart.{DeclaredPart}
 use Rattle.declared_parts.proofs.EachLaws.{each_contained, contained_each, contained_map, map_contained}
 use Rattle.declared_parts.proofs.FormFacts.{definitions, last, as_many}
 use Rattle.declared_parts.proofs.LaterNotes.{none_is_told}
 use Rattle.declared_parts.proofs.NextMoments.{IfDefinition, HasLast, IsLast}
+use Rattle.declared_parts.proofs.NumbersKept.{all_editions}
 use Rattle.declared_parts.proofs.SameEnds.{told_definition, same_code}
 
 -- ---- definitions that are made along the notes
@@ -241,6 +244,10 @@ module _ (work : Work) (old : UnitScope) (number : ℕ) (part : DeclaredPart) (c
       pub ends_so_far : (v : UnitScope) (e : Going) → HasGoneBy work old number part can x (drop (k + 1) part.notes) s.made v e (Ok false) → HasGone work old number part can v e (Ok false)
       ends_so_far v e h = (one_other work old number part can x there h.0, (s.made, h.1))
 
+  all_matched : {X Y : Type 0} (P : X → Y → Type 0) (xs : List X) → AllMatch P xs [] → xs ≡ []
+  all_matched P [] h = refl
+  all_matched P (x ∷ xs) h = absurd h
+
   -- all
   pub all_so_far : (k : ℕ) (u : UnitScope) (g : Going) → length part.notes ≤ k → SoFar work old number part can u g k → HasGone work old number part can u g (Ok true)
   all_so_far k u g end s =
@@ -249,4 +256,5 @@ module _ (work : Work) (old : UnitScope) (number : ℕ) (part : DeclaredPart) (c
       let whole : take k part.notes ≡ part.notes = take_all k part.notes end in (
         all_same work old number part can (λ x c. All-contains (TellsSame work old number part can) part.notes x (subst (All (TellsSame work old number part can)) whole s.same) c),
         subst (GoesOn work old number part can u g) (as_many_made work old number part can u g s.made s.goes made) s.goes,
+        all_editions part u g.macros s.goes.given (all_matched (IsKeptMacro work (since_of can.again.before can.editions) can.kept.noted) (drop g.macros part.macros) (subst (KeptFrom work old number part can g.macros) none s.kept)),
       )

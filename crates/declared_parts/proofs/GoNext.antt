@@ -1,5 +1,5 @@
 -- The next definition of a form that is declared again: what a note of it tells, and that all goes on behind it.
-use Rattle.std.proofs.Common.{◌≡◌, ℕ, zero, suc, ◌+◌, List, [], ◌∷◌, ◌++◌, slice_get, drop, cond, Option, Some, None, refl, sym, ap, ◌∙◌, subst, arith}
+use Rattle.std.proofs.Common.{◌≡◌, ℕ, zero, suc, ◌+◌, List, [], ◌∷◌, ◌++◌, slice_get, drop, true, cond, Option, Some, None, refl, sym, ap, ◌∙◌, subst, arith}
 use Rattle.scheme_model.specs.Meaning.{Global}
 use Rattle.scheme_model.specs.Order.{Note, is_some}
 use Rattle.scheme_model.specs.ScopedExpansion.{Frames, FramedIdent, is_defined, macro_added}
@@ -133,8 +133,9 @@ module _ (work : Work) (old : UnitScope) (number : ℕ) (part : DeclaredPart) (c
     -- ---- it is the next one
 
     pub is_next : (q : Moment × Question) (t : Tells work old number part can (note_of d outcomes.Stands made) q) → let f = of outcomes.Stands q t in outcome_here None f.name f.rules [] (f.notes ++ v.notes) (settled v h.moment) ≡ Stands →
-        HasMacro work can.editions (slice_get part.macros g.macros) d.keyword f.rules → IsNext work can.again can.editions h.moment d (slice_get part.macros g.macros)
-    is_next q t stands macro =
+        HasMacro work can.editions (slice_get part.macros g.macros) d.keyword f.rules → ((k : KeptMacro) → slice_get part.macros g.macros ≡ Some k → d.keyword ≡ true → k.ident ≡ d.ident) →
+        IsNext work can.again can.editions h.moment d (slice_get part.macros g.macros)
+    is_next q t stands macro named =
         let f = of outcomes.Stands q t in let e = ending outcomes.Stands q t in let m = then_made outcomes.Stands q t in
         let unit = can.comes.same.form.unit in let form = can.comes.same.form.form in
         record {
@@ -143,6 +144,7 @@ module _ (work : Work) (old : UnitScope) (number : ℕ) (part : DeclaredPart) (c
           is = (f.is.name, f.is.place);
           keyword = f.is.keyword;
           macro = macro;
+          named = named;
           new = (stands_so _ (is_defined (settled v h.moment) None f.name.name) stands).1;
           after = found w None f.name f.rules f.frames q.0;
           before = e.next f.ends;

@@ -35,13 +35,14 @@ use Rattle.unit_scopes.specs.declared.macros.Macro.{Macro}
 use Rattle.unit_scopes.specs.declared.macros.Macros.{Macros}
 use Rattle.unit_scopes.specs.declared.scope.UnitScope.{UnitScope}
 use Rattle.declared_parts.specs.Again.{Again, own_notes, CanDeclare}
-use Rattle.declared_parts.specs.Going.{settled, own_spot, name_of, AreMacrosDefined, OwnSoFar, HasMacro, IsNext, IsNextMacro, GoesOn}
+use Rattle.declared_parts.specs.Going.{settled, own_spot, name_of, AreMacrosDefined, OwnSoFar, HasMacro, HasMacros, IsNext, IsNextMacro, GoesOn}
 use Rattle.declared_parts.specs.Undone.{SameRest, is_it, Defines, AreDefined}
 use Rattle.declared_parts.specs.declared.again.Going.{Going}
 use Rattle.declared_parts.specs.declared.parts.DeclaredPart.{DeclaredPart}
 use Rattle.declared_parts.specs.declared.parts.KeptMacro.{KeptMacro}
 use Rattle.declared_parts.specs.declared.undoing.Made.{Made}
 use Rattle.declared_parts.proofs.MadeNext.{next_settled, closed_more, editions_more, kept_of}
+use Rattle.declared_parts.proofs.NumbersKept.{macros_more}
 use Rattle.declared_parts.proofs.UndoneLaws.{rest_on}
 
 no_definition : {A : Type 0} (o : Option A) → is_some o ≡ false → o ≡ None
@@ -140,9 +141,9 @@ module _ (work : Work) (apart : AreToldApart work.symbols.idents) (told : AreTol
   around = can.again.now
 
   pub goes_next : (next : IsNext work can.again can.editions h.moment d (slice_get part.macros g.macros)) → IsNextMacro u.root (slice_get part.macros g.macros) d.keyword kept → IsPlaced u v (own_spot u) (name_of d) kept true →
-      Stands work v can.layout (definition_added None next.name next.rules [] (settled around h.moment)) → g2.own ≡ g.own → g2.asked ≡ g.asked → (before : Option Meaning) → before ≡ bound_at u.env u.root d.ident →
+      Stands work v can.layout (definition_added None next.name next.rules [] (settled around h.moment)) → g2.own ≡ g.own → g2.asked ≡ g.asked → g2.macros ≡ (if d.keyword then g.macros + 1 else g.macros) → (before : Option Meaning) → before ≡ bound_at u.env u.root d.ident →
       g2.made.items ≡ g.made.items ++ (record { ident = d.ident; before = before; keyword = d.keyword }) ∷ [] → GoesOn work old number part can v g2 (made + 1)
-  goes_next next is_macro placed stands own asked before bound items =
+  goes_next next is_macro placed stands own asked macros before bound items =
       let s = settled around h.moment in
       let same = next_settled around h.moment next.after next.name next.rules next.table next.macros in
       let rest = placed_rest u v d kept placed in
@@ -166,6 +167,7 @@ module _ (work : Work) (apart : AreToldApart work.symbols.idents) (told : AreTol
         scopes = ap (λ (e : Environment). length e.scopes) env ∙ (length-changed_at (bound_in d.ident (meanings.Global u.unit d.ident)) u.env.scopes u.root ∙ h.scopes);
         own = subst (λ (n : ℕ). OwnSoFar work can.layout (own_notes can.again) g2.own n) (sym asked) (subst (λ (a : Asked). OwnSoFar work can.layout (own_notes can.again) a g.asked) (sym own) h.own);
         back = subst (AreDefined old v) (sym (ap reverse items ∙ reverse-append g.made.items (one ∷ []))) (u, h.back, x);
+        given = subst (HasMacros v part.macros) (sym macros) (macros_more u v one x part.macros g.macros u.root kept placed.macros h.given next.named d.keyword refl is_macro);
       }
 
 -- ---- where it can be made

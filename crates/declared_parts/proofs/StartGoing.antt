@@ -90,6 +90,9 @@ module _ (work : Work) (old : UnitScope) (number : ℕ) (part : DeclaredPart) (c
         macros = λ form m. refl;
       })
 
+  none_below : {P : Type 0} (i n : ℕ) → i < n → n ≡ 0 → P
+  none_below i n lt none = absurd (omega (arith, lt, none))
+
   pub begins : (u : UnitScope) (g : Going) → u ≡ record old { form = u.form } → IsNewForm number u.form → IsNothing g → GoesOn work old number part can u g 0
   begins u g rest form none =
       let back = back_first u rest in
@@ -112,6 +115,7 @@ module _ (work : Work) (old : UnitScope) (number : ℕ) (part : DeclaredPart) (c
           };
         };
         back = subst (λ (xs : List Made). AreDefined old u (reverse xs)) (sym none.made) back;
+        given = λ i k form lt at. none_below i g.macros lt none.macros;
       }
 
 -- ---- it is done

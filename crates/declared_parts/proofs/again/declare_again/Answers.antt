@@ -39,6 +39,7 @@ returns-then-branch c =
           let h = (gone can).1 in
           let asked = subst (λ (l : List OwnNote). AllMatch (OwnNoteFor work.symbols) l (reverse (own_notes can.again))) (sym c.as_slice.ensures) can.kept.part.asked in
           declared_so work old n part can u g h c.own_in.new.asked (λ ns notes. c.in_ok-own_in.ensures can.layout (reverse (own_notes can.again)) ns h.stands.root asked notes);
+      editions = λ is. (gone c.requires).2;
       refused = λ can is. absurd cc;
     }
 
@@ -52,5 +53,6 @@ returns c =
     record {
       good = λ can. (λ t. absurd cc, λ s. absurd ((gone can).0 s));
       declared = λ can is. absurd cc;
+      editions = λ is. absurd cc;
       refused = λ can is. refused_so work old n part can c.take_back.new.units (c.take_back.ensures old (gone can).1.1.back);
     }
