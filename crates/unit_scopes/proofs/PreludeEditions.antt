@@ -1,11 +1,11 @@
 -- A macro of the prelude's unit that is added has the next edition, which tells its rules.
-use Rattle.std.proofs.Common.{◌≡◌, ℕ, ◌+◌, List, [], ◌∷◌, Bool, true, false, cond, Option, Some, None, refl, sym, ap, ◌∙◌, subst}
+use Rattle.std.proofs.Common.{◌≡◌, ℕ, ◌+◌, List, [], ◌∷◌, Bool, true, false, cond, Option, Some, refl, sym, ap, ◌∙◌, subst}
 use Rattle.scheme_model.specs.Ident.{Ident as Identifier, Written}
 use Rattle.scheme_model.specs.Meaning as model
 use Rattle.scheme_model.specs.Order.{Transformer}
 use Rattle.scheme_model.specs.Program.{prelude_unit, is_standard}
 use Rattle.scheme_model.specs.RulesShape.{Rules}
-use Rattle.scheme_model.specs.ScopedExpansion.{Frames, ScopedMacro, ScopedState}
+use Rattle.scheme_model.specs.ScopedExpansion.{Frames, ScopedState}
 use Rattle.syntax_tree.specs.Macros.{IsIdent}
 use Rattle.syntax_tree.specs.Meant.{IsSymbol, IsMeaning}
 use Rattle.syntax_tree.specs.Names.{AreToldApart, KeepsNames}

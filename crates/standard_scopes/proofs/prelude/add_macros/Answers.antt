@@ -4,7 +4,7 @@ use Rattle.unit_scopes.proofs.ImportLaws.{same_trees}
 use Rattle.unit_scopes.proofs.OutcomeLaws.{names_itself, names_on}
 use Rattle.standard_scopes.proofs.PreludeMacros.{Adding, adding_begins, adding_same, all_added, all_counted, all_told, can_add_last, last_rules, last_added}
 use Rattle.standard_scopes.proofs.prelude.add_macros.Goals as goal
-use Rattle.standard_scopes.proofs.prelude.add_macros.Goals.{After-in_default}
+use Rattle.standard_scopes.proofs.prelude.add_macros.Goals.{After-drop-rest-2}
 
 pub loop-name-init : goal.loop-name-init
 loop-name-init c = record { adding = adding_begins c.args.work.now c.args.scope.now c.args.macros.items c.requires.macros c.requires.stands; trees = refl; names = names_itself c.args.work.now.symbols; roots = refl }
@@ -36,7 +36,7 @@ none_left [] h = refl
 none_left (m ∷ ms) h = absurd (omega arith)
 
 -- all are added then
-at_end : (c : After-in_default) → Adding c.args.work.now c.args.scope.now c.loop-name.work c.loop-name.scope []
+at_end : (c : After-drop-rest-2) → Adding c.args.work.now c.args.scope.now c.loop-name.work c.loop-name.scope []
 at_end c =
     let l = c.loop-name in
     adding_same c.args.work.now c.args.scope.now l.work l.scope l.rest.items [] (none_left l.rest.items (sym l.rest.ok.0 ∙ c.in_default.ensures.cases.0)) l.invariant.adding

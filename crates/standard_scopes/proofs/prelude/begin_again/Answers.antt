@@ -1,5 +1,5 @@
 -- The prelude's unit imports all standard names, and its macros are added once more.
-use Rattle.std.proofs.Common.{ℕ, List, [], ◌∷◌, zero, refl, sym, ap, ◌∙◌, subst, arith}
+use Rattle.std.proofs.Common.{ℕ, List, [], sym, ap, ◌∙◌, subst}
 use Rattle.std.specs.FinMap as map
 use Rattle.std.specs.Ordering.{nat_cmp}
 use Rattle.scheme_model.specs.Prelude.{prelude}
@@ -53,3 +53,15 @@ returns-clause-editions c = λ editions begins.
 
 pub returns-clause-last : goal.returns-clause-last
 returns-clause-last c = c.in_ok-add_macros.ensures.last (c.in_ok-begin_prelude.ensures.last ∙ c.new-scope.ensures.last)
+
+pub returns-in_err-add_macros-clause-names : goal.returns-in_err-add_macros-clause-names
+returns-in_err-add_macros-clause-names c =
+    let old = c.args.work.now.symbols in
+    let begun = names_on old c.all_standard.new.work.symbols c.begin_prelude.new.work.symbols c.all_standard.ensures.names c.begin_prelude.ensures.names in
+    names_on old c.begin_prelude.new.work.symbols c.add_macros.new.work.symbols begun c.add_macros.ensures.names
+
+pub returns-clause-names : goal.returns-clause-names
+returns-clause-names c =
+    let old = c.args.work.now.symbols in
+    let begun = names_on old c.all_standard.new.work.symbols c.begin_prelude.new.work.symbols c.all_standard.ensures.names c.begin_prelude.ensures.names in
+    names_on old c.begin_prelude.new.work.symbols c.add_macros.new.work.symbols begun c.add_macros.ensures.names

@@ -1,4 +1,4 @@
-use Rattle.std.proofs.Common.{◌≤◌, length, sym, ◌∙◌, arith}
+use Rattle.std.proofs.Common.{◌∙◌}
 use Rattle.std.proofs.lemmas.List.{take_all}
 use Rattle.standard_scopes.proofs.PreludeMacros.{more_copied}
 use Rattle.standard_scopes.proofs.prelude.copies.Goals as goal
