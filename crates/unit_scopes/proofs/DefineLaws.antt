@@ -12,7 +12,7 @@ use Rattle.scheme_model.specs.ExpansionFaults.{Named, KeywordRedefined, Duplicat
 use Rattle.scheme_model.specs.Meaning as model
 use Rattle.scheme_model.specs.RulesShape.{Rules}
 use Rattle.scheme_model.specs.Steps.{Broken}
-use Rattle.scheme_model.specs.Order.{Here, Note, Pending, Renamed, is_some, told}
+use Rattle.scheme_model.specs.Order.{Here, Note, Pending, is_some, told}
 use Rattle.std.specs.Option.{option_map}
 use Rattle.scheme_model.specs.Substitution.{Defined, defined_in, is_variable, any, unchanged}
 use Rattle.scheme_model.specs.CountedExpansion.{refused_here}

@@ -7,7 +7,7 @@ use Rattle.scheme_model.specs.Ident.{Ident as Identifier}
 use Rattle.scheme_model.specs.ExpansionFaults.{Named}
 use Rattle.scheme_model.specs.RulesShape.{Rules}
 use Rattle.scheme_model.specs.Order.{is_some}
-use Rattle.scheme_model.specs.Questions.{Outcome, Stands as stands_outcome, Redefines, StoodBefore, outcome_by}
+use Rattle.scheme_model.specs.Questions.{Stands as stands_outcome, Redefines, StoodBefore, outcome_by}
 use Rattle.scheme_model.specs.ScopedExpansion.{Frames, ScopedState, body_around, definition_added}
 use Rattle.syntax_tree.specs.Names.{AreToldApart}
 use Rattle.syntax_tree.specs.declared.meaning.Meaning.{Meaning}
