@@ -6,7 +6,7 @@ use Rattle.scheme_model.specs.Declarations.{forms_hold}
 use Rattle.scheme_model.specs.Diagnostics.{bytes_of, export_diagnostics, form_diagnostics, hiding_diagnostics, is_empty, lost_diagnostics}
 use Rattle.scheme_model.specs.Program.{Prepared, export_all, forms_at_work, names_of_unit, with_refused}
 use Rattle.syntax_tree.specs.declared.units.Entry.{Entry}
-use Rattle.core_tree.specs.Units.{AreDefinitions, FormsStand, definitions_from, defined_by, export_errors, form_errors}
+use Rattle.core_tree.specs.Units.{AreDefinitions, definitions_from, defined_by, export_errors, form_errors}
 use Rattle.core_tree.specs.declared.cores.Binder.{Binder}
 use Rattle.unit_sources.specs.declared.units.ImportSpec.{ImportSpec}
 use Rattle.unit_sources.specs.UnitsRead.{forms_of}
@@ -20,7 +20,6 @@ use Rattle.unit_imports.specs.EntriesMeant.{HaveMeaning}
 use Rattle.read_documents.specs.Findings.{Adds, all_told}
 use Rattle.read_documents.specs.Places.{spans_of}
 use Rattle.unit_imports.specs.SetsGiven.{ImportsAs}
-use Rattle.program_findings.specs.StandIn.{StandIn}
 use Rattle.unit_results.specs.UnitsFound.{no_import_diagnostics}
 use Rattle.read_documents.specs.declared.findings.Finding.{Finding}
 use Rattle.unit_results.proofs.CameKept.{came_of, finds_kept}
