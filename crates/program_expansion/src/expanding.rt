@@ -227,17 +227,19 @@ fn expand_unit<L: Ledger>(
         None => Ok(None),
         Some(forms) => {
             let forms = all_forms(alloc, unit, source, forms)?;
-            let referred = references(alloc, forms.as_slice())?;
-            let rest = finished(
-                alloc,
-                &mut bench.work,
-                places,
-                libraries,
-                unit,
-                source,
-                given,
-                referred.as_slice(),
-            )?;
+            let rest = {
+                let referred = references(alloc, forms.as_slice())?;
+                finished(
+                    alloc,
+                    &mut bench.work,
+                    places,
+                    libraries,
+                    unit,
+                    source,
+                    given,
+                    referred.as_slice(),
+                )?
+            };
             bench.work.symbols.told_apart();
             Ok(Some(rest.with(forms)))
         }

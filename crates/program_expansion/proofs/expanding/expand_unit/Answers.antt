@@ -29,6 +29,7 @@ use Rattle.unit_results.specs.UnitsFound.{in_the_end}
 use Rattle.unit_imports.specs.Whole.{with_forms}
 use Rattle.unit_imports.specs.declared.expanded.Expanded.{Expanded}
 use Rattle.unit_imports.proofs.DefinedLaws.{referred}
+use Rattle.read_documents.specs.Places.{AreFoundIn}
 use Rattle.read_documents.specs.UnitFindings.{IsFoundOf}
 use Rattle.read_documents.specs.WereRead.{WereRead}
 use Rattle.standard_scopes.proofs.Growing.{grows_named, grows_twice}
@@ -136,8 +137,12 @@ returns-in_ok-rest-in-Some-clause-formed g c =
     let f = c.finished.new.work in
     let unit = c.args.unit in
     let are = c.in_ok-forms-in-Some.ensures.formed e (of_some (AreFormed e unit) c.in_ok-expanded.expanded c.in_ok-expanded.ensures.formed c.in-Some.forms c.in-Some.is) in
-    subst (λ (x : Expanded). IsFormed f unit x.forms) (sym c.with-in-Some.ensures)
+    subst (λ (x : Expanded). IsFormed f unit x.forms) (sym c.with.ensures)
     (formed_on e f (same_trees e f c.in_ok-rest-in-Some.ensures.trees c.in_ok-rest-in-Some.ensures.names) c.in_ok-rest-in-Some.ensures.names unit c.in_ok-forms-in-Some.forms (are.formed, are.stand))
+
+pub returns-in_ok-rest-in-Some-clause-findings : goal.returns-in_ok-rest-in-Some-clause-findings
+returns-in_ok-rest-in-Some-clause-findings g c =
+    subst (λ (x : Expanded). AreFoundIn (length c.args.places.documents.now) x.findings.items) (sym c.with.ensures) c.in_ok-rest-in-Some.ensures.findings
 
 -- ---- what the definition has of the unit
 
@@ -199,8 +204,8 @@ returns-in_ok-rest-in-Some-clause-expands g c = λ spelled all known gp p knows 
     (own_numbers c.args.unit p (forms_of (worked_forms c.args.source.now)) f.formed own read (searched_numbers known p start f.formed f.is)))))
     (subst (λ (fs : List core.UnitForm). AreDefinitions mid.work.symbols (reverse (definitions_from 0 fs)) (defined_by c.args.unit gone.1.table)) (sym these) (subst (λ (bs : List (ℕ × Binder)). AreDefinitions mid.work.symbols (reverse bs) (defined_by c.args.unit gone.1.table)) (sym c.in_ok-forms-in-Some.ensures.definitions)
     (subst (λ (n : ℕ). AreDefinitions mid.work.symbols (reverse (definitions_from 0 forms)) (defined_by n gone.1.table)) own f.definitions))) in
-    let whole : with_forms c.in_ok-rest-in-Some.rest (map referred slice) ≡ c.with-in-Some.result = ap (with_forms c.in_ok-rest-in-Some.rest) these ∙ sym c.with-in-Some.ensures in
-    some_expands all known mid gp p imports (record mid { work = c.finished.new.work }) c.with-in-Some.result forms
+    let whole : with_forms c.in_ok-rest-in-Some.rest (map referred slice) ≡ c.with.result = ap (with_forms c.in_ok-rest-in-Some.rest) these ∙ sym c.with.ensures in
+    some_expands all known mid gp p imports (record mid { work = c.finished.new.work }) c.with.result forms
     (stands_at mid c.finished.new.work gone.1 c.in_ok-rest-in-Some.ensures.trees c.in_ok-rest-in-Some.ensures.names c.told_apart-in-Some.ensures.idents c.told_apart-in-Some.ensures.symbols unfolds.stands) f
     (subst (λ (x : Expanded). CameTo all (with_unit gp gone.1) c.finished.new.work x (unit_result p imports gone.1.table (Some f.formed))) whole came)
     c.args.steps.now c.expand_forms.new.steps
@@ -239,7 +244,7 @@ returns-in_ok-rest-in-Some-clause-finds g c = λ spelled all known gp p knows go
     (own_numbers c.args.unit p (forms_of (worked_forms c.args.source.now)) f.formed own read (searched_numbers known p start f.formed f.is)))))
     (subst (λ (fs : List core.UnitForm). AreDefinitions mid.work.symbols (reverse (definitions_from 0 fs)) (defined_by c.args.unit gone.1.table)) (sym these) (subst (λ (bs : List (ℕ × Binder)). AreDefinitions mid.work.symbols (reverse bs) (defined_by c.args.unit gone.1.table)) (sym c.in_ok-forms-in-Some.ensures.definitions)
     (subst (λ (n : ℕ). AreDefinitions mid.work.symbols (reverse (definitions_from 0 forms)) (defined_by n gone.1.table)) own f.definitions))) reads ends r places at unit_is sets lost in
-    subst (λ (x : Expanded). IsFoundOf reads (in_the_end ends (with_unit gp gone.1)) (unit_result p imports gone.1.table gone.0) x.findings.items) (sym c.with-in-Some.ensures)
+    subst (λ (x : Expanded). IsFoundOf reads (in_the_end ends (with_unit gp gone.1)) (unit_result p imports gone.1.table gone.0) x.findings.items) (sym c.with.ensures)
     (subst (λ (o : Option (List Formed)). IsFoundOf reads (in_the_end ends (with_unit gp gone.1)) (unit_result p imports gone.1.table o) came.findings.items) (sym f.is) found)
 
 pub returns-in-None-clause-libraries : goal.returns-in-None-clause-libraries
