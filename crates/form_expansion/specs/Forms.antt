@@ -240,7 +240,12 @@ EndsOutside known form r s before after last result =
 abbrev pub left_noting : Known → Left Identifier → Noting → Noting
 left_noting known l s = (finish_by (noting known) enough_turns [] (Ok l) s).1
 
--- the notes of a part that has ended, and then what is local was forgotten: macros that aren't local have editions that tell their rules
+-- the notes of a part that has ended: macros that aren't local have editions that tell their rules
+pub record NotedInside (work : Work) (macros : Macros) (trace : Trace) (s : Noting) : Type 0 where
+  pub notes : HaveNotes work.symbols s.since trace.notes.notes s.noted
+  pub editions : EditionsTell work.symbols macros (state_of s) s.since.editions
+
+-- the same once what is local was forgotten
 pub record NotedOutside (work : Work) (macros : Macros) (trace : Trace) (s : Noting) : Type 0 where
   pub notes : HaveNotes work.symbols s.since trace.notes.notes s.noted
   pub editions : EditionsTell work.symbols macros (outside (state_of s)) s.since.editions
