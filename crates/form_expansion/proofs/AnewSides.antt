@@ -17,7 +17,7 @@ use Rattle.scheme_model.specs.Substitution.{any}
 use Rattle.scheme_model.specs.ScopedExpansion.{Bind, Frames, FramedIdent, macro_at, body_around, definition_added, meaning_next, is_defined}
 use Rattle.scheme_model.specs.CountedExpansion as counted
 use Rattle.scheme_model.specs.Questions.{Outcome, Stands, Redefines, StoodBefore, outcome_by}
-use Rattle.model_laws.proofs.FrameAsks.{AllOf}
+use Rattle.form_laws.specs.Begins.{Each}
 use Rattle.form_laws.proofs.Sides.{Both, AskedLike, Results, PendingLike, RenamedLike, PartLike, TransformerLike, Answer, Sides}
 use Rattle.form_laws.proofs.SideRuns.{item_itself}
 use Rattle.form_laws.proofs.SideExpressions.{part_equal, item_goes, expand_goes}
@@ -79,7 +79,7 @@ module _ (known : Known) (q : Bool) where
   answered s t h (Assigns e i) = λ f d. (λ j. assigned (h j) (body_around (d j)) i)
   answered s t h (Library n) = refl
 
-  all_answered : (s t : Noting) → t ≡ flagged q s → (xs : List (Asked Frames Ident)) → AllOf (Answer ops ops Fits s t) xs
+  all_answered : (s t : Noting) → t ≡ flagged q s → (xs : List (Asked Frames Ident)) → Each (Answer ops ops Fits s t) xs
   all_answered s t h [] = tt
   all_answered s t h (x ∷ xs) = (answered s t h x, all_answered s t h xs)
 

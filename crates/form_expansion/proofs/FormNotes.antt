@@ -15,7 +15,6 @@ use Rattle.scheme_model.specs.ScopedExpansion.{FramedIdent, ScopedState}
 use Rattle.syntax_tree.specs.Names.{Names}
 use Rattle.syntax_tree.specs.declared.trees.Work.{Work}
 use Rattle.core_tree.specs.declared.traces.Trace.{Trace}
-use Rattle.question_laws.specs.Noted.{is_defined_in}
 use Rattle.form_notes.specs.Noted.{Noted, Since, beginning, is_local, is_own}
 use Rattle.form_notes.specs.Standing.{HaveNotes}
 use Rattle.form_notes.specs.declared.notes.Note as code_note
@@ -65,7 +64,7 @@ stops_alike is f (Ok x, t) e h = absurd (subst (λ (r : Result Part Broken). IsO
 
 not_own : (r : Since) (m : Meaning) → r.own ≡ [] → is_local m ≡ false → is_own r m ≡ false
 not_own r (Local v) none other = absurd cc
-not_own r (Global u i) none other = ap (λ (t : Table). is_defined_in t u i) none
+not_own r (Global u i) none other = ap (λ (t : Table). is_own (record r { own = t }) (Global u i)) none
 not_own r (Standard x) none other = refl
 not_own r (Free x) none other = refl
 

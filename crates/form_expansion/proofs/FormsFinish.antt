@@ -155,6 +155,14 @@ no_fault work region unit form s d b h none = absurd (subst (λ (f : Option Form
 set_aside_of : (work : Work) (region : Region) (unit form : ℕ) (s : ScopedState) (d : code.Declared) (l : Left Identifier) → IsDeclared work region unit form s d (Ok l) → d.so_far.fault ≡ None → IsSetAside work region unit form d None (Ok l)
 set_aside_of work region unit form s d l h none = subst (λ (f : Option FormFault). IsSetAside work region unit form d f (Ok l)) none h.set_aside
 
+-- nor one that set something aside one that has a fault
+pub never_left : {P : Type 0} (work : Work) (region : Region) (unit form : ℕ) (s : ScopedState) (d : code.Declared) (l : Left Identifier) → IsDeclared work region unit form s d (Ok l) → is_some d.so_far.fault ≡ true → P
+never_left {P} work region unit form s d l h some = by d.so_far.fault h.set_aside some
+  where
+    by : (f : Option FormFault) → IsSetAside work region unit form d f (Ok l) → is_some f ≡ true → P
+    by None is none = absurd cc
+    by (Some e) is none = absurd is
+
 -- what is left of a form without a fault
 left_of : (work : Work) (region : Region) (unit form : ℕ) (s : ScopedState) (d : code.Declared) (r : Passing) → IsDeclared work region unit form s d r → d.so_far.fault ≡ None → (l : Left Identifier) × IsDeclared work region unit form s d (Ok l)
 left_of work region unit form s d (Ok l) h none = (l, h)
