@@ -1,7 +1,7 @@
 -- The tree of the form is added, and then gone through.
 use Rattle.std.proofs.Common.{refl}
 use Rattle.unit_sources.specs.UnitsRead.{form_of}
-use Rattle.unit_scopes.specs.Units.{CountsFor, declared}
+use Rattle.unit_scopes.specs.Units.{declared}
 use Rattle.unit_scopes.proofs.FreshLaws.{none_count}
 use Rattle.form_expansion.specs.Forms.{known_by, taken}
 use Rattle.form_expansion.specs.declared.forms.Bench.{Bench}
