@@ -11,10 +11,15 @@ use Rattle.scheme_model.specs.Program.{enough_turns}
 use Rattle.scheme_model.specs.UnitExpansion.{max_depth}
 use Rattle.scheme_model.specs.Requirements.{Known}
 use Rattle.scheme_model.specs.Substitution.{Table}
-use Rattle.scheme_model.specs.ScopedExpansion.{FramedIdent, ScopedState}
+use Rattle.scheme_model.specs.Questions.{bare_macro}
+use Rattle.scheme_model.specs.RulesShape.{option_map}
+use Rattle.scheme_model.specs.ScopedExpansion.{FramedIdent, ScopedState, macro_at}
+use Rattle.syntax_tree.specs.Meant.{IsMeaning}
 use Rattle.syntax_tree.specs.Names.{Names}
 use Rattle.syntax_tree.specs.declared.trees.Work.{Work}
 use Rattle.core_tree.specs.declared.traces.Trace.{Trace}
+use Rattle.forgotten_locals.specs.Outside.{is_outside, macros_outside}
+use Rattle.forgotten_locals.proofs.Outsides.{macro_outside}
 use Rattle.form_notes.specs.Noted.{Noted, Since, beginning, is_local, is_own}
 use Rattle.form_notes.specs.Standing.{HaveNotes}
 use Rattle.form_notes.specs.declared.notes.Note as code_note
@@ -71,7 +76,23 @@ not_own r (Free x) none other = refl
 editions_tell : (names : Names) (ms : Macros) (s : Noting) → s.since.own ≡ [] → EditionsStand names ms s → EditionsTell names ms (state_of s) s.since.editions
 editions_tell names ms s none h = record { none = h.none; tells = λ form c m is other. h.tells form c m is (not_own s.since m none other) }
 
-tell_turned : (names : Names) (ms : Macros) (s : ScopedState) (n : ℕ) (editions : Editions) → EditionsTell names ms s editions → EditionsTell names ms (turned n s) editions
+is_outside_of : (m : Meaning) → is_local m ≡ false → is_outside m ≡ true
+is_outside_of (Local v) other = absurd cc
+is_outside_of (Global u i) other = refl
+is_outside_of (Standard x) other = refl
+is_outside_of (Free x) other = refl
+
+-- they tell the same of the state before, where macros that aren't local stayed
+pub tell_before : (names : Names) (ms : Macros) (t s : ScopedState) (editions : Editions) → t.unit ≡ s.unit → macros_outside t.macros ≡ macros_outside s.macros → EditionsTell names ms t editions → EditionsTell names ms s editions
+tell_before names ms t s editions own same h = record {
+  none = h.none;
+  tells = λ form c m is other.
+      let away = is_outside_of m other in
+      h.tells form c m (subst (λ (u : ℕ). IsMeaning names u form c m) (sym own) is) other
+      ∙ ap (option_map bare_macro) (sym (macro_outside m away t.macros) ∙ ap (λ ks. macro_at ks m) same ∙ macro_outside m away s.macros);
+}
+
+pub tell_turned : (names : Names) (ms : Macros) (s : ScopedState) (n : ℕ) (editions : Editions) → EditionsTell names ms s editions → EditionsTell names ms (turned n s) editions
 tell_turned names ms s n editions h = record { none = h.none; tells = λ form c m is other. h.tells form c m is other }
 
 -- ---- one item after another
@@ -113,7 +134,7 @@ module _ (known : Known) (form : ℕ) (l : Left Identifier) (notes : List (Note 
     none_own : h.now.since.own ≡ []
     none_own = ap (λ (r : Since). r.own) h.part.0
 
-    told_now : EditionsTell work.symbols macros t editions
+    pub told_now : EditionsTell work.symbols macros t editions
     told_now =
         subst (λ (x : ScopedState). EditionsTell work.symbols macros x editions) h.state
         (subst (λ (r : Since). EditionsTell work.symbols macros (state_of h.now) r.editions) h.part.0 (editions_tell work.symbols macros h.now none_own h.editions))
@@ -167,6 +188,12 @@ module _ (known : Known) (form : ℕ) (l : Left Identifier) (notes : List (Note 
 
           stand_one : EditionsStand new.symbols after one.1
           stand_one = let e = noted_one.editions in record { none = e.none; tells = λ form c m is other. e.tells form c m is other }
+
+          -- editions tell the same
+          pub told_then : EditionsTell new.symbols after (expanded known form i t).1 editions
+          told_then =
+              subst (λ (x : ScopedState). EditionsTell new.symbols after x editions) (sym (ap (λ (q : Result Part Broken × ScopedState). q.1) one_plain))
+              (subst (λ (r : Since). EditionsTell new.symbols after (state_of one.1) r.editions) same_part.0 (editions_tell new.symbols after one.1 (ap (λ (r : Since). r.own) same_part.0) stand_one))
 
           -- it is expanded
           pub item_so : (p : Part) → (expanded known form i t).0 ≡ Ok p → NotesSo new after known l (suc k) (expanded known form i t).1 next first

@@ -58,12 +58,12 @@ use Rattle.expansion_laws.proofs.OtherForms.{expanded_stays, met_stays}
 use Rattle.expansion_laws.proofs.TopForms.{expanded_binds}
 use Rattle.noted_steps.specs.Noting.{Noting, state_of}
 use Rattle.expander.specs.UnitNotes.{CanNote, Editions, HasNoted, OnEnded, expand_noting, met_noting, part_begun}
-use Rattle.form_expansion.specs.Forms.{StandsOutside, Passing, IsUntouched, IsSetAside, IsDeclared, KeepsOthers, HaveCounted, expanding, FinishesTo, FinishesForm, EndsForm, CanFinish, Stays, NotedInside, NotedOutside, known_by, left_noting}
+use Rattle.form_expansion.specs.Forms.{StandsOutside, Passing, IsUntouched, IsSetAside, IsDeclared, KeepsOthers, HaveCounted, expanding, FinishesTo, FinishesForm, EndsForm, CanFinish, MayNote, Stays, NotedInside, NotedOutside, known_by, left_noting}
 use Rattle.form_expansion.specs.declared.forms.Bench.{Bench}
 use Rattle.form_expansion.specs.declared.forms.Declared as code
 use Rattle.form_expansion.proofs.BenchLaws.{Forgets, same_root, stands_outside, stays_by, stays_on}
 use Rattle.form_expansion.proofs.FormAtWork.{item_form, met_form, same_turned, unit_turned}
-use Rattle.form_expansion.proofs.FormNotes.{NotesSo, begins, uses_so, can_note, item_so, item_breaks, notes_end}
+use Rattle.form_expansion.proofs.FormNotes.{NotesSo, begins, uses_so, can_note, item_so, item_breaks, notes_end, tell_before, tell_turned, told_now, told_then}
 use Rattle.form_expansion.proofs.FormSteps.{others_kept, declared_outside}
 use Rattle.form_expansion.proofs.Live.{live_on}
 use Rattle.core_tree.proofs.Matched.{matched_at}
@@ -459,6 +459,14 @@ module _ (known : Known) (old b c : Bench) (unit form : ℕ) (l : Left Identifie
           item_breaks known form l notes editions ms s b.work b.scope.macros k h.state trace w same_unit h.at_work i at c.work c.scope.macros next
           (noted editions w.now.noted (can_note known form l notes editions ms s b.work b.scope.macros k h.state trace w same_unit h.at_work b.scope refl)) x.0 x.1 q.trace (ap (λ (n : code_noting.Noting). n.notes) told)
 
+      -- editions tell the same of macros
+      broken_tells : Notes → (editions : Editions) (ms : List Noted) → CanNote old.work old.scope first (s.uses form) editions ms (turned form s) → EditionsTell c.work.symbols c.scope.macros s editions
+      broken_tells noted editions ms can =
+          let w = h.noted editions ms can in
+          tell_before c.work.symbols c.scope.macros step.1 s editions (step_unit ∙ sym h.own) step_macros
+          (told_then known form l notes editions ms s b.work b.scope.macros k h.state trace w same_unit h.at_work i at c.work c.scope.macros next
+          (noted editions w.now.noted (can_note known form l notes editions ms s b.work b.scope.macros k h.state trace w same_unit h.at_work b.scope refl)))
+
 -- ---- a form that was expanded
 
 module _ (old b : Bench) (known : Known) (unit form : ℕ) (l : Left Identifier) (s : ScopedState) (notes : List (Note FramedIdent)) (first : Trace) (k start total : ℕ) (budget : Budget) (trace : Trace) (items : List ExpandedItem)
@@ -588,6 +596,14 @@ abbrev pub NotesRest : (old b : Bench) (unit form : ℕ) → code.Declared → c
 NotesRest old b unit form d k = (known : Known) (ls : List Frames) (s : ScopedState) (notes : List (Note FramedIdent)) (l : Left Identifier) (editions : Editions) (ms : List Noted) → Knows old.scope.libraries known → StandsOutside old ls s notes → s.unit ≡ unit →
     IsDeclared old.work old.region unit form s d (Ok l) → CanNote old.work old.scope d.so_far.trace (s.uses form) editions ms (turned form s) → NotedInside b.work b.scope.macros k.trace (left_noting known l (begins form notes editions ms s))
 
+-- editions tell the same of macros
+abbrev pub TellsStill : (old b : Bench) (unit form : ℕ) → code.Declared → Type 0
+TellsStill old b unit form d = (ls : List Frames) (s : ScopedState) (notes : List (Note FramedIdent)) (r : Passing) (editions : Editions) (ms : List Noted) → StandsOutside old ls s notes → s.unit ≡ unit → IsDeclared old.work old.region unit form s d r →
+    MayNote old form s d.so_far.trace editions ms r → EditionsTell b.work.symbols b.scope.macros s editions
+
+can_note_left : (b : Bench) (form : ℕ) (s : ScopedState) (trace : Trace) (editions : Editions) (ms : List Noted) (l : Left Identifier) → MayNote b form s trace editions ms (Ok l) → CanNote b.work b.scope trace (s.uses form) editions ms (turned form s)
+can_note_left b form s trace editions ms l may = record { tells = tell_turned b.work.symbols b.scope.macros s form editions may.tells; notes = may.notes }
+
 -- the call that meets the form's uses
 abbrev pub Meets : (b : Bench) (u : UnitScope) (form : ℕ) (budget : Budget) (trace next : Trace) → List code_waiting.WaitingUse → Type 0
 Meets b u form budget trace next xs = (known : Known) (ls : List Frames) (s : ScopedState) (notes : List (Note FramedIdent)) (us : List (WaitingUse Identifier)) → UnitStands b.work b.scope ls s notes → CountsFor b.work s form budget trace → AllMatch (WaitsFor b.work b.scope.unit form) xs us →
@@ -700,6 +716,14 @@ module _ (old b : Bench) (unit form : ℕ) (d : code.Declared) (none : d.so_far.
         (call known f.layout f.state notes i.item (stay.libraries known knows) f.stands f.counts i.stands)
         (λ editions ms can. noted known f.layout f.state notes i.item editions ms (stay.libraries known knows) f.stands f.counts i.stands can) editions ms can
 
+    pub at_tells : nat_lt max_total total ≡ false → (e : FormFault) → StepNoting b c form before_it after trace next x (Err (fault.At e)) → TellsStill old c unit form d
+    at_tells few e noted ls s notes (Err z) editions ms stands own h may = no_fault old.work old.region unit form s d z h none
+    at_tells few e noted ls s notes (Ok l) editions ms stands own h may =
+        let f = so all_known ls s notes l all_there stands own h in
+        let i = item_is all_known s notes l h f in
+        broken_tells all_known old b c unit form l s notes d.so_far.trace k start total before_it after trace next items f i.item trees names same i.there few
+        (λ editions ms can. noted all_known f.layout f.state notes i.item editions ms (stay.libraries all_known all_there) f.stands f.counts i.stands can) editions ms (can_note_left old form s d.so_far.trace editions ms l may)
+
     -- what the call leaves, by the state that there is
     module _ (can : CanFinish old unit form d) where
       abbrev left : (l : Left Identifier) × IsDeclared old.work old.region unit form can.state d (Ok l)
@@ -748,6 +772,14 @@ module _ (old b : Bench) (unit form : ℕ) (d : code.Declared) (none : d.so_far.
       let f = so known ls s notes l knows stands own h in
       let long = matched_length (ItemFor old.work old.region unit form) d.left.items l.items (set_aside_of old.work old.region unit form s d l h none).1 in
       notes_end known form l notes editions ms s b.work b.scope.macros k f.state trace (f.noted editions ms can) (dropped_behind l.items k (omega (arith, all, long)))
+
+  pub tells_by : TellsStill old b unit form d
+  tells_by ls s notes (Err e) editions ms stands own h may = no_fault old.work old.region unit form s d e h none
+  tells_by ls s notes (Ok l) editions ms stands own h may =
+      let known = known_by old.scope.libraries in
+      let f = so known ls s notes l (λ n _. refl) stands own h in
+      tell_before b.work.symbols b.scope.macros f.state s editions (f.number ∙ sym own) f.macros
+      (told_now known form l notes editions ms s b.work b.scope.macros k f.state trace (f.noted editions ms (can_note_left old form s d.so_far.trace editions ms l may)))
 
   -- what a loop over the items knows of the scopes
   pub can_go_on : CanFinish old unit form d → CanDeclare b.work b.scope form budget trace

@@ -25,7 +25,8 @@ ghost use Rattle.expander.specs.UnitNotes.{CanNote, Editions, HasNoted, OnEnded,
 ghost use Rattle.unit_scopes.specs.Outcomes.{Grows, IsAtWork};
 ghost use Rattle.unit_scopes.specs.Searched.{searched_unit_over};
 ghost use Rattle.unit_scopes.specs.Units.{UnitStands, CountsFor, HasSpace, ItemFor, CanDeclare, Expands, declared, expanded};
-ghost use Rattle.form_expansion.specs.Forms.{IsBench, IsBegun, StandsOutside, MayForget, IsUntouched, IsDeclared, used_by, Passing, PassesTo, PassesForm, FinishesForm, EndsForm, CanPass, CanFinish, CanFinishAll, FormsHeld, Passes, Finishes, AreFormed, Unfolds, Stays, IsTurned, IsForgotten, NotedInside, NotedOutside, declared_as, left_noting, taken};
+ghost use Rattle.form_expansion.specs.Forms.{IsBench, IsBegun, StandsOutside, MayForget, MayNote, IsUntouched, IsDeclared, used_by, Passing, PassesTo, PassesForm, FinishesForm, EndsForm, CanPass, CanFinish, CanFinishAll, FormsHeld, Passes, Finishes, AreFormed, Unfolds, Stays, IsTurned, IsForgotten, NotedInside, NotedOutside, declared_as, left_noting, taken};
+ghost use Rattle.unit_scopes.specs.Editions.{EditionsTell};
 ghost use Rattle.unit_scopes.specs.Forgotten.{OwnFirst};
 ghost use Rattle.read_documents.specs.WereRead.{WereRead};
 
@@ -347,6 +348,10 @@ pub fn finish_form<L: Ledger>(
         StandsOutside bench.old ls s notes → s.unit ≡ unit → IsDeclared bench.old.work bench.old.region unit number s (declared_as so_far left.now) (Ok l) →
         CanNote bench.old.work bench.old.scope so_far.trace (s.uses number) editions ms (turned number s) →
         IfOk result (λ ended. nat_lt max_total total.new ≡ false → NotedOutside bench.new.work bench.new.scope.macros ended.0.trace (left_noting known l (part_begun (s.uses number) notes editions ms (turned number s)))) }
+    // Editions that told the rules of macros still do, whatever the form comes to.
+    ensures editions { (ls : List Frames) (s : ScopedState) (notes : List (Note FramedIdent)) (r : Passing) (editions : Editions) (ms : List Noted) → StandsOutside bench.old ls s notes → s.unit ≡ unit →
+        IsDeclared bench.old.work bench.old.region unit number s (declared_as so_far left.now) r → MayNote bench.old number s so_far.trace editions ms r →
+        IfOk result (λ ended. EditionsTell bench.new.work.symbols bench.new.scope.macros s editions) }
     ensures stays { OnOk result (Stays bench.old bench.new) }
     // What stood before still stands, also where memory ran out.
     ensures grows { Grows bench.old.work bench.new.work bench.old.region }
@@ -379,6 +384,10 @@ fn finish<L: Ledger>(
         StandsOutside bench.old ls s notes → s.unit ≡ unit → IsDeclared bench.old.work bench.old.region unit number s (declared_as so_far left.now) (Ok l) →
         CanNote bench.old.work bench.old.scope so_far.trace (s.uses number) editions ms (turned number s) →
         IfOk result (λ ended. nat_lt max_total total.new ≡ false → NotedInside bench.new.work bench.new.scope.macros ended.0.trace (left_noting known l (part_begun (s.uses number) notes editions ms (turned number s)))) }
+    // Editions that told the rules of macros still do, whatever the form comes to.
+    ensures editions { (ls : List Frames) (s : ScopedState) (notes : List (Note FramedIdent)) (r : Passing) (editions : Editions) (ms : List Noted) → StandsOutside bench.old ls s notes → s.unit ≡ unit →
+        IsDeclared bench.old.work bench.old.region unit number s (declared_as so_far left.now) r → MayNote bench.old number s so_far.trace editions ms r →
+        IfOk result (λ ended. EditionsTell bench.new.work.symbols bench.new.scope.macros s editions) }
     ensures stays { OnOk result (Stays bench.old bench.new) }
     // What stood before still stands, also where memory ran out.
     ensures grows { Grows bench.old.work bench.new.work bench.old.region }

@@ -15,7 +15,7 @@ use Rattle.unit_scopes.specs.declared.scope.UnitScope.{UnitScope}
 use Rattle.form_expansion.specs.Forms.{HasSpaceLeft, declared_as}
 use Rattle.form_expansion.proofs.BenchLaws.{grows_then, stays_itself}
 use Rattle.form_expansion.proofs.FormsHold.{is_few}
-use Rattle.form_expansion.proofs.FormsFinish.{none_of, none_there, broken_first, can_meet, never_left, uses_wait, uses_continue, uses_stay, still_blank, with_scope, can_go_on, item_ready, ok_stays, at_stays, ok_finishes, at_finishes, finishes_by, at_notes, notes_by, Meets, MeetsNoting, Step, StepNoting, Continues}
+use Rattle.form_expansion.proofs.FormsFinish.{none_of, none_there, broken_first, can_meet, never_left, uses_wait, uses_continue, uses_stay, still_blank, with_scope, can_go_on, item_ready, ok_stays, at_stays, ok_finishes, at_finishes, finishes_by, at_notes, at_tells, notes_by, tells_by, Meets, MeetsNoting, Step, StepNoting, Continues}
 use Rattle.form_expansion.proofs.forms.finish.Goals as goal
 use Rattle.form_expansion.proofs.forms.finish.Goals.{else-loop-item-test, then-loop-item-test+then-is_large}
 
@@ -198,3 +198,19 @@ returns-clause-noted g c = λ known ls s notes l editions ms knows stands own h 
           (subst (λ (xs : List code_item.Item). length xs ≤ i.item-index) c.as_slice-item-items.ensures w.loop-item-test.false) known ls s notes l editions ms knows stands own h can
       | then-loop-item-test+then-is_large w ↦ absurd (true≢false (sym w.if-is_large.true ∙ w.is_large.ensures ∙ few))
     ]
+
+pub returns-then-is_some-clause-editions : goal.returns-then-is_some-clause-editions
+returns-then-is_some-clause-editions g c = λ ls s notes r editions ms stands own h may. may.tells
+
+pub returns-in-Err-At-clause-editions : goal.returns-in-Err-At-clause-editions
+returns-in-Err-At-clause-editions g c = λ ls s notes r editions ms stands own h may.
+    let none = none_of c.args.so_far.fault (sym c.is_some.ensures ∙ c.if-is_some.false) in let e = c.expand in let i = c.loop-item in
+    let few = sym c.is_large.ensures ∙ c.if-is_large.false in
+    let noted = (subst (λ (x : ExpandFault). StepNoting i.bench e.new.bench c.args.number i.budget e.new.budget i.trace e.new.trace c.item-item.result (Err x)) c.in-Err-At.field-0-is c.in-Err-At.ensures.noted) in
+    at_tells c.args.bench.now i.bench c.args.unit c.args.number (declared_as c.args.so_far c.args.left.now) none i.invariant.stays i.item-index c.args.total.now i.total i.budget i.trace i.items i.invariant.so c.as_slice-item-items.result.now c.as_slice-item-items.ensures c.item-item.result c.loop-item-test.true c.item-item.is
+    e.new.bench e.new.budget e.new.trace e.ensures.keeps e.ensures.names e.ensures.added e.ensures.regions e.ensures.region few c.in-Err-At.fault noted ls s notes r editions ms stands own h may
+
+pub returns-clause-editions : goal.returns-clause-editions
+returns-clause-editions g c = λ ls s notes r editions ms stands own h may.
+    let none = none_of c.args.so_far.fault (sym c.is_some.ensures ∙ c.if-is_some.false) in let i = c.loop-item in
+    tells_by c.args.bench.now i.bench c.args.unit c.args.number (declared_as c.args.so_far c.args.left.now) none i.item-index c.args.total.now i.total i.budget i.trace i.items i.invariant.so ls s notes r editions ms stands own h may

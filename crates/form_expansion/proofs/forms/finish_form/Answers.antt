@@ -1,6 +1,9 @@
 -- The form is finished, and what is local to it is forgotten.
 use Rattle.forgotten_locals.specs.Outside.{outside}
 use Rattle.root_laws.proofs.RootStates.{forgets}
+use Rattle.std.proofs.Common.{subst}
+use Rattle.scheme_model.specs.ScopedExpansion.{ScopedState}
+use Rattle.unit_scopes.specs.Editions.{EditionsTell}
 use Rattle.unit_scopes.specs.Stepped.{turned}
 use Rattle.noted_steps.specs.Noting.{state_of}
 use Rattle.expander.specs.UnitNotes.{part_begun}
@@ -35,3 +38,9 @@ returns-clause-noted g c = λ known ls s notes l editions ms knows stands own h 
     let n = left_noting known l (part_begun (s.uses c.args.number) notes editions ms (turned c.args.number s)) in
     let x = c.in_ok-finished.ensures.noted known ls s notes l editions ms knows stands own h can few in
     noted_outside b.work b.scope.macros c.forget_locals.new.self.macros c.in_ok-finished.finished.0.trace n x (c.forget_locals.ensures.editions b.work.symbols (state_of n) (outside (state_of n)) n.since.editions (forgets (state_of n)) x.editions)
+
+pub returns-clause-editions : goal.returns-clause-editions
+returns-clause-editions g c = λ ls s notes r editions ms stands own h may.
+    let b = c.finish.new.bench in
+    let x = c.in_ok-finished.ensures.editions ls s notes r editions ms stands own h may in
+    subst (λ (t : ScopedState). EditionsTell b.work.symbols c.forget_locals.new.self.macros t editions) stands.outside (c.forget_locals.ensures.editions b.work.symbols s (outside s) editions (forgets s) x)
