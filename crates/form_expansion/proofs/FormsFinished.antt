@@ -40,7 +40,8 @@ use Rattle.form_expansion.specs.Forms.{StandsOutside, IsUntouched, HaveCounted, 
 use Rattle.form_expansion.specs.declared.forms.Bench.{Bench}
 use Rattle.form_expansion.specs.declared.forms.Declared as code
 use Rattle.form_expansion.proofs.DeclaredForms.{declared_on}
-use Rattle.form_expansion.proofs.FormsFinish.{Ended, with_scope, dropped_at}
+use Rattle.form_expansion.proofs.FormsFinish.{with_scope, dropped_at}
+use Rattle.form_expansion.proofs.FormLoop.{Ended}
 use Rattle.form_expansion.proofs.UnitForms.{step_total}
 use Rattle.form_expansion.proofs.UnitWalk.{behind, behind_none, behind_twice}
 use Rattle.form_expansion.proofs.OutsideWalk.{way, among_left, finish_over, finish_on}

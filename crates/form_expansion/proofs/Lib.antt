@@ -10,6 +10,7 @@ pub mod OutsideWalk  -- Work on a unit one form at a time, where what is local i
 pub mod AnewSides  -- Whether nothing was noted when a part of a form began is read by no step
 pub mod FormNotes  -- What a form asks while what it set aside is expanded, item by item
 pub mod FormsFinish  -- What a form set aside is expanded, once its macro uses are met
+pub mod FormLoop  -- The loop over what a form set aside
 pub mod FormsHold  -- Forms that were gone through are held, one more at a time
 pub mod FormsFinished  -- What forms set aside is expanded, one form more at a time
 pub mod FormsUnfold  -- What a unit's forms come to, once they were gone through and what they set aside was expanded

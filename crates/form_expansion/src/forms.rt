@@ -33,9 +33,7 @@ ghost use Rattle.read_documents.specs.WereRead.{WereRead};
 use core_tree::traces::{FormFault, Trace, blank_trace};
 use core_tree::units::{ExpandedItem, UnitForm};
 use datum_reader::seed_as;
-use expander::{
-    Budget, ExpandFault, Item, Left, UnitScope, declare_form, expand_item, meet_uses,
-};
+use expander::{Budget, ExpandFault, Item, Left, UnitScope, declare_form, expand_item, meet_uses};
 use ls_base::limits::MAX_UNIT_NODES;
 use ls_base::{Items, Mem, Memory, Steps};
 use read_documents::form_numbers::number_of;
@@ -401,7 +399,14 @@ fn finish<L: Ledger>(
         return Ok((broken(alloc, trace, fault), budget));
     }
     let Bench { work, scope, .. } = bench;
-    meet_uses(scope, work, left.uses.as_slice(), number, budget, &mut trace)?;
+    meet_uses(
+        scope,
+        work,
+        left.uses.as_slice(),
+        number,
+        budget,
+        &mut trace,
+    )?;
     let mut items = Items::new(alloc);
     for item in left.items.as_slice() {
         if is_large(*total) {

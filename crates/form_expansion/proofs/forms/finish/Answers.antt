@@ -15,7 +15,8 @@ use Rattle.unit_scopes.specs.declared.scope.UnitScope.{UnitScope}
 use Rattle.form_expansion.specs.Forms.{HasSpaceLeft, declared_as}
 use Rattle.form_expansion.proofs.BenchLaws.{grows_then, stays_itself}
 use Rattle.form_expansion.proofs.FormsHold.{is_few}
-use Rattle.form_expansion.proofs.FormsFinish.{none_of, none_there, broken_first, can_meet, never_left, uses_wait, uses_continue, uses_stay, still_blank, with_scope, can_go_on, item_ready, ok_stays, at_stays, ok_finishes, at_finishes, finishes_by, at_notes, at_tells, notes_by, tells_by, Meets, MeetsNoting, Step, StepNoting, Continues}
+use Rattle.form_expansion.proofs.FormsFinish.{none_of, broken_first, never_left, with_scope}
+use Rattle.form_expansion.proofs.FormLoop.{none_there, can_meet, uses_wait, uses_continue, uses_stay, still_blank, can_go_on, item_ready, ok_stays, at_stays, ok_finishes, at_finishes, finishes_by, at_notes, at_tells, notes_by, tells_by, Meets, MeetsNoting, Step, StepNoting, Continues}
 use Rattle.form_expansion.proofs.forms.finish.Goals as goal
 use Rattle.form_expansion.proofs.forms.finish.Goals.{else-loop-item-test, then-loop-item-test+then-is_large}
 

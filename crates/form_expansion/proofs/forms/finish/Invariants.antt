@@ -1,7 +1,7 @@
 use Rattle.std.proofs.Common.{◌≡◌, ◌+◌, ◌^◌, []}
 use Rattle.unit_scopes.specs.Units.{HasSpace}
 use Rattle.form_expansion.specs.Forms.{IsUntouched, IsTurned, Stays, declared_as}
-use Rattle.form_expansion.proofs.FormsFinish.{Continues, IsBlankTrace}
+use Rattle.form_expansion.proofs.FormLoop.{Continues, IsBlankTrace}
 use Rattle.form_expansion.proofs.forms.finish.Given as goal
 
 abbrev pub invariant-loop-item : goal.invariant-loop-item

@@ -7,7 +7,7 @@ use Rattle.core_tree.specs.declared.units.UnitForm.{UnitForm}
 use Rattle.form_expansion.proofs.BenchLaws.{grows_then, stays_itself, stays_on}
 use Rattle.read_documents.proofs.Enumerated.{next_placed, all_placed}
 use Rattle.form_expansion.proofs.FormsHold.{held_bench, is_few}
-use Rattle.form_expansion.proofs.FormsFinish.{Ended}
+use Rattle.form_expansion.proofs.FormLoop.{Ended}
 use Rattle.form_expansion.proofs.FormsFinished.{AreFinished, AllFrom, none_finished, can_finish_at, finished_at, all_finished_formed, none_from, next_from, all_from}
 use Rattle.form_expansion.proofs.forms.finish_all.Goals as goal
 use Rattle.form_expansion.proofs.forms.finish_all.Goals.{In-Some, in-None, in-Some+then-is_large}
