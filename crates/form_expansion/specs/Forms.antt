@@ -7,11 +7,12 @@ use Rattle.scheme_model.specs.Ident.{Ident as Identifier}
 use Rattle.scheme_model.specs.Declarations.{UnitForm, home_of}
 use Rattle.scheme_model.specs.Cores.{Parts}
 use Rattle.scheme_model.specs.Steps.{Broken}
-use Rattle.scheme_model.specs.Order.{Left, Note, Pass, Counted}
+use Rattle.scheme_model.specs.Order.{Left, Note, Pass, Counted, Transformer}
 use Rattle.scheme_model.specs.UnitExpansion.{Formed, form_parts, max_total, nodes_in}
 use Rattle.scheme_model.specs.CountedExpansion.{counted}
 use Rattle.scheme_model.specs.Expression.{expand}
 use Rattle.scheme_model.specs.Program.{Prepared, enough_turns}
+use Rattle.scheme_model.specs.FormsAlike.{finish_by}
 use Rattle.scheme_model.specs.Requirements.{Known}
 use Rattle.scheme_model.specs.Substitution.{Defined}
 use Rattle.macro_uses.specs.MacroUses.{total_of}
@@ -29,9 +30,16 @@ use Rattle.core_tree.specs.declared.traces.FormFault.{FormFault}
 use Rattle.core_tree.specs.declared.units.UnitForm as code_form
 use Rattle.feature_requirements.specs.Judged.{Knows, library_text}
 use Rattle.kept_forms.specs.KeptForms.{LeftOrKept}
-use Rattle.forgotten_locals.specs.Outside.{macros_outside, IsOutside, IsOutsideOf, ForgetsLocals, forgotten}
+use Rattle.forgotten_locals.specs.Outside.{macros_outside, outside, IsOutside, IsOutsideOf, ForgetsLocals, forgotten}
 use Rattle.forgotten_locals.specs.Ways.{firsts_by, seconds_by, unit_by}
 use Rattle.note_laws.specs.Searching.{searching, none_kept, forms_anew}
+use Rattle.noted_steps.specs.Noting.{Noting, noting, state_of}
+use Rattle.core_tree.specs.declared.traces.Trace.{Trace}
+use Rattle.form_notes.specs.Noted.{Noted, beginning}
+use Rattle.form_notes.specs.Standing.{HaveNotes}
+use Rattle.form_parts.specs.declared.items.Left as code_left
+use Rattle.unit_scopes.specs.Editions.{EditionsTell}
+use Rattle.unit_scopes.specs.declared.macros.Macros.{Macros}
 use Rattle.root_laws.specs.AtRoot.{AllAtRoot}
 use Rattle.unit_scopes.specs.Forgotten.{AreAtRoot, AllOwn, OwnFirst}
 use Rattle.unit_scopes.specs.Opened.{IsNew}
@@ -47,6 +55,7 @@ pub use Rattle.program_leaves.specs.Formed.{AreFormed}
 use Rattle.form_expansion.specs.Ends.{numbers_of, Rise, IsAmong, Comes}
 use Rattle.form_expansion.specs.declared.forms.Bench.{Bench}
 use Rattle.form_expansion.specs.declared.forms.Declared as code
+use Rattle.form_expansion.specs.declared.forms.SoFar as code_so_far
 
 -- what is left of a form, or why it is broken
 abbrev pub Passing : Type 0
@@ -110,24 +119,27 @@ pub record IsForgotten (old new : Bench) : Type 0 where
 
 -- nothing is met in a form that isn't expanded
 pub record IsUntouched (d : code.Declared) : Type 0 where
-  pub uses : d.budget.uses ≡ 0
-  pub nodes : d.budget.nodes ≡ 0
-  pub locals : d.budget.locals ≡ 0
-  pub definitions : d.trace.definitions ≡ []
-  pub keywords : d.trace.keywords ≡ []
-  pub met : d.trace.uses ≡ []
-  pub waiting : d.uses.items ≡ []
-  pub aside : d.aside ≡ []
-  pub fault : d.fault ≡ None
+  pub uses : d.so_far.budget.uses ≡ 0
+  pub nodes : d.so_far.budget.nodes ≡ 0
+  pub locals : d.so_far.budget.locals ≡ 0
+  pub definitions : d.so_far.trace.definitions ≡ []
+  pub keywords : d.so_far.trace.keywords ≡ []
+  pub met : d.so_far.trace.uses ≡ []
+  pub waiting : d.left.uses.items ≡ []
+  pub aside : d.left.items ≡ []
+  pub fault : d.so_far.fault ≡ None
+
+abbrev pub declared_as : code_so_far.SoFar → code_left.Left → code.Declared
+declared_as c l = record { so_far = c; left = l }
 
 -- the macro uses that forms have counted
 abbrev pub used_by : List code.Declared → ℕ
 used_by [] = 0
-used_by (d ∷ ds) = d.budget.uses + used_by ds
+used_by (d ∷ ds) = d.so_far.budget.uses + used_by ds
 
 -- what is left of a form, or its fault
 abbrev pub IsSetAside : Work → Region → (unit form : ℕ) → code.Declared → Option FormFault → Passing → Type 0
-IsSetAside work region unit form d None (Ok l) = AllMatch (WaitsFor work unit form) d.uses.items l.uses × AllMatch (ItemFor work region unit form) d.aside l.items
+IsSetAside work region unit form d None (Ok l) = AllMatch (WaitsFor work unit form) d.left.uses.items l.uses × AllMatch (ItemFor work region unit form) d.left.items l.items
 IsSetAside work region unit form d None (Err b) = ⊥
 IsSetAside work region unit form d (Some e) (Ok l) = ⊥
 IsSetAside work region unit form d (Some e) (Err b) = IsFault work.symbols e b
@@ -138,10 +150,10 @@ HasSpaceLeft b None = HasSpace (2 ^ 43) b
 HasSpaceLeft b (Some e) = Unit {0}
 
 pub record IsDeclared (work : Work) (region : Region) (unit form : ℕ) (s : ScopedState) (d : code.Declared) (r : Passing) : Type 0 where
-  pub counts : CountsFor work s form d.budget d.trace
-  pub set_aside : IsSetAside work region unit form d d.fault r
+  pub counts : CountsFor work s form d.so_far.budget d.so_far.trace
+  pub set_aside : IsSetAside work region unit form d d.so_far.fault r
   pub tops : OfOk (λ l. ItemsBind false l.items) r
-  pub space : HasSpaceLeft d.budget d.fault
+  pub space : HasSpaceLeft d.so_far.budget d.so_far.fault
 
 -- ---- one form
 
@@ -225,6 +237,25 @@ abbrev pub EndsOutside : Known → (form : ℕ) → Passing → (s : ScopedState
 EndsOutside known form r s before after last result =
     (fs : List ℕ) → HaveCounted known fs form s before → Comes (searched known) fs (forgotten (expanding known fs form r s)) after last (λ given. given ≡ result)
 
+-- a form's uses are met, and what it set aside is expanded, with notes
+abbrev pub left_noting : Known → Left Identifier → Noting → Noting
+left_noting known l s = (finish_by (noting known) enough_turns [] (Ok l) s).1
+
+-- the notes of a part that has ended: macros that aren't local have editions that tell their rules
+pub record NotedInside (work : Work) (macros : Macros) (trace : Trace) (s : Noting) : Type 0 where
+  pub notes : HaveNotes work.symbols s.since trace.notes.notes s.noted
+  pub editions : EditionsTell work.symbols macros (state_of s) s.since.editions
+
+-- the same once what is local was forgotten
+pub record NotedOutside (work : Work) (macros : Macros) (trace : Trace) (s : Noting) : Type 0 where
+  pub notes : HaveNotes work.symbols s.since trace.notes.notes s.noted
+  pub editions : EditionsTell work.symbols macros (outside (state_of s)) s.since.editions
+
+-- editions tell the rules of macros that aren't local, and what a form that isn't broken has noted stands
+pub record MayNote (b : Bench) (form : ℕ) (s : ScopedState) (trace : Trace) (editions : ℕ → Option (Transformer Frames Identifier)) (ms : List Noted) (r : Passing) : Type 0 where
+  pub tells : EditionsTell b.work.symbols b.scope.macros s editions
+  pub notes : OfOk (λ l. HaveNotes b.work.symbols (beginning s.unit form (s.uses form) editions) trace.notes.notes ms) r
+
 -- what a form came to, and the state then: the unit's definitions are those that there were, and so are the macros that aren't local
 pub record FinishesTo (old new : Bench) (unit form : ℕ) (s : ScopedState) (c : code_form.UnitForm) : Type 0 where
   pub state : ScopedState
@@ -238,8 +269,14 @@ pub record FinishesTo (old new : Bench) (unit form : ℕ) (s : ScopedState) (c :
   pub result_is : IsResult new.work unit form c result met
   pub definitions : AllMatch (IsNumbered new.work.symbols form) (reverse c.trace.definitions) (numbered_in unit form state.table)
 
+-- a form has counted so much
+pub record HasSpent (s : ScopedState) (form : ℕ) (b : Budget) : Type 0 where
+  pub uses : b.uses ≡ s.uses form
+  pub nodes : b.nodes ≡ s.nodes form
+  pub locals : b.locals ≡ s.locals form
+
 -- all that a form set aside is expanded, or as much as it takes to count too many nodes; each macro use that it begins is a step
-pub record FinishesForm (old new : Bench) (known : Known) (unit form : ℕ) (r : Passing) (s : ScopedState) (before after : ℕ) (from to : ℕ) (c : code_form.UnitForm) : Type 0 where
+pub record FinishesForm (old new : Bench) (known : Known) (unit form : ℕ) (r : Passing) (s : ScopedState) (before after : ℕ) (from to : ℕ) (b : Budget) (c : code_form.UnitForm) : Type 0 where
   pub finishes : FinishesTo old new unit form s c
   pub layout : List Frames
   pub notes : List (Note FramedIdent)
@@ -248,9 +285,10 @@ pub record FinishesForm (old new : Bench) (known : Known) (unit form : ℕ) (r :
   pub goes : GoesTo known form r s before after finishes.state finishes.result
   pub counted : finishes.met ≡ (searched known).counted finishes.state
   pub steps : to + s.uses form ≡ from + finishes.state.uses form
+  pub spent : HasSpent finishes.state form b
 
 -- and what is local to it is forgotten
-pub record EndsForm (old new : Bench) (known : Known) (unit form : ℕ) (r : Passing) (s : ScopedState) (before after : ℕ) (from to : ℕ) (c : code_form.UnitForm) : Type 0 where
+pub record EndsForm (old new : Bench) (known : Known) (unit form : ℕ) (r : Passing) (s : ScopedState) (before after : ℕ) (from to : ℕ) (b : Budget) (c : code_form.UnitForm) : Type 0 where
   pub finishes : FinishesTo old new unit form s c
   pub layout : List Frames
   pub notes : List (Note FramedIdent)
@@ -258,6 +296,7 @@ pub record EndsForm (old new : Bench) (known : Known) (unit form : ℕ) (r : Pas
   pub goes : EndsOutside known form r s before after finishes.state finishes.result
   pub counted : finishes.met ≡ (searched known).counted finishes.state
   pub steps : to + s.uses form ≡ from + finishes.state.uses form
+  pub spent : HasSpent finishes.state form b
 
 -- ---- all forms
 

@@ -1,6 +1,6 @@
 //! The forms of a unit (R7RS 5.1): all are gone through in order, and then what they set aside is expanded in order. What is local to a
 //! form is forgotten behind each of its turns.
-ghost use Rattle.std.specs.Prelude.{◌≡◌, ℕ, ◌+◌, ◌^◌, ◌≤◌, List, [], length, vec_len, nat_lt, true, false, None, OnOk, IfOk, IfSome};
+ghost use Rattle.std.specs.Prelude.{◌≡◌, ℕ, ◌+◌, ◌^◌, ◌≤◌, List, [], length, vec_len, nat_lt, true, false, None, Ok, OnOk, IfOk, IfSome};
 ghost use Rattle.scheme_model.specs.Ident.{Ident as Identifier, Written};
 ghost use Rattle.scheme_model.specs.Trees.{Tree as ModelTree};
 ghost use Rattle.scheme_model.specs.UnitExpansion.{max_total};
@@ -10,7 +10,7 @@ ghost use Rattle.macro_uses.specs.ScopedUses.{form_numbers};
 ghost use Rattle.scheme_model.specs.Program.{Prepared, forms_at_work};
 ghost use Rattle.scheme_model.specs.ScopedProgram.{forms_over};
 ghost use Rattle.kept_forms.specs.KeptForms.{LeftOrKept};
-ghost use Rattle.scheme_model.specs.Order.{Note, Item as ModelItem};
+ghost use Rattle.scheme_model.specs.Order.{Note, Item as ModelItem, Left as ModelLeft};
 ghost use Rattle.scheme_model.specs.ScopedExpansion.{Frames, FramedIdent, ScopedState};
 ghost use Rattle.syntax_tree.specs.Names.{KeepsNames};
 ghost use Rattle.syntax_tree.specs.Works.{IsOpened, StandsFor, KeepsTrees, SameRegions, AddsIn};
@@ -19,20 +19,21 @@ ghost use Rattle.datum_reader.specs.Views.{datum_of};
 ghost use Rattle.unit_sources.specs.UnitsRead.{form_of, forms_of};
 ghost use Rattle.core_tree.specs.Units.{IsBlank};
 ghost use Rattle.feature_requirements.specs.Judged.{Knows};
-ghost use Rattle.unit_scopes.specs.Stepped.{IsFresh};
+ghost use Rattle.unit_scopes.specs.Stepped.{IsFresh, turned};
+ghost use Rattle.form_notes.specs.Noted.{Noted};
+ghost use Rattle.expander.specs.UnitNotes.{CanNote, Editions, HasNoted, OnEnded, expand_noting, part_begun, set_noting};
 ghost use Rattle.unit_scopes.specs.Outcomes.{Grows, IsAtWork};
 ghost use Rattle.unit_scopes.specs.Searched.{searched_unit_over};
 ghost use Rattle.unit_scopes.specs.Units.{UnitStands, CountsFor, HasSpace, ItemFor, CanDeclare, Expands, declared, expanded};
-ghost use Rattle.form_expansion.specs.Forms.{IsBench, IsBegun, StandsOutside, MayForget, IsUntouched, IsDeclared, used_by, Passing, PassesTo, PassesForm, FinishesForm, EndsForm, CanPass, CanFinish, CanFinishAll, FormsHeld, Passes, Finishes, AreFormed, Unfolds, Stays, IsTurned, IsForgotten};
+ghost use Rattle.form_expansion.specs.Forms.{IsBench, IsBegun, StandsOutside, MayForget, MayNote, IsUntouched, IsDeclared, used_by, Passing, PassesTo, PassesForm, FinishesForm, EndsForm, CanPass, CanFinish, CanFinishAll, FormsHeld, Passes, Finishes, AreFormed, Unfolds, Stays, IsTurned, IsForgotten, NotedInside, NotedOutside, declared_as, left_noting, taken};
+ghost use Rattle.unit_scopes.specs.Editions.{EditionsTell};
 ghost use Rattle.unit_scopes.specs.Forgotten.{OwnFirst};
 ghost use Rattle.read_documents.specs.WereRead.{WereRead};
 
 use core_tree::traces::{FormFault, Trace, blank_trace};
 use core_tree::units::{ExpandedItem, UnitForm};
 use datum_reader::seed_as;
-use expander::{
-    Budget, ExpandFault, Item, Left, UnitScope, WaitingUse, declare_form, expand_item, meet_uses,
-};
+use expander::{Budget, ExpandFault, Item, Left, UnitScope, declare_form, expand_item, meet_uses};
 use ls_base::limits::MAX_UNIT_NODES;
 use ls_base::{Items, Mem, Memory, Steps};
 use read_documents::form_numbers::number_of;
@@ -49,15 +50,20 @@ pub struct Bench {
     pub scope: UnitScope,
 }
 
-/// A form that was gone through: what it has counted and met, its macro uses that wait for what their literals mean, what it set
-/// aside, and its fault.
+/// What a form has counted and met so far, and its fault.
 #[derive(Drop)]
-struct Declared {
-    budget: Budget,
-    trace: Trace,
-    uses: Vec<WaitingUse>,
-    aside: Items<Item>,
-    fault: Option<FormFault>,
+pub struct SoFar {
+    pub budget: Budget,
+    pub trace: Trace,
+    pub fault: Option<FormFault>,
+}
+
+/// A form that was gone through: what it has counted and met, with its fault, and what is left of it, which is nothing where it is broken: its macro
+/// uses that wait for what their literals mean, and what it set aside.
+#[derive(Drop)]
+pub struct Declared {
+    pub so_far: SoFar,
+    pub left: Left,
 }
 
 /// What the forms of the open unit expand to. `None` where they count too many nodes together, at which work on the unit ends.
@@ -98,7 +104,7 @@ pub fn expand_forms<L: Ledger>(
 }
 
 /// Whether forms count too many nodes together.
-fn is_large(total: usize) -> bool
+pub fn is_large(total: usize) -> bool
     ensures { result ≡ nat_lt max_total total }
 {
     total > MAX_UNIT_NODES
@@ -132,7 +138,7 @@ fn declare_all<L: Ledger>(
         }
         let number = number_of(place)?;
         let declared = declare(alloc, bench, unit, number, form, steps)?;
-        *total += declared.budget.nodes as usize;
+        *total += declared.so_far.budget.nodes as usize;
         all.push(declared)?;
     }
     Ok(all)
@@ -155,24 +161,46 @@ fn declare<L: Ledger>(
     ensures passes { (known : Known) (ls : List Frames) (s : ScopedState) (notes : List (Note FramedIdent)) → form.now.declared ≡ false → Knows bench.old.scope.libraries known →
         StandsOutside bench.old ls s notes → s.unit ≡ unit → IsFresh s number →
         IfOk result (PassesForm bench.old bench.new known unit number (form_of form.now) notes s) }
-    ensures few { IfOk result (λ form. form.budget.nodes ≤ 200000) }
-    ensures steps { IfOk result (λ form. steps.new ≡ steps.old + form.budget.uses) }
+    ensures few { IfOk result (λ form. form.so_far.budget.nodes ≤ 200000) }
+    ensures steps { IfOk result (λ form. steps.new ≡ steps.old + form.so_far.budget.uses) }
     ensures stays { OnOk result (Stays bench.old bench.new) }
     // What stood before still stands, also where memory ran out.
     ensures grows { Grows bench.old.work bench.new.work bench.old.region }
 {
-    let blank = blank(alloc);
     if form.declared {
-        return Ok(blank);
+        return Ok(blank(alloc));
     }
+    let tree = seeded(alloc, bench, unit, number, form)?;
+    let declared = declare_tree(bench, tree, number, blank(alloc), steps)?;
+    bench.scope.forget_locals();
+    Ok(declared)
+}
+
+/// The tree of a form, in the region of the bench.
+pub fn seeded(
+    alloc: Global,
+    bench: &mut Bench,
+    unit: u32,
+    number: u32,
+    form: &SourceForm,
+) -> Mem<Tree>
+    requires region { IsOpened bench.old.work bench.old.region }
+    requires read { WasRead (datum_of form.now.datum) }
+    ensures tree { IfOk result (λ tree. StandsFor bench.new.work tree (taken unit number (form_of form.now))) }
+    ensures lies { IfOk result (IsAtWork bench.new.work bench.new.region) }
+    // What the bench stands for stays, and so do what forms counted and the scopes.
+    ensures stands { (ls : List Frames) (s : ScopedState) (notes : List (Note FramedIdent)) → StandsOutside bench.old ls s notes → OnOk result (StandsOutside bench.new ls s notes) }
+    ensures scope { bench.new.scope ≡ bench.old.scope }
+    ensures stays { OnOk result (Stays bench.old bench.new) }
+    // What stood before still stands, also where memory ran out.
+    ensures grows { Grows bench.old.work bench.new.work bench.old.region }
+{
     let Bench { work, region, .. } = bench;
     let home = form.home_in(unit, number);
     match seed_as(alloc, work, region, &form.datum, home, unit) {
         Ok(tree) => {
             work.symbols.told_apart();
-            let declared = declare_tree(bench, tree, number, blank, steps)?;
-            bench.scope.forget_locals();
-            Ok(declared)
+            Ok(tree)
         }
         Err(PoolFault::Full) => Err(Memory),
         Err(PoolFault::Memory) => Err(Memory),
@@ -180,24 +208,28 @@ fn declare<L: Ledger>(
 }
 
 /// A form that has met nothing.
-fn blank(alloc: Global) -> Declared
+pub fn blank(alloc: Global) -> Declared
     ensures { IsUntouched result }
 {
     Declared {
-        budget: Budget {
-            uses: 0,
-            nodes: 0,
-            locals: 0,
+        so_far: SoFar {
+            budget: Budget {
+                uses: 0,
+                nodes: 0,
+                locals: 0,
+            },
+            trace: blank_trace(alloc),
+            fault: None,
         },
-        trace: blank_trace(alloc),
-        uses: Vec::new(alloc),
-        aside: Items::new(alloc),
-        fault: None,
+        left: Left {
+            uses: Vec::new(alloc),
+            items: Items::new(alloc),
+        },
     }
 }
 
-/// Goes through the tree of a form.
-fn declare_tree<L: Ledger>(
+/// Goes through the tree of a form. What it asks is noted.
+pub fn declare_tree<L: Ledger>(
     bench: &mut Bench,
     tree: Tree,
     number: u32,
@@ -206,12 +238,15 @@ fn declare_tree<L: Ledger>(
 ) -> Mem<Declared>
     requires region { IsOpened bench.old.work bench.old.region }
     requires form { IsAtWork bench.old.work bench.old.region tree }
-    requires stands { CanDeclare bench.old.work bench.old.scope number blank.budget blank.trace }
+    requires stands { CanDeclare bench.old.work bench.old.scope number blank.so_far.budget blank.so_far.trace }
     requires blank { IsUntouched blank }
     ensures passes { (known : Known) (ls : List Frames) (s : ScopedState) (notes : List (Note FramedIdent)) (t : ModelTree Identifier) → Knows bench.old.scope.libraries known →
-        UnitStands bench.old.work bench.old.scope ls s notes → CountsFor bench.old.work s number blank.budget blank.trace → StandsFor bench.old.work tree t →
+        UnitStands bench.old.work bench.old.scope ls s notes → CountsFor bench.old.work s number blank.so_far.budget blank.so_far.trace → StandsFor bench.old.work tree t →
         IfOk result (PassesTo bench.old bench.new s.unit number s (declared known number t notes s)) }
-    ensures steps { IfOk result (λ form. steps.new ≡ steps.old + form.budget.uses) }
+    ensures noted { (known : Known) (ls : List Frames) (s : ScopedState) (notes : List (Note FramedIdent)) (t : ModelTree Identifier) (editions : Editions) (ms : List Noted) → Knows bench.old.scope.libraries known →
+        UnitStands bench.old.work bench.old.scope ls s notes → CountsFor bench.old.work s number blank.so_far.budget blank.so_far.trace → StandsFor bench.old.work tree t → CanNote bench.old.work bench.old.scope blank.so_far.trace (s.uses number) editions ms (turned number s) →
+        IfOk result (λ form. HasNoted bench.new.work bench.new.scope.macros form.so_far.trace (set_noting known t notes (part_begun (s.uses number) notes editions ms (turned number s))).1) }
+    ensures steps { IfOk result (λ form. steps.new ≡ steps.old + form.so_far.budget.uses) }
     ensures stays { OnOk result (Stays bench.old bench.new) }
     // What stood before still stands, also where memory ran out.
     ensures grows { Grows bench.old.work bench.new.work bench.old.region }
@@ -228,18 +263,16 @@ fn declare_tree<L: Ledger>(
         region,
         tree,
         number,
-        &mut form.budget,
-        &mut form.trace,
+        &mut form.so_far.budget,
+        &mut form.so_far.trace,
         steps,
     ) {
         Ok(left) => {
-            let Left { uses, items } = left;
-            form.uses = uses;
-            form.aside = items;
+            form.left = left;
             Ok(form)
         }
         Err(fault) => {
-            form.fault = Some(form_fault(fault)?);
+            form.so_far.fault = Some(form_fault(fault)?);
             Ok(form)
         }
     }
@@ -283,74 +316,99 @@ fn finish_all<L: Ledger>(
             break;
         }
         let number = number_of(place)?;
-        forms.push(finish_form(alloc, bench, unit, number, form, total, steps)?)?;
+        let Declared { so_far, left } = form;
+        let (form, _) = finish_form(alloc, bench, unit, number, &left, so_far, total, steps)?;
+        forms.push(form)?;
     }
     Ok(forms)
 }
 
-/// Finishes a form, and forgets what is local to it.
-fn finish_form<L: Ledger>(
+/// Finishes a form, and forgets what is local to it. What it asks is noted. Beside it is told what it has counted by then.
+pub fn finish_form<L: Ledger>(
     alloc: Global,
     bench: &mut Bench,
     unit: u32,
     number: u32,
-    form: Declared,
+    left: &Left,
+    so_far: SoFar,
     total: &mut usize,
     steps: &mut Steps<L>,
-) -> Mem<UnitForm>
+) -> Mem<(UnitForm, Budget)>
     requires region { IsOpened bench.old.work bench.old.region }
-    requires stands { CanFinish bench.old unit number form }
+    requires stands { CanFinish bench.old unit number (declared_as so_far left.now) }
     requires few { total.old ≤ max_total }
-    ensures blank { IsUntouched form → IfOk result IsBlank }
-    ensures same { IsUntouched form → OnOk result (IsForgotten bench.old bench.new × (total.new ≡ total.old) × (steps.new ≡ steps.old)) }
+    ensures blank { IsUntouched (declared_as so_far left.now) → IfOk result (λ ended. IsBlank ended.0) }
+    ensures same { IsUntouched (declared_as so_far left.now) → OnOk result (IsForgotten bench.old bench.new × (total.new ≡ total.old) × (steps.new ≡ steps.old)) }
     ensures ends { (known : Known) (ls : List Frames) (s : ScopedState) (notes : List (Note FramedIdent)) (r : Passing) → Knows bench.old.scope.libraries known →
-        StandsOutside bench.old ls s notes → s.unit ≡ unit → IsDeclared bench.old.work bench.old.region unit number s form r →
-        IfOk result (EndsForm bench.old bench.new known unit number r s total.old total.new steps.old steps.new) }
+        StandsOutside bench.old ls s notes → s.unit ≡ unit → IsDeclared bench.old.work bench.old.region unit number s (declared_as so_far left.now) r →
+        IfOk result (λ ended. EndsForm bench.old bench.new known unit number r s total.old total.new steps.old steps.new ended.1 ended.0) }
+    ensures noted { (known : Known) (ls : List Frames) (s : ScopedState) (notes : List (Note FramedIdent)) (l : ModelLeft Identifier) (editions : Editions) (ms : List Noted) → Knows bench.old.scope.libraries known →
+        StandsOutside bench.old ls s notes → s.unit ≡ unit → IsDeclared bench.old.work bench.old.region unit number s (declared_as so_far left.now) (Ok l) →
+        CanNote bench.old.work bench.old.scope so_far.trace (s.uses number) editions ms (turned number s) →
+        IfOk result (λ ended. nat_lt max_total total.new ≡ false → NotedOutside bench.new.work bench.new.scope.macros ended.0.trace (left_noting known l (part_begun (s.uses number) notes editions ms (turned number s)))) }
+    // Editions that told the rules of macros still do, whatever the form comes to.
+    ensures editions { (ls : List Frames) (s : ScopedState) (notes : List (Note FramedIdent)) (r : Passing) (editions : Editions) (ms : List Noted) → StandsOutside bench.old ls s notes → s.unit ≡ unit →
+        IsDeclared bench.old.work bench.old.region unit number s (declared_as so_far left.now) r → MayNote bench.old number s so_far.trace editions ms r →
+        IfOk result (λ ended. EditionsTell bench.new.work.symbols bench.new.scope.macros s editions) }
     ensures stays { OnOk result (Stays bench.old bench.new) }
     // What stood before still stands, also where memory ran out.
     ensures grows { Grows bench.old.work bench.new.work bench.old.region }
 {
-    let finished = finish(alloc, bench, unit, number, form, total, steps)?;
+    let finished = finish(alloc, bench, unit, number, left, so_far, total, steps)?;
     bench.scope.forget_locals();
     Ok(finished)
 }
 
-/// Meets the uses of a form, and expands what it set aside. A broken form has nothing but its fault and what it defined.
+/// Meets the uses of a form, and expands what it set aside. A broken form comes to nothing but its fault and what it defined.
 fn finish<L: Ledger>(
     alloc: Global,
     bench: &mut Bench,
     unit: u32,
     number: u32,
-    form: Declared,
+    left: &Left,
+    so_far: SoFar,
     total: &mut usize,
     steps: &mut Steps<L>,
-) -> Mem<UnitForm>
+) -> Mem<(UnitForm, Budget)>
     requires region { IsOpened bench.old.work bench.old.region }
-    requires stands { CanFinish bench.old unit number form }
+    requires stands { CanFinish bench.old unit number (declared_as so_far left.now) }
     requires few { total.old ≤ max_total }
-    ensures blank { IsUntouched form → IfOk result IsBlank }
-    ensures same { IsUntouched form → OnOk result (IsTurned bench.old bench.new × (total.new ≡ total.old) × (steps.new ≡ steps.old)) }
+    ensures blank { IsUntouched (declared_as so_far left.now) → IfOk result (λ ended. IsBlank ended.0) }
+    ensures same { IsUntouched (declared_as so_far left.now) → OnOk result (IsTurned bench.old bench.new × (total.new ≡ total.old) × (steps.new ≡ steps.old)) }
     ensures finishes { (known : Known) (ls : List Frames) (s : ScopedState) (notes : List (Note FramedIdent)) (r : Passing) → Knows bench.old.scope.libraries known →
-        StandsOutside bench.old ls s notes → s.unit ≡ unit → IsDeclared bench.old.work bench.old.region unit number s form r →
-        IfOk result (FinishesForm bench.old bench.new known unit number r s total.old total.new steps.old steps.new) }
+        StandsOutside bench.old ls s notes → s.unit ≡ unit → IsDeclared bench.old.work bench.old.region unit number s (declared_as so_far left.now) r →
+        IfOk result (λ ended. FinishesForm bench.old bench.new known unit number r s total.old total.new steps.old steps.new ended.1 ended.0) }
+    ensures noted { (known : Known) (ls : List Frames) (s : ScopedState) (notes : List (Note FramedIdent)) (l : ModelLeft Identifier) (editions : Editions) (ms : List Noted) → Knows bench.old.scope.libraries known →
+        StandsOutside bench.old ls s notes → s.unit ≡ unit → IsDeclared bench.old.work bench.old.region unit number s (declared_as so_far left.now) (Ok l) →
+        CanNote bench.old.work bench.old.scope so_far.trace (s.uses number) editions ms (turned number s) →
+        IfOk result (λ ended. nat_lt max_total total.new ≡ false → NotedInside bench.new.work bench.new.scope.macros ended.0.trace (left_noting known l (part_begun (s.uses number) notes editions ms (turned number s)))) }
+    // Editions that told the rules of macros still do, whatever the form comes to.
+    ensures editions { (ls : List Frames) (s : ScopedState) (notes : List (Note FramedIdent)) (r : Passing) (editions : Editions) (ms : List Noted) → StandsOutside bench.old ls s notes → s.unit ≡ unit →
+        IsDeclared bench.old.work bench.old.region unit number s (declared_as so_far left.now) r → MayNote bench.old number s so_far.trace editions ms r →
+        IfOk result (λ ended. EditionsTell bench.new.work.symbols bench.new.scope.macros s editions) }
     ensures stays { OnOk result (Stays bench.old bench.new) }
     // What stood before still stands, also where memory ran out.
     ensures grows { Grows bench.old.work bench.new.work bench.old.region }
 {
-    let Declared {
+    let SoFar {
         mut budget,
         mut trace,
-        uses,
-        aside,
         fault,
-    } = form;
+    } = so_far;
     if fault.is_some() {
-        return Ok(broken(alloc, trace, fault));
+        return Ok((broken(alloc, trace, fault), budget));
     }
     let Bench { work, scope, .. } = bench;
-    meet_uses(scope, work, uses.as_slice(), number, budget, &mut trace)?;
+    meet_uses(
+        scope,
+        work,
+        left.uses.as_slice(),
+        number,
+        budget,
+        &mut trace,
+    )?;
     let mut items = Items::new(alloc);
-    for item in aside.as_slice() {
+    for item in left.items.as_slice() {
         if is_large(*total) {
             break;
         }
@@ -362,17 +420,18 @@ fn finish<L: Ledger>(
             }
             Err(ExpandFault::At(fault)) => {
                 *total += (budget.nodes - before) as usize;
-                return Ok(broken(alloc, trace, Some(fault)));
+                return Ok((broken(alloc, trace, Some(fault)), budget));
             }
             Err(ExpandFault::Full) => return Err(Memory),
             Err(ExpandFault::Memory) => return Err(Memory),
         }
     }
-    Ok(UnitForm {
+    let form = UnitForm {
         items,
         trace,
         fault: None,
-    })
+    };
+    Ok((form, budget))
 }
 
 /// A form that is broken, or isn't expanded.
@@ -381,6 +440,7 @@ fn broken(alloc: Global, trace: Trace, fault: Option<FormFault>) -> UnitForm
     ensures definitions { result.trace.definitions ≡ trace.definitions }
     ensures keywords { result.trace.keywords ≡ [] }
     ensures uses { result.trace.uses ≡ [] }
+    ensures notes { result.trace.notes ≡ trace.notes }
     ensures fault { result.fault ≡ fault }
 {
     let Trace {
@@ -416,6 +476,10 @@ fn expand<L: Ledger>(
     ensures expanded { (known : Known) (ls : List Frames) (s : ScopedState) (notes : List (Note FramedIdent)) (i : ModelItem Identifier) → Knows bench.old.scope.libraries known →
         UnitStands bench.old.work bench.old.scope ls s notes → CountsFor bench.old.work s number budget.old trace.old → ItemFor bench.old.work bench.old.region bench.old.scope.unit number item.now i →
         Expands bench.old.work bench.new.work bench.old.region bench.old.scope bench.new.scope budget.old budget.new ls number trace.new notes result (expanded known number i s) }
+    ensures noted { (known : Known) (ls : List Frames) (s : ScopedState) (notes : List (Note FramedIdent)) (i : ModelItem Identifier) (editions : Editions) (ms : List Noted) → Knows bench.old.scope.libraries known →
+        UnitStands bench.old.work bench.old.scope ls s notes → CountsFor bench.old.work s number budget.old trace.old → ItemFor bench.old.work bench.old.region bench.old.scope.unit number item.now i →
+        CanNote bench.old.work bench.old.scope trace.old trace.old.notes.begun editions ms (turned number s) →
+        OnEnded result (HasNoted bench.new.work bench.new.scope.macros trace.new (expand_noting known i (part_begun trace.old.notes.begun notes editions ms (turned number s))).1) }
     ensures space { OnOk result (HasSpace (2 ^ 43) budget.new) }
     ensures steps { steps.new + budget.old.uses ≡ steps.old + budget.new.uses }
     ensures keeps { KeepsTrees bench.old.work bench.new.work }

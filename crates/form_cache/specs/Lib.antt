@@ -1,0 +1,2 @@
+pub mod Entries  -- What is kept of a form stands for what came of it in some surroundings (R7RS 5.1, 5.3)
+pub mod Cached  -- What is kept, by unit and form
