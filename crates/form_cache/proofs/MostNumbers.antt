@@ -218,8 +218,8 @@ module _ (w : Around) (most : ℕ) where
       let law = run_runs here here (same.Fits w) sides [] [] tt turns (one_form t []) (one_form t []) (no_questions w) refl (record { todo = refl; aside = tt; uses = refl; notes = refl }) in
       law.back last
 
-pub set_aside_most : (w : Around) (turns : ℕ) (t : Tree Ident) → LeftBinds (AtMost (count_at w (set_aside_asking w turns t).1.moment)) (set_aside_asking w turns t).0.left
-set_aside_most w turns t = let n = count_at w (set_aside_asking w turns t).1.moment in most_by w n turns t (first_by w n turns t (omega arith)) (omega arith)
+pub set_aside_within : (w : Around) (turns : ℕ) (t : Tree Ident) (most : ℕ) → count_at w (set_aside_asking w turns t).1.moment ≤ most → LeftBinds (AtMost most) (set_aside_asking w turns t).0.left
+set_aside_within w turns t most h = most_by w most turns t (first_by w most turns t h) h
 
 pub count_within : (ds es : Table) (unit : ℕ) → definition_count (ds ++ es) unit ≤ definition_count es unit + length ds
 count_within [] es unit = omega arith
