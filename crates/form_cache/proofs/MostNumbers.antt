@@ -8,11 +8,11 @@ use Rattle.scheme_model.specs.ExpansionFaults.{Named, Fault, KeywordRedefined, D
 use Rattle.scheme_model.specs.RulesShape.{Rules}
 use Rattle.scheme_model.specs.Cores.{Bound, LocalNumber, Definition, Binder}
 use Rattle.scheme_model.specs.Steps.{Broken}
-use Rattle.scheme_model.specs.Order.{Item, Expression, Value, Function, Assigned, AssignedFunction, ValuesOf, Record, Macro, Note, Left, Pending, Renamed, Ops}
+use Rattle.scheme_model.specs.Order.{Item, Expression, Value, Function, Assigned, AssignedFunction, ValuesOf, Record, Macro, Left, Pending, Renamed, Ops}
 use Rattle.scheme_model.specs.Expression.{meaning_of}
 use Rattle.scheme_model.specs.UnitExpansion.{one_form}
 use Rattle.scheme_model.specs.Substitution.{Table, unchanged, definition_count}
-use Rattle.scheme_model.specs.ScopedExpansion.{Bind, Enter, Frames, FramedIdent, body_around}
+use Rattle.scheme_model.specs.ScopedExpansion.{Bind, Frames, FramedIdent, body_around}
 use Rattle.scheme_model.specs.Questions.{Moment, Around, number_in, Outcome, Stands, Redefines, StoodBefore, outcome, Asking, bound_at, ended, asking}
 use Rattle.scheme_model.specs.FormsAlike.{set_aside_asking, no_questions}
 use Rattle.form_laws.specs.Begins.{Each}

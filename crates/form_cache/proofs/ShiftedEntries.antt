@@ -1,11 +1,11 @@
 -- What is kept of a form stands for what it stood for, with another number of definitions of its unit before the form.
-use Rattle.std.proofs.Common.{◌≡◌, ℕ, suc, Vec, ◌+◌, ◌-◌, ◌^◌, ◌<◌, ◌≤◌, List, [], ◌∷◌, ◌++◌, map, reverse, length, false, Option, Some, None, Result, Ok, Err, refl, sym, ap, ◌∙◌, subst, arith}
+use Rattle.std.proofs.Common.{◌≡◌, ℕ, suc, Vec, ◌+◌, ◌-◌, ◌^◌, ◌<◌, ◌≤◌, List, [], ◌∷◌, ◌++◌, map, reverse, length, Option, Some, None, Result, Ok, Err, refl, sym, ap, ◌∙◌, subst, arith}
 use Rattle.std.specs.declared.alloc.Global.{Global}
 use Rattle.std.proofs.lemmas.List.{length-reverse, reverse-append, map-append}
 use Rattle.scheme_model.specs.Ident.{Ident}
 use Rattle.scheme_model.specs.Trees.{Tree}
 use Rattle.scheme_model.specs.RulesShape.{option_map}
-use Rattle.scheme_model.specs.Cores.{Bound, LocalNumber, Definition, Binder, Core, MacroDef, Part, Parts, no_parts, part, Expression as expression_part, Define as define_part, Values as values_part, Fields as fields_part, Syntax as syntax_part}
+use Rattle.scheme_model.specs.Cores.{Bound, LocalNumber, Definition, Binder, Core, Part, Parts, no_parts, part, Expression as expression_part, Define as define_part, Values as values_part, Fields as fields_part, Syntax as syntax_part}
 use Rattle.scheme_model.specs.Steps.{Broken, Step, ◌>>=◌, done}
 use Rattle.scheme_model.specs.Order.{Item, Expression, Value, Function, Assigned, AssignedFunction, ValuesOf, Record, Macro, Left, Counted, Transformer}
 use Rattle.scheme_model.specs.Expression.{meaning_of, macro_with, expand, item_part}
@@ -13,12 +13,12 @@ use Rattle.scheme_model.specs.UnitExpansion.{max_depth, with_part}
 use Rattle.scheme_model.specs.Program.{enough_turns}
 use Rattle.scheme_model.specs.Questions.{Around, Moment, Question, Asking, SameAnswer, asking}
 use Rattle.scheme_model.specs.ScopedExpansion.{Frames}
-use Rattle.scheme_model.specs.Substitution.{Defined, Table, definition_count}
-use Rattle.scheme_model.specs.FormsAlike.{bound_moved, binder_with, item_with, left_with, part_with, parts_with, or_fault, set_aside_asking, finish_asking, questions_of_left, no_questions}
+use Rattle.scheme_model.specs.Substitution.{Table, definition_count}
+use Rattle.scheme_model.specs.FormsAlike.{bound_moved, binder_with, item_with, left_with, part_with, parts_with, or_fault, questions_of_left}
 use Rattle.form_laws.specs.Begins.{Each, LeftBegins}
 use Rattle.form_laws.proofs.FormLaws.{set_itself}
 use Rattle.form_laws.proofs.AskingAlike.{left_alike}
-use Rattle.kept_forms.specs.KeptForms.{KeptAside, KeptItem, KeptParts, KeptForm, item_moved, kept_moved}
+use Rattle.kept_forms.specs.KeptForms.{KeptAside, KeptItem, KeptParts, KeptForm, item_moved}
 use Rattle.kept_forms.specs.Carried.{kept_aside, kept_parts, kept_items, unless_broken, RestFits}
 use Rattle.kept_forms.proofs.OneSide.{BindsAll, LeftBinds}
 use Rattle.kept_forms.proofs.Numbers.{AtLeast, set_numbers, moved_left}
@@ -30,7 +30,7 @@ use Rattle.syntax_tree.specs.Names.{Names}
 use Rattle.syntax_tree.specs.declared.trees.Work.{Work}
 use Rattle.syntax_tree.specs.declared.trees.table.Region.{Region}
 use Rattle.core_tree.specs.Names.{AllMatch, IsTarget, IsUse}
-use Rattle.core_tree.specs.Units.{IsResult, IsExpanded}
+use Rattle.core_tree.specs.Units.{IsResult}
 use Rattle.core_tree.specs.declared.cores.Binder as code_binder
 use Rattle.core_tree.specs.declared.cores.Target.{Target}
 use Rattle.core_tree.specs.declared.traces.MacroUse.{MacroUse}
@@ -40,13 +40,13 @@ use Rattle.form_parts.specs.declared.items.Left as code_left
 use Rattle.form_parts.specs.declared.items.WaitingUse.{WaitingUse}
 use Rattle.unit_scopes.specs.Kept.{WaitsFor}
 use Rattle.unit_scopes.specs.State.{IsNumbered}
-use Rattle.note_laws.specs.Told.{bare_noted, told}
+use Rattle.note_laws.specs.Told.{told}
 use Rattle.question_laws.specs.Noted.{all_noted}
 use Rattle.form_cache.specs.declared.shift.Shift.{Shift}
 use Rattle.form_cache.specs.declared.entries.Entry.{Entry}
 use Rattle.form_cache.specs.Entries.{Editions, IsEntry, IsLeft, AsideFor, RestFor, RestClosed, CountsAt, counted_at, numbered_from}
 use Rattle.form_cache.specs.Shifted.{shifted, binder_shifted, LeftShifts, ExpandedShifts}
-use Rattle.form_cache.proofs.MostNumbers.{AtMost, count_at, count_within, set_aside_within}
+use Rattle.form_cache.proofs.MostNumbers.{AtMost, count_within, set_aside_within}
 use Rattle.form_cache.proofs.Shifts.{Within, PartWithin, PartsWithin, items_stand, items_still, parts_stand, parts_still}
 
 -- ---- numbers

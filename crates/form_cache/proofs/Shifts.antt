@@ -1,11 +1,11 @@
 -- What binds definitions of a unit stands for what it stood for, with other numbers of these.
-use Rattle.std.proofs.Common.{◌≡◌, ℕ, ◌+◌, ◌-◌, ◌^◌, ◌<◌, ◌≤◌, min, List, [], ◌∷◌, map, Bool, false, Option, Some, None, Result, Ok, Err, Vec, refl, sym, ap, ◌∙◌, subst, arith}
+use Rattle.std.proofs.Common.{◌≡◌, ℕ, ◌+◌, ◌-◌, ◌^◌, ◌<◌, ◌≤◌, List, [], ◌∷◌, map, Bool, false, Vec, refl, sym, ap, ◌∙◌, subst, arith}
 use Rattle.std.specs.declared.alloc.Global.{Global}
 use Rattle.scheme_model.specs.Ident.{Ident}
 use Rattle.scheme_model.specs.Cores.{Bound, LocalNumber, Definition, Binder, Part, Parts, no_parts, part, Expression as expression_part, Define as define_part, Values as values_part, Fields as fields_part, Syntax as syntax_part}
-use Rattle.scheme_model.specs.Order.{Item, Expression, Value, Function, Assigned, AssignedFunction, ValuesOf, Record, Macro, Left}
+use Rattle.scheme_model.specs.Order.{Item, Expression, Value, Function, Assigned, AssignedFunction, ValuesOf, Record, Macro}
 use Rattle.scheme_model.specs.Expression.{meaning_of}
-use Rattle.scheme_model.specs.FormsAlike.{bound_moved, binder_with, item_with, left_with, part_with, parts_with}
+use Rattle.scheme_model.specs.FormsAlike.{bound_moved, binder_with, item_with, part_with, parts_with}
 use Rattle.form_laws.specs.Begins.{Each}
 use Rattle.kept_forms.proofs.OneSide.{BindsAll}
 use Rattle.syntax_tree.specs.Names.{Names}
@@ -21,16 +21,14 @@ use Rattle.core_tree.specs.declared.cores.Core.TheOpen.{CorePart-F}
 use Rattle.core_tree.specs.declared.cores.Core.TheViews.{out-CorePart, out-roll-CorePart}
 use Rattle.core_tree.specs.declared.cores.Clause.{Clause}
 use Rattle.core_tree.specs.declared.cores.FieldUse.{FieldUse}
-use Rattle.core_tree.specs.declared.cores.MacroDef.{MacroDef}
 use Rattle.core_tree.specs.declared.cores.CorePart.{CorePart}
 use Rattle.core_tree.specs.declared.cores.CorePart.TheVariants as parts
 use Rattle.core_tree.specs.declared.units.ExpandedItem.{ExpandedItem}
 use Rattle.expansion_laws.specs.Tops.{ItemBinds, ItemsBind}
 use Rattle.unit_scopes.specs.Kept.{KeptFor}
-use Rattle.unit_scopes.specs.Units.{ItemFor, LeftFor}
+use Rattle.unit_scopes.specs.Units.{ItemFor}
 use Rattle.form_parts.specs.declared.items.Item as code_item
 use Rattle.form_parts.specs.declared.items.Kept.{Kept}
-use Rattle.form_parts.specs.declared.items.Left as code_left
 use Rattle.form_cache.specs.declared.shift.Shift.{Shift}
 use Rattle.form_cache.specs.Shifted.{shifted, binder_shifted, BindersShift, KeptShifts, ItemShifts, OpenShifts, PartShifts, ExpandedShifts}
 

@@ -2,7 +2,6 @@
 use Rattle.std.specs.Prelude.{◌≡◌, ℕ, ◌+◌, List, [], ◌∷◌, length, map, reverse, false, Option, Some, None, Result, Ok, Err}
 use Rattle.scheme_model.specs.Ident.{Ident}
 use Rattle.scheme_model.specs.Trees.{Tree}
-use Rattle.scheme_model.specs.Cores.{Part, Parts, no_parts, part}
 use Rattle.scheme_model.specs.Steps.{Broken}
 use Rattle.scheme_model.specs.Order.{Counted, Left, Transformer}
 use Rattle.scheme_model.specs.Program.{enough_turns}
@@ -12,7 +11,7 @@ use Rattle.scheme_model.specs.Substitution.{Table, Defined}
 use Rattle.scheme_model.specs.FormsAlike.{bound_moved, left_with, or_fault, questions_of_pass, questions_of_left}
 use Rattle.question_laws.specs.Noted.{all_noted, IsClosed}
 use Rattle.expansion_laws.specs.Tops.{ItemsBind}
-use Rattle.kept_forms.specs.KeptForms.{KeptAside, KeptForm, KeptItem, KeptParts}
+use Rattle.kept_forms.specs.KeptForms.{KeptAside, KeptForm, KeptParts}
 use Rattle.kept_turns.specs.Turns.{last_of, result_in}
 use Rattle.carried_laws.specs.CarriedEntries.{IsKeptWhole}
 use Rattle.carried_laws.specs.Entries as carried

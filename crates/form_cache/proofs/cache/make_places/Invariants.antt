@@ -1,4 +1,4 @@
-use Rattle.std.proofs.Common.{◌≡◌, ℕ, ◌+◌, ◌≤◌, length, slice_get}
+use Rattle.std.proofs.Common.{◌≡◌, ℕ, ◌≤◌, length, slice_get}
 use Rattle.form_cache.specs.Cached.{entry_if}
 use Rattle.form_cache.proofs.cache.make_places.Given as goal
 

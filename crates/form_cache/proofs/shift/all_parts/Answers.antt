@@ -1,6 +1,6 @@
 use Rattle.std.proofs.Common.{◌<◌, ◌≤◌, length, arith}
 use Rattle.form_cache.specs.Shifted.{ExpandedShifts}
-use Rattle.form_cache.proofs.Fronts.{front_none, front_more, front_all}
+use Rattle.form_cache.proofs.Fronts.{front_more, front_all}
 use Rattle.form_cache.proofs.shift.all_parts.Goals as goal
 
 pub loop-i-preserved : goal.loop-i-preserved

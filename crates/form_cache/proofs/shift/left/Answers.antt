@@ -1,4 +1,4 @@
-use Rattle.std.proofs.Common.{List, Option, Some, refl, sym, ap, ◌∙◌, subst}
+use Rattle.std.proofs.Common.{List, Option, Some, refl, sym, subst}
 use Rattle.core_tree.specs.Names.{AllMatch}
 use Rattle.form_parts.specs.declared.items.Item.{Item}
 use Rattle.form_parts.specs.declared.items.Left.{Left}

@@ -1,4 +1,3 @@
-use Rattle.std.proofs.Common.{refl}
 use Rattle.form_cache.proofs.Shifts.{values_shift, fields_shift}
 use Rattle.form_cache.proofs.shift.part.Goals as goal
 

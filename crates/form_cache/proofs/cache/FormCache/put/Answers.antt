@@ -1,4 +1,4 @@
-use Rattle.std.proofs.Common.{◌≡◌, ◌<◌, length, slice_get, Some, None, refl, arith}
+use Rattle.std.proofs.Common.{◌≡◌, ◌<◌, length, slice_get, Some, arith}
 use Rattle.std.proofs.lemmas.Option.{slice_get_read}
 use Rattle.form_cache.proofs.Places.{entry_set, place_set, place_within, here_in}
 use Rattle.form_cache.proofs.cache.FormCache.put.Goals as goal

@@ -1,4 +1,4 @@
-use Rattle.std.proofs.Common.{◌≡◌, ◌<◌, length, slice_get, Some, None, refl, arith, rules}
+use Rattle.std.proofs.Common.{◌≡◌, ◌<◌, slice_get, Some, None, arith, rules}
 use Rattle.std.proofs.lemmas.Option.{slice_get_read}
 use Rattle.form_cache.proofs.Places.{entry_set, place_set}
 use Rattle.form_cache.proofs.cache.FormCache.take.Goals as goal
