@@ -1,2 +1,3 @@
+pub mod Copied  -- What a macro use tells, wherever it lies in memory
 pub mod Entries  -- What is kept of a form stands for what came of it in some surroundings (R7RS 5.1, 5.3)
 pub mod Cached  -- What is kept, by unit and form
