@@ -2,7 +2,6 @@
 use Rattle.std.specs.Prelude.{◌≡◌, ℕ, ◌+◌, List, [], ◌∷◌, length, map, reverse, false, Option, Some, None, Result, Ok, Err}
 use Rattle.scheme_model.specs.Ident.{Ident}
 use Rattle.scheme_model.specs.Trees.{Tree}
-use Rattle.scheme_model.specs.Cores.{Part, Parts, no_parts, part}
 use Rattle.scheme_model.specs.Steps.{Broken}
 use Rattle.scheme_model.specs.Order.{Counted, Left, Transformer}
 use Rattle.scheme_model.specs.Program.{enough_turns}
@@ -12,7 +11,8 @@ use Rattle.scheme_model.specs.Substitution.{Table, Defined}
 use Rattle.scheme_model.specs.FormsAlike.{bound_moved, left_with, or_fault, questions_of_pass, questions_of_left}
 use Rattle.question_laws.specs.Noted.{all_noted, IsClosed}
 use Rattle.expansion_laws.specs.Tops.{ItemsBind}
-use Rattle.kept_forms.specs.KeptForms.{KeptAside, KeptForm, KeptItem, KeptParts}
+use Rattle.kept_forms.specs.KeptForms.{KeptAside, KeptForm, KeptParts}
+use Rattle.kept_turns.specs.Turns.{last_of, result_in}
 use Rattle.carried_laws.specs.CarriedEntries.{IsKeptWhole}
 use Rattle.carried_laws.specs.Entries as carried
 use Rattle.syntax_tree.specs.Names.{Names}
@@ -74,25 +74,12 @@ pub record AsideFor (work : Work) (region : Region) (e : Editions) (unit form : 
 
 -- ---- its second part
 
--- what items came to, up to the first fault
-abbrev pub joined : Result Part Broken → Result Parts Broken → Result Parts Broken
-joined (Ok p) r = or_fault (part p) r
-joined (Err b) r = Err b
-
-abbrev pub result_in : List KeptItem → Result Parts Broken
-result_in [] = Ok no_parts
-result_in (i ∷ is) = joined i.part (result_in is)
-
-abbrev pub last_moment : Moment → List KeptItem → Moment
-last_moment m [] = m
-last_moment m (i ∷ is) = last_moment i.moment is
-
 -- it was expanded in u; where nothing was set aside there is none
 abbrev pub RestFor : Work → Region → Editions → (unit form : ℕ) → Entry → code_form.UnitForm → Option KeptParts → Around → Type 0
 RestFor work region e unit form x f None u = (f.items ≡ []) × (x.left ≡ None) × (x.counts ≡ x.declared.counts)
 RestFor work region e unit form x f (Some c) u =
-    (ms : List Noted) × (c.before ≡ x.before) × IsLeft work region unit form x.left (Ok c.left) × IsResult work unit form f (result_in c.items) (counted_at (last_moment c.met c.items))
-    × CountsAt x.counts (last_moment c.met c.items) × HaveNotes work.symbols (since_of u e) f.trace.notes.notes ms × (map bare_noted ms ≡ map (told u) (all_noted u (questions_of_left u enough_turns (Ok c.left))))
+    (ms : List Noted) × (c.before ≡ x.before) × IsLeft work region unit form x.left (Ok c.left) × IsResult work unit form f (result_in c.items) (counted_at (last_of c.met c.items))
+    × CountsAt x.counts (last_of c.met c.items) × HaveNotes work.symbols (since_of u e) f.trace.notes.notes ms × (map bare_noted ms ≡ map (told u) (all_noted u (questions_of_left u enough_turns (Ok c.left))))
 
 abbrev pub RestClosed : Around → Option KeptParts → Type 0
 RestClosed u None = Unit {0}

@@ -1,7 +1,7 @@
 //! What is kept of forms, by their units and by their places in these.
-ghost use Rattle.std.specs.Prelude.{◌≡◌, ℕ, ◌<◌, ◌≤◌, ◌&&◌, length, nat_eq, slice_get, Some, None, OnOk, if◌then◌else◌};
+ghost use Rattle.std.specs.Prelude.{◌≡◌, ℕ, ◌<◌, ◌≤◌, ◌&&◌, [], length, nat_eq, slice_get, Some, None, OnOk, if◌then◌else◌};
 ghost use Rattle.std.specs.Option.{option_copied};
-ghost use Rattle.form_cache.specs.Cached.{HasPlace, entry_if, entry_in};
+ghost use Rattle.form_cache.specs.Cached.{HasPlace, entries_at, entries_of, entry_if, entry_in};
 
 use crate::entries::Entry;
 use ls_base::Mem;
@@ -17,7 +17,7 @@ pub struct FormCache {
 impl FormCache {
     /// Nothing is kept. It takes no memory.
     pub fn new(alloc: Global) -> FormCache
-        ensures { (unit form : ℕ) → entry_in result unit form ≡ None }
+        ensures { (unit : ℕ) → entries_of result unit ≡ [] }
     {
         FormCache {
             alloc,
@@ -25,16 +25,23 @@ impl FormCache {
         }
     }
 
+    /// The entries of a unit, by the places of its forms; of a unit that has none, no places. It takes no memory.
+    pub fn entries(&self, unit: usize) -> &[Option<Entry>]
+        ensures { result.now ≡ entries_of self.now unit }
+    {
+        match self.units.get(unit) {
+            None => &[],
+            Some(forms) => forms,
+        }
+    }
+
     /// The entry of a form, where there is one. It takes no memory.
     pub fn peek(&self, unit: usize, form: usize) -> Option<&Entry>
         ensures { option_copied result ≡ entry_in self.now unit form }
     {
-        match self.units.get(unit) {
+        match self.entries(unit).get(form) {
             None => None,
-            Some(forms) => match forms.get(form) {
-                None => None,
-                Some(entry) => entry.as_ref(),
-            },
+            Some(entry) => entry.as_ref(),
         }
     }
 
@@ -59,9 +66,7 @@ impl FormCache {
         ensures others { (u f : ℕ) → HasPlace self.old u f → HasPlace self.new u f }
         ensures entries { (u f : ℕ) → entry_in self.new u f ≡ entry_in self.old u f }
     {
-        while self.units.len() <= unit {
-            self.units.push(Vec::new(self.alloc))?;
-        }
+        widen(self.alloc, &mut self.units, unit)?;
         make_places(&mut self.units[unit], forms)
     }
 
@@ -76,13 +81,24 @@ impl FormCache {
     }
 }
 
-/// Makes places for so many entries.
+// There is a list for the unit of this number from now on, and all lists are as before.
+fn widen(alloc: Global, units: &mut Vec<Vec<Option<Entry>>>, unit: usize) -> Mem<()>
+    ensures within { OnOk result (unit < length units.new.items) }
+    ensures same { (u : ℕ) → entries_at units.new.items u ≡ entries_at units.old.items u }
+{
+    while units.len() <= unit {
+        units.push(Vec::new(alloc))?;
+    }
+    Ok(())
+}
+
+// Makes places for so many entries.
 fn make_places(forms: &mut Vec<Option<Entry>>, count: usize) -> Mem<()>
     ensures places { OnOk result (count ≤ length forms.new.items) }
     ensures others { length forms.old.items ≤ length forms.new.items }
     ensures entries { (f : ℕ) → entry_if (slice_get forms.new.items f) ≡ entry_if (slice_get forms.old.items f) }
 {
-    while forms.len() < count {
+    for _ in forms.len()..count {
         forms.push(None)?;
     }
     Ok(())

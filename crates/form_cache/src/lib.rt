@@ -3,6 +3,8 @@
 
 pub mod cache;
 pub mod entries;
+pub mod shift;
 
 pub use cache::FormCache;
 pub use entries::{Declared, Entry};
+pub use shift::shift_entry;

@@ -138,7 +138,7 @@ fn come_again<L: Ledger>(
     }
     let so_far = SoFar {
         budget: entry.declared.counts,
-        trace: entry.declared.trace(alloc, &form.trace.definitions)?,
+        trace: entry.declared.trace(alloc, form.trace.definitions.as_slice())?,
         fault: None,
     };
     let (form, counts) = finish_form(alloc, bench, unit, number, left, so_far, total, steps)?;

@@ -1,0 +1,6 @@
+use Rattle.form_cache.specs.Shifted.{ExpandedShifts}
+use Rattle.form_cache.proofs.Fronts.{IsFront}
+use Rattle.form_cache.proofs.shift.all_parts.Given as goal
+
+abbrev pub invariant-loop-i : goal.invariant-loop-i
+invariant-loop-i l = IsFront (ExpandedShifts l.shift) l.initial.all.items l.all.items l.i
