@@ -95,9 +95,9 @@ module _ (u v : UnitScope) (x : Made) (h : Defines u v x) (ks : List KeptMacro) 
       elim (cases_lt i n) [
         | inl before ↦ macros_go_on u v x h ks n has i k form before at
         | inr last ↦
-          let same : i ≡ n = omega (arith, lt, last) in
-          let there = subst (λ (j : ℕ). slice_get ks j ≡ Some k) same at in
-          here k form there keyword kept refl (subst (λ (o : Option KeptMacro). IsNextMacro root o true kept) there next)
+            let same : i ≡ n = omega (arith, lt, last) in
+            let there = subst (λ (j : ℕ). slice_get ks j ≡ Some k) same at in
+            here k form there keyword kept refl (subst (λ (o : Option KeptMacro). IsNextMacro root o true kept) there next)
       ]
 
   pub macros_more : (b : Bool) → x.keyword ≡ b → IsNextMacro root (slice_get ks n) b kept → HasMacros v ks (if b then n + 1 else n)
