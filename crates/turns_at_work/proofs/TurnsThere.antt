@@ -38,7 +38,7 @@ use Rattle.turns_at_work.proofs.TurnsAnew.{Worked, WorkedLater, turns_anew}
 outside_told : (w v : Around) → bare_around v ≡ bare_around (around_outside w) → IsAroundOutside w v
 outside_told w v e = record { state = ap (λ (z : Around). z.state) e; known = ap (λ (z : Around). z.known) e; notes = ap (λ (z : Around). z.notes) e }
 
-told_outside : (w v : Around) → IsAroundOutside w v → bare_around v ≡ bare_around (around_outside w)
+pub told_outside : (w v : Around) → IsAroundOutside w v → bare_around v ≡ bare_around (around_outside w)
 told_outside w v h = let a = h.state in let b = h.known in let c = h.notes in λ j. record { state = a j; known = b j; notes = c j }
 
 module _ (w g v : Around) (turns : ℕ) (here : IsAroundOutside g v) (b : Begins w.state) (k : Begins g.state) where
