@@ -67,10 +67,10 @@ module _ (all : List Placed) (ps : List Prepared) (known : Known) (n : ℕ) (h :
   abbrev gs : List WorkedForm
   gs = worked_forms known (forms_over (Written p.number) p.number 0 (forms_at_work p)) t
 
-  abbrev There : Around → FormOrKept → Type 0
+  abbrev pub There : Around → FormOrKept → Type 0
   There v x = (g : WorkedForm) → IsIn g gs → g.form ≡ x.form → IsAroundOutside g.around v
 
-  abbrev ThereLater : Around → LeftOrKept → Type 0
+  abbrev pub ThereLater : Around → LeftOrKept → Type 0
   ThereLater v r = (g : WorkedForm) → IsIn g gs → g.form ≡ r.form → IsAroundOutside g.later v
 
   module _ (o : IsProgressOutside a h) (ready : is_ready all ps a.results p ≡ true) (forms : map form_of xs ≡ forms_over (Written p.number) p.number 0 (forms_at_work p)) (k : AllKept (forgetting enough_turns) enough_turns known xs s) where
