@@ -38,7 +38,7 @@ use Rattle.answers_at_turns.proofs.ProgramsStay.{Same, programs_stay}
 
 -- ---- the form of a number
 
-one_of : {X : Type 0} (P : X → Type 0) (xs : List X) → Each P xs → (x : X) → IsIn x xs → P x
+pub one_of : {X : Type 0} (P : X → Type 0) (xs : List X) → Each P xs → (x : X) → IsIn x xs → P x
 one_of P [] h x i = absurd i
 one_of P (y ∷ ys) h x (inl e) = subst P (sym e) h.0
 one_of P (y ∷ ys) h x (inr i) = one_of P ys h.1 x i
@@ -55,12 +55,12 @@ by_form (z ∷ zs) d x y (inl a) (inr j) e = absurd (not_among z.form zs d.0 y j
 by_form (z ∷ zs) d x y (inr i) (inl b) e = absurd (not_among z.form zs d.0 x i (sym (ap of_form b) ∙ sym e))
 by_form (z ∷ zs) d x y (inr i) (inr j) e = by_form zs d.1 x y i j e
 
-is_mapped : {X Y : Type 0} (f : X → Y) (xs : List X) (x : X) → IsIn x xs → IsIn (f x) (map f xs)
+pub is_mapped : {X Y : Type 0} (f : X → Y) (xs : List X) (x : X) → IsIn x xs → IsIn (f x) (map f xs)
 is_mapped f [] x i = absurd i
 is_mapped f (y ∷ ys) x (inl e) = inl (ap f e)
 is_mapped f (y ∷ ys) x (inr i) = inr (is_mapped f ys x i)
 
-mapped_from : {X Y : Type 0} (f : X → Y) (xs : List X) (y : Y) → IsIn y (map f xs) → (x : X) × IsIn x xs × (y ≡ f x)
+pub mapped_from : {X Y : Type 0} (f : X → Y) (xs : List X) (y : Y) → IsIn y (map f xs) → (x : X) × IsIn x xs × (y ≡ f x)
 mapped_from f [] y i = absurd i
 mapped_from f (x ∷ xs) y (inl e) = (x, inl refl, e)
 mapped_from f (x ∷ xs) y (inr i) = let a = mapped_from f xs y i in (a.0, inr a.1, a.2)
