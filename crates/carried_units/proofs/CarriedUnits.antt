@@ -40,7 +40,7 @@ numbered_at all k [] i p h = absurd h
 numbered_at all k (u ∷ us) zero p h = let e = ap (λ (z : Prepared). z.number) h in omega (arith, e)
 numbered_at all k (u ∷ us) (suc i) p h = let e = numbered_at all (suc k) us i p h in omega (arith, e)
 
-each_in : {X : Type 0} (P : X → Type 0) (xs : List X) → ((x : X) → IsIn x xs → P x) → Each P xs
+pub each_in : {X : Type 0} (P : X → Type 0) (xs : List X) → ((x : X) → IsIn x xs → P x) → Each P xs
 each_in P [] f = tt
 each_in P (x ∷ xs) f = (f x (inl refl), each_in P xs (λ y i. f y (inr i)))
 
@@ -140,7 +140,7 @@ module _ (before after : List OpenDocument) where
       go true q k rest = (w, inl refl, eqb-true w.number u q)
       go false q k rest = let z = rest k in (z.0, inr z.1, z.2)
 
-  abbrev Whole : ℕ → FormOrKept → Type 0
+  abbrev pub Whole : ℕ → FormOrKept → Type 0
   Whole u x = IsIn (u, x.form) (carried before after) → IsKeptWhole x.kept
 
   pub all_whole : (keep : Keeping) → Each (λ (w : WorkedUnit). Each (Whole w.number) (keep w.number)) vs → KeepsAll (carried before after) keep
