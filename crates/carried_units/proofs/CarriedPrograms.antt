@@ -32,13 +32,13 @@ each_both P Q R f (x ∷ xs) h k = (f x h.0 k.0, each_both P Q R f xs h.1 k.1)
 module _ (all : List Placed) (ps : List Prepared) (known : Known) where
   -- ---- a unit that is worked on
 
-  record IsWorked (k : ℕ) (g : ScopedProgress) (w : WorkedUnit) : Type 0 where
-    place : ℕ
-    within : place < k
-    unit : Prepared
-    first : first_ready (is_ready all ps (scoped_work all ps known place g).results) ps ≡ Some unit
-    fault : fault_before all ps unit ≡ None
-    is : w ≡ worked_unit known unit (scoped_start_after all unit (scoped_work all ps known place g))
+  pub record IsWorked (k : ℕ) (g : ScopedProgress) (w : WorkedUnit) : Type 0 where
+    pub place : ℕ
+    pub within : place < k
+    pub unit : Prepared
+    pub first : first_ready (is_ready all ps (scoped_work all ps known place g).results) ps ≡ Some unit
+    pub fault : fault_before all ps unit ≡ None
+    pub is : w ≡ worked_unit known unit (scoped_start_after all unit (scoped_work all ps known place g))
 
   first_worked : (k : ℕ) (g : ScopedProgress) (w : WorkedUnit) (o : Option Prepared) → first_ready (is_ready all ps g.results) ps ≡ o → IsIn w (worked_next all ps known o g) → IsWorked (suc k) g w
   first_worked k g w None e i = absurd i
@@ -49,7 +49,7 @@ module _ (all : List Placed) (ps : List Prepared) (known : Known) where
       go None d (inl s) = record { place = 0; within = omega arith; unit = p; first = e; fault = d; is = s }
       go None d (inr j) = absurd j
 
-  worked_at_place : (k : ℕ) (g : ScopedProgress) (w : WorkedUnit) → IsIn w (worked_units all ps known k g) → IsWorked k g w
+  pub worked_at_place : (k : ℕ) (g : ScopedProgress) (w : WorkedUnit) → IsIn w (worked_units all ps known k g) → IsWorked k g w
   worked_at_place zero g w i = absurd i
   worked_at_place (suc k) g w i =
       let o = first_ready (is_ready all ps g.results) ps in

@@ -35,7 +35,7 @@ use Rattle.answers_at_turns.proofs.WholeUnits.{same_form, kept_whole, is_mapped,
 use Rattle.carried_units.specs.Entries.{HasEntry, CarriedHave}
 use Rattle.carried_units.proofs.Results.{is_first, result_stays}
 
-numbered_at : (all : List Placed) (k : ℕ) (us : List Placed) (i : ℕ) (p : Prepared) → At (prepare all k us) i p → p.number ≡ k + i
+pub numbered_at : (all : List Placed) (k : ℕ) (us : List Placed) (i : ℕ) (p : Prepared) → At (prepare all k us) i p → p.number ≡ k + i
 numbered_at all k [] i p h = absurd h
 numbered_at all k (u ∷ us) zero p h = let e = ap (λ (z : Prepared). z.number) h in omega (arith, e)
 numbered_at all k (u ∷ us) (suc i) p h = let e = numbered_at all (suc k) us i p h in omega (arith, e)
