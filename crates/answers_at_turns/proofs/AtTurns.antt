@@ -85,7 +85,7 @@ module _ (n : ℕ) (program : Bool) (h : Had) (g : WorkedForm) (st : HadStands n
       out_later : bare_around v ≡ bare_around (around_outside g.later)
       out_later = told_outside g.later v here
 
-      begins_there : (c : KeptParts) → RestFits h.kept.aside (Some c) → Begins g.later.state × Begins v.state
+      pub begins_there : (c : KeptParts) → RestFits h.kept.aside (Some c) → Begins g.later.state × Begins v.state
       begins_there c f =
           let l = left_is c f in
           ((subst (RestBegins g.later) l.1 at.rest).state, (subst (RestBegins v) l.1 ((forgetting_follows enough_turns).rest_begins v g.later out_later g.left at.rest)).state)

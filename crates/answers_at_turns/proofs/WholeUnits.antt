@@ -108,10 +108,10 @@ module _ (all : List Placed) (ps : List Prepared) (known : Known) (n : ℕ) (h :
       abbrev Q1 : Around → LeftOrKept → Type 0
       Q1 v r = IsClosed v.state × ThereLater all ps known n h p xs v r
 
-      abbrev P2 : Around → FormOrKept → Type 0
+      abbrev pub P2 : Around → FormOrKept → Type 0
       P2 v x = P1 v x × P v x
 
-      abbrev Q2 : Around → LeftOrKept → Type 0
+      abbrev pub Q2 : Around → LeftOrKept → Type 0
       Q2 v r = Q1 v r × Q v r
 
       abbrev C : Around → FormOrKept → Type 0
@@ -133,19 +133,19 @@ module _ (all : List Placed) (ps : List Prepared) (known : Known) (n : ℕ) (h :
     -- ---- what forms of before had
 
     module _ (had : ℕ → Option Had) (fs : List Formed) (end : ScopedState) (went : unit_by (forgetting enough_turns) known xs s ≡ (Some fs, end)) (x : FormOrKept) (i : IsIn x xs) (g : WorkedForm) (j : IsIn g gs) (e : g.form ≡ x.form) (b : Had) (is : had x.form ≡ Some b) (st : HadStands p.number s.program (form_of x) b) where
-      abbrev tree_is : form_of x ≡ (g.form, g.tree)
+      abbrev pub tree_is : form_of x ≡ (g.form, g.tree)
       tree_is = same_form x i g j e
 
-      here : HadStands p.number s.program (g.form, g.tree) b
+      pub here : HadStands p.number s.program (g.form, g.tree) b
       here = subst (λ (y : ℕ × Tree Ident). HadStands p.number s.program y b) tree_is st
 
-      at : IsAtWork p.number g
+      pub at : IsAtWork p.number g
       at = one_of (IsAtWork p.number) gs at_work g j
 
       programs : Same known p.number t g
       programs = one_of (Same known p.number t) gs (programs_stay known p.number ts t at_work) g j
 
-      abbrev Asked : Type 0
+      abbrev pub Asked : Type 0
       Asked = Each (SameAnswer b.first g.around) (questions_of_pass b.first enough_turns g.tree)
 
       first_program : (v : Around) → IsAroundOutside g.around v → v.state.program ≡ s.program
@@ -155,12 +155,12 @@ module _ (all : List Placed) (ps : List Prepared) (known : Known) (n : ℕ) (h :
       later_program v w = ap (λ (z : ScopedState). z.program) w.state ∙ programs.1
 
       -- at its first turn, and at its second
-      first_has : (v : Around) → IsClosed v.state → IsAroundOutside g.around v → (HasFirst b (form_of x) v → Asked) × (Asked → HasFirst b (form_of x) v)
+      pub first_has : (v : Around) → IsClosed v.state → IsAroundOutside g.around v → (HasFirst b (form_of x) v → Asked) × (Asked → HasFirst b (form_of x) v)
       first_has v c w =
           let z = first_told p.number s.program b g here at v w c (first_program v w) in
           ((λ q. z.0 (subst (λ (y : ℕ × Tree Ident). HasFirst b y v) tree_is q)), (λ q. subst (λ (y : ℕ × Tree Ident). HasFirst b y v) (sym tree_is) (z.1 q)))
 
-      later_has : Asked → (v : Around) → IsClosed v.state → IsAroundOutside g.later v → (HasLater b v → RestAnswers b.later g.later b.kept.parts) × (RestAnswers b.later g.later b.kept.parts → HasLater b v)
+      pub later_has : Asked → (v : Around) → IsClosed v.state → IsAroundOutside g.later v → (HasLater b v → RestAnswers b.later g.later b.kept.parts) × (RestAnswers b.later g.later b.kept.parts → HasLater b v)
       later_has q v c w = let z = later_told p.number s.program b g here at q v w c (later_program v w) in (z.0, z.1)
 
       pub kept_whole : AtTurns (KeepsFirst had) (KeepsLater had) (forgetting enough_turns) known xs s → HasAnswers (form_of x) b.kept b.first b.later g → IsKeptWhole x.kept

@@ -1,5 +1,5 @@
 -- What was kept of forms before (R7RS 4.3, 5.3), and which of it has its answers where their turns come now.
-use Rattle.std.specs.Prelude.{◌≡◌, ℕ, Bool, Option, Some, None, Ok, Err}
+use Rattle.std.specs.Prelude.{◌≡◌, ◌⊎◌, ℕ, Bool, Option, Some, None, Ok, Err}
 use Rattle.scheme_model.specs.Ident.{Ident}
 use Rattle.scheme_model.specs.Trees.{Tree}
 use Rattle.scheme_model.specs.Steps.{Broken}
@@ -61,6 +61,15 @@ KeepsFirst had v x = (h : Had) → had x.form ≡ Some h → HasFirst h (form_of
 -- nothing is expanded of a broken form
 abbrev pub KeepsLater : (ℕ → Option Had) → Around → LeftOrKept → Type 0
 KeepsLater had v r = (h : Had) → had r.form ≡ Some h → HasLater h v → r.kept ≡ None → (b : Broken) × (r.left ≡ Err b)
+
+-- ---- what forms of these numbers have behind their turns
+
+-- what it stands for came there, or has its answers there
+abbrev pub FirstIs : (ℕ → Option Had) → Around → FormOrKept → Type 0
+FirstIs now v x = (h : Had) → now x.form ≡ Some h → (h.first ≡ v) ⊎ HasFirst h (form_of x) v
+
+abbrev pub LaterIs : (ℕ → Option Had) → Around → LeftOrKept → Type 0
+LaterIs now v r = (h : Had) → now r.form ≡ Some h → (h.later ≡ v) ⊎ HasLater h v
 
 -- ---- a form as it stands where its turns come
 

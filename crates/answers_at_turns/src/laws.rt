@@ -23,7 +23,7 @@ ghost use Rattle.carried_laws.specs.AtWork.{IsAtWork};
 ghost use Rattle.carried_laws.specs.CarriedEntries.{came_to, IsKeptWhole};
 ghost use Rattle.carried_laws.specs.Entries.{StandsFor, RestAnswers, HasAnswers};
 ghost use Rattle.turns_at_work.specs.AtTurn.{IsAroundOutside};
-ghost use Rattle.answers_at_turns.specs.Had.{Had, HadStands, HasFirst, HasLater, OnlyFirst, OnlyLater, KeepsFirst, KeepsLater, at_turns};
+ghost use Rattle.answers_at_turns.specs.Had.{Had, HadStands, HasFirst, HasLater, OnlyFirst, OnlyLater, KeepsFirst, KeepsLater, FirstIs, LaterIs, at_turns};
 
 /// What is noted of what was kept of a form has its answers where the form's turns come just where all that was asked has its answers at the form that
 /// is worked on (R7RS 4.3, 5.3), though what is local is forgotten there.
@@ -58,4 +58,14 @@ pub fn what_has_its_answers_is_kept()
         IsProgressOutside a h → is_ready all units a.results p ≡ true → map form_of xs ≡ forms_over (Written p.number) p.number 0 (forms_at_work p) → AllKept way enough_turns known xs s → unit_by way known xs s ≡ (Some fs, end) →
         AtTurns (OnlyFirst had) (OnlyLater had) way known xs s → IsIn x xs → IsIn g (worked_unit known p (scoped_start_after all p a)).forms → g.form ≡ x.form → had x.form ≡ Some b → HadStands p.number s.program (form_of x) b →
         x.kept ≡ Some d → Each (SameAnswer b.first g.around) (questions_of_pass b.first enough_turns x.tree) × ((c : KeptParts) → d.parts ≡ Some c → HasAnswers (form_of x) b.kept b.first b.later g) }
+{}
+
+/// Where work on a unit went through, and what there is of each form behind its turns came there, or has its answers there, all that was asked has its answers at
+/// the form that is worked on (R7RS 4.3, 5.3): for forms that are kept, for those of which the second part alone is expanded, and for those that are expanded.
+pub fn turns_leave_entries()
+    ensures { (all : List Placed) (units : List Prepared) (known : Known) (n : ℕ) (h : ScopedProgress) (p : Prepared) (xs : List FormOrKept) (now : ℕ → Option Had) (fs : List Formed) (end : ScopedState) (x : FormOrKept) (g : WorkedForm) (b : Had) →
+        let a = scoped_work all units known n scoped_before in let s = scoped_start_after all p h in let way = forgetting enough_turns in
+        IsProgressOutside a h → is_ready all units a.results p ≡ true → map form_of xs ≡ forms_over (Written p.number) p.number 0 (forms_at_work p) → AllKept way enough_turns known xs s → unit_by way known xs s ≡ (Some fs, end) →
+        AtTurns (FirstIs now) (LaterIs now) way known xs s → IsIn x xs → IsIn g (worked_unit known p (scoped_start_after all p a)).forms → g.form ≡ x.form → now x.form ≡ Some b → HadStands p.number s.program (form_of x) b →
+        HasAnswers (form_of x) b.kept b.first b.later g }
 {}
