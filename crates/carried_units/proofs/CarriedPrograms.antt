@@ -71,7 +71,7 @@ module _ (all : List Placed) (ps : List Prepared) (known : Known) where
     unit_more None h k = tt
     unit_more (Some p) h k = start_more p (fault_before all ps p) h k
 
-    units_more : (n : ℕ) (h : ScopedProgress) → AtUnits all ps P step n h → AtUnits all ps Q step n h
+    pub units_more : (n : ℕ) (h : ScopedProgress) → AtUnits all ps P step n h → AtUnits all ps Q step n h
     units_more zero h k = tt
     units_more (suc n) h k = let o = first_ready (is_ready all ps h.results) ps in (unit_more o h k.0, units_more n (step o h) k.1)
 
@@ -82,12 +82,12 @@ module _ (all : List Placed) (ps : List Prepared) (known : Known) where
     abbrev next : ScopedProgress → Option Prepared
     next h = first_ready (is_ready all ps h.results) ps
 
-    at_place : (i k : ℕ) (h : ScopedProgress) → i < k → AtUnits all ps P step k h → let z = forgetting_work all ps known keep i h in AtUnit all ps P (next z) z
+    pub at_place : (i k : ℕ) (h : ScopedProgress) → i < k → AtUnits all ps P step k h → let z = forgetting_work all ps known keep i h in AtUnit all ps P (next z) z
     at_place i zero h l a = absurd (omega (arith, l))
     at_place zero (suc k) h l a = a.0
     at_place (suc i) (suc k) h l a = at_place i k (step (next h) h) (omega (arith, l)) a.1
 
-    up_to : (i k : ℕ) (h : ScopedProgress) → i < k → AtUnits all ps P step k h → AtUnits all ps P step i h
+    pub up_to : (i k : ℕ) (h : ScopedProgress) → i < k → AtUnits all ps P step k h → AtUnits all ps P step i h
     up_to zero k h l a = tt
     up_to (suc i) zero h l a = absurd (omega (arith, l))
     up_to (suc i) (suc k) h l a = (a.0, up_to i k (step (next h) h) (omega (arith, l)) a.1)

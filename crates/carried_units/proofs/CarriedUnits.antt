@@ -45,11 +45,11 @@ each_in P [] f = tt
 each_in P (x ∷ xs) f = (f x (inl refl), each_in P xs (λ y i. f y (inr i)))
 
 -- a unit that came to something wasn't ended
-not_ended : (p : Prepared) (i : List Entry × List SetResult) (t : Table) (o : Option (List Formed)) → is_broken (Some (unit_result p i t o)) ≡ false → (fs : List Formed) × (o ≡ Some fs)
+pub not_ended : (p : Prepared) (i : List Entry × List SetResult) (t : Table) (o : Option (List Formed)) → is_broken (Some (unit_result p i t o)) ≡ false → (fs : List Formed) × (o ≡ Some fs)
 not_ended p i t None h = let z : true ≡ false = h in absurd cc
 not_ended p i t (Some fs) h = (fs, refl)
 
-given_too : (q : Option (List Formed) × ScopedState) (fs : List Formed) → q.0 ≡ Some fs → q ≡ (Some fs, q.1)
+pub given_too : (q : Option (List Formed) × ScopedState) (fs : List Formed) → q.0 ≡ Some fs → q ≡ (Some fs, q.1)
 given_too q fs e = λ j. (e j, q.1)
 
 module _ (before after : List OpenDocument) where
