@@ -1,5 +1,5 @@
 -- Where work on a unit went through, and at each turn all is kept that has its answers, each form that has them is kept whole.
-use Rattle.std.proofs.Common.{◌≡◌, inl, inr, ℕ, List, [], ◌∷◌, map, true, Option, Some, None, Result, Ok, Err, refl, sym, ap, ◌∙◌, subst}
+use Rattle.std.proofs.Common.{◌≡◌, inl, inr, ℕ, List, [], ◌∷◌, map, Bool, true, Option, Some, None, Result, Ok, Err, refl, sym, ap, ◌∙◌, subst}
 use Rattle.scheme_model.specs.Ident.{Ident, Written}
 use Rattle.scheme_model.specs.Trees.{Tree}
 use Rattle.scheme_model.specs.Cores.{Bound}
@@ -31,7 +31,7 @@ use Rattle.kept_turns.proofs.EachTurn.{turns_with}
 use Rattle.kept_turns.proofs.ClosedTurns.{unit_closed}
 use Rattle.turns_at_work.specs.AtTurn.{IsAroundOutside}
 use Rattle.turns_at_work.proofs.TurnsThere.{There, ThereLater, turns_there}
-use Rattle.answers_at_turns.specs.Had.{Had, HadStands, HasFirst, HasLater, OnlyFirst, OnlyLater, KeepsFirst, KeepsLater}
+use Rattle.answers_at_turns.specs.Had.{Had, HadStands, HasFirst, HasLater, OnlyFirst, OnlyLater, KeepsFirst, KeepsLater, AreKept}
 use Rattle.answers_at_turns.proofs.AtTurns.{first_told, later_told}
 use Rattle.answers_at_turns.proofs.TurnsCame.{IsLeft, form_came}
 use Rattle.answers_at_turns.proofs.ProgramsStay.{Same, programs_stay}
@@ -64,6 +64,9 @@ pub mapped_from : {X Y : Type 0} (f : X → Y) (xs : List X) (y : Y) → IsIn y 
 mapped_from f [] y i = absurd i
 mapped_from f (x ∷ xs) y (inl e) = (x, inl refl, e)
 mapped_from f (x ∷ xs) y (inr i) = let a = mapped_from f xs y i in (a.0, inr a.1, a.2)
+
+no_none : {X : Type 0} (c : X) → Some c ≡ None → ⊥
+no_none c e = let z : Some c ≡ None = e in absurd cc
 
 -- a form that left a fault was broken when it was gone through
 broken_there : (f : Bound → Bound) (x : Result (Left Ident) Broken) (b : Broken) → or_fault (left_with f) x ≡ Err b → (e : Broken) × (x ≡ Err e)
@@ -163,24 +166,26 @@ module _ (all : List Placed) (ps : List Prepared) (known : Known) (n : ℕ) (h :
       pub later_has : Asked → (v : Around) → IsClosed v.state → IsAroundOutside g.later v → (HasLater b v → RestAnswers b.later g.later b.kept.parts) × (RestAnswers b.later g.later b.kept.parts → HasLater b v)
       later_has q v c w = let z = later_told p.number s.program b g here at q v w c (later_program v w) in (z.0, z.1)
 
-      pub kept_whole : AtTurns (KeepsFirst had) (KeepsLater had) (forgetting enough_turns) known xs s → HasAnswers (form_of x) b.kept b.first b.later g → IsKeptWhole x.kept
-      kept_whole turns has = go (came (KeepsFirst had) (KeepsLater had) turns fs end went x i)
+      pub kept_whole : (kept_first : ℕ → Bool) → AreKept kept_first xs → AtTurns (KeepsFirst had) (KeepsLater had kept_first) (forgetting enough_turns) known xs s → HasAnswers (form_of x) b.kept b.first b.later g → IsKeptWhole x.kept
+      kept_whole kept_first are turns has = go (came (KeepsFirst had) (KeepsLater had kept_first) turns fs end went x i)
         where
           asked : Asked
           asked = subst (λ (y : ℕ × Tree Ident). Each (SameAnswer b.first g.around) (questions_of_pass b.first enough_turns y.1)) tree_is has.pass
 
-          rest : (v : Around) (r : LeftOrKept) → IsLeft (forgetting enough_turns) v x r → (u : Around) → IsClosed u.state → IsAroundOutside g.later u → KeepsLater had u r → (c : KeptForm) → x.kept ≡ Some c → (d : Option KeptParts) → c.parts ≡ d → IsWhole c.aside d
+          rest : (v : Around) (r : LeftOrKept) → IsLeft (forgetting enough_turns) v x r → (u : Around) → IsClosed u.state → IsAroundOutside g.later u → KeepsLater had kept_first u r → (c : KeptForm) → x.kept ≡ Some c → (d : Option KeptParts) → c.parts ≡ d → IsWhole c.aside d
           rest v r left u closed out keeps c w (Some d) f = tt
           rest v r left u closed out keeps c w None f =
               let none : r.kept ≡ None = left.kept ∙ ap (rest_kept v) w ∙ ap (λ (z : Option KeptParts). rest_kept v (Some (record { aside = c.aside; parts = z }))) f in
-              let y = keeps b (ap had left.form ∙ is) ((later_has asked u closed out).1 has.rest) none in
+              let some : x.kept ≡ None → ⊥ = λ q. no_none c (sym w ∙ q) in
+              let first : kept_first r.form ≡ true = ap kept_first left.form ∙ one_of (λ (z : FormOrKept). (z.kept ≡ None → ⊥) → kept_first z.form ≡ true) xs are x i some in
+              let y = keeps first b (ap had left.form ∙ is) ((later_has asked u closed out).1 has.rest) none in
               broken_there _ c.aside.pass.left y.0 (sym (ap (λ (z : Option KeptForm). ((forgetting enough_turns).first v x.tree z).0.left) w) ∙ (sym left.left ∙ y.1))
 
-          whole : (v : Around) (r : LeftOrKept) → IsLeft (forgetting enough_turns) v x r → KeepsFirst had v x → HasFirst b (form_of x) v → (u : Around) → IsClosed u.state → IsAroundOutside g.later u → KeepsLater had u r → (c : Option KeptForm) → x.kept ≡ c → IsKeptWhole c
+          whole : (v : Around) (r : LeftOrKept) → IsLeft (forgetting enough_turns) v x r → KeepsFirst had v x → HasFirst b (form_of x) v → (u : Around) → IsClosed u.state → IsAroundOutside g.later u → KeepsLater had kept_first u r → (c : Option KeptForm) → x.kept ≡ c → IsKeptWhole c
           whole v r left first has1 u closed out later None w = absurd (first b is has1 w)
           whole v r left first has1 u closed out later (Some c) w = rest v r left u closed out later c w c.parts refl
 
-          go : (r : LeftOrKept) × ((v : Around) × P2 (KeepsFirst had) (KeepsLater had) turns fs end went v x × IsLeft (forgetting enough_turns) v x r) × ((u : Around) × Q2 (KeepsFirst had) (KeepsLater had) turns fs end went u r) → IsKeptWhole x.kept
+          go : (r : LeftOrKept) × ((v : Around) × P2 (KeepsFirst had) (KeepsLater had kept_first) turns fs end went v x × IsLeft (forgetting enough_turns) v x r) × ((u : Around) × Q2 (KeepsFirst had) (KeepsLater had kept_first) turns fs end went u r) → IsKeptWhole x.kept
           go z =
               let r = z.0 in let v = z.1.0 in let f = z.1.1 in let left = z.1.2 in let u = z.2.0 in let l = z.2.1 in
               whole v r left f.1 ((first_has v f.0.0 (f.0.1 g j e)).1 asked) u l.0.0 (l.0.1 g j (e ∙ sym left.form)) l.1 x.kept refl

@@ -1,5 +1,5 @@
 -- What was kept of forms before (R7RS 4.3, 5.3), and which of it has its answers where their turns come now.
-use Rattle.std.specs.Prelude.{◌≡◌, ◌⊎◌, ℕ, Bool, Option, Some, None, Ok, Err}
+use Rattle.std.specs.Prelude.{◌≡◌, ◌⊎◌, ℕ, List, Bool, true, Option, Some, None, Ok, Err}
 use Rattle.scheme_model.specs.Ident.{Ident}
 use Rattle.scheme_model.specs.Trees.{Tree}
 use Rattle.scheme_model.specs.Steps.{Broken}
@@ -58,9 +58,13 @@ OnlyLater had v r = (c : KeptParts) → r.kept ≡ Some c → (h : Had) → had 
 abbrev pub KeepsFirst : (ℕ → Option Had) → Around → FormOrKept → Type 0
 KeepsFirst had v x = (h : Had) → had x.form ≡ Some h → HasFirst h (form_of x) v → x.kept ≡ None → ⊥
 
--- nothing is expanded of a broken form
-abbrev pub KeepsLater : (ℕ → Option Had) → Around → LeftOrKept → Type 0
-KeepsLater had v r = (h : Had) → had r.form ≡ Some h → HasLater h v → r.kept ≡ None → (b : Broken) × (r.left ≡ Err b)
+-- of the rest, where the form was kept before; nothing is expanded of a broken form
+abbrev pub KeepsLater : (ℕ → Option Had) → (kept_first : ℕ → Bool) → Around → LeftOrKept → Type 0
+KeepsLater had kept_first v r = kept_first r.form ≡ true → (h : Had) → had r.form ≡ Some h → HasLater h v → r.kept ≡ None → (b : Broken) × (r.left ≡ Err b)
+
+-- a form of which something is kept is one of these
+abbrev pub AreKept : (kept_first : ℕ → Bool) → List FormOrKept → Type 0
+AreKept kept_first xs = Each (λ (x : FormOrKept). (x.kept ≡ None → ⊥) → kept_first x.form ≡ true) xs
 
 -- ---- what forms of these numbers have behind their turns
 

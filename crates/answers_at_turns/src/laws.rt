@@ -23,7 +23,7 @@ ghost use Rattle.carried_laws.specs.AtWork.{IsAtWork};
 ghost use Rattle.carried_laws.specs.CarriedEntries.{came_to, IsKeptWhole};
 ghost use Rattle.carried_laws.specs.Entries.{StandsFor, RestAnswers, HasAnswers};
 ghost use Rattle.turns_at_work.specs.AtTurn.{IsAroundOutside};
-ghost use Rattle.answers_at_turns.specs.Had.{Had, HadStands, HasFirst, HasLater, OnlyFirst, OnlyLater, KeepsFirst, KeepsLater, FirstIs, LaterIs, at_turns};
+ghost use Rattle.answers_at_turns.specs.Had.{Had, HadStands, HasFirst, HasLater, OnlyFirst, OnlyLater, KeepsFirst, KeepsLater, AreKept, FirstIs, LaterIs, at_turns};
 
 /// What is noted of what was kept of a form has its answers where the form's turns come just where all that was asked has its answers at the form that
 /// is worked on (R7RS 4.3, 5.3), though what is local is forgotten there.
@@ -48,10 +48,10 @@ pub fn turns_stand_for_their_forms()
 /// Where work on a unit went through, and at each turn all was kept that has its answers there, each form of which what was kept has its answers at the form
 /// that is worked on is kept whole (R7RS 4.3, 5.3). And where only what has its answers was kept, all that was asked has its answers there.
 pub fn what_has_its_answers_is_kept()
-    ensures whole { (all : List Placed) (units : List Prepared) (known : Known) (n : ℕ) (h : ScopedProgress) (p : Prepared) (xs : List FormOrKept) (had : ℕ → Option Had) (fs : List Formed) (end : ScopedState) (x : FormOrKept) (g : WorkedForm) (b : Had) →
+    ensures whole { (all : List Placed) (units : List Prepared) (known : Known) (n : ℕ) (h : ScopedProgress) (p : Prepared) (xs : List FormOrKept) (had : ℕ → Option Had) (kept_first : ℕ → Bool) (fs : List Formed) (end : ScopedState) (x : FormOrKept) (g : WorkedForm) (b : Had) →
         let a = scoped_work all units known n scoped_before in let s = scoped_start_after all p h in let way = forgetting enough_turns in
         IsProgressOutside a h → is_ready all units a.results p ≡ true → map form_of xs ≡ forms_over (Written p.number) p.number 0 (forms_at_work p) → AllKept way enough_turns known xs s → unit_by way known xs s ≡ (Some fs, end) →
-        AtTurns (KeepsFirst had) (KeepsLater had) way known xs s → IsIn x xs → IsIn g (worked_unit known p (scoped_start_after all p a)).forms → g.form ≡ x.form → had x.form ≡ Some b → HadStands p.number s.program (form_of x) b →
+        AtTurns (KeepsFirst had) (KeepsLater had kept_first) way known xs s → AreKept kept_first xs → IsIn x xs → IsIn g (worked_unit known p (scoped_start_after all p a)).forms → g.form ≡ x.form → had x.form ≡ Some b → HadStands p.number s.program (form_of x) b →
         HasAnswers (form_of x) b.kept b.first b.later g → IsKeptWhole x.kept }
     ensures only { (all : List Placed) (units : List Prepared) (known : Known) (n : ℕ) (h : ScopedProgress) (p : Prepared) (xs : List FormOrKept) (had : ℕ → Option Had) (fs : List Formed) (end : ScopedState) (x : FormOrKept) (g : WorkedForm) (b : Had) (d : KeptForm) →
         let a = scoped_work all units known n scoped_before in let s = scoped_start_after all p h in let way = forgetting enough_turns in

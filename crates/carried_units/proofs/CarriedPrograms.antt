@@ -1,5 +1,5 @@
 -- A program that keeps all that has its answers keeps all carried forms whole, and stays within the work of the event.
-use Rattle.std.proofs.Common.{◌≡◌, ◌⊎◌, inl, inr, ℕ, zero, suc, ◌<◌, ◌≤◌, List, [], ◌∷◌, length, Option, Some, None, refl, sym, ap, ◌∙◌, subst, arith}
+use Rattle.std.proofs.Common.{◌≡◌, ◌⊎◌, inl, inr, ℕ, zero, suc, ◌<◌, ◌≤◌, List, [], ◌∷◌, length, Bool, Option, Some, None, refl, sym, ap, ◌∙◌, subst, arith}
 use Rattle.scheme_model.specs.Ident.{Written}
 use Rattle.scheme_model.specs.Requirements.{Known}
 use Rattle.scheme_model.specs.ScopedExpansion.{ScopedState}
@@ -92,7 +92,7 @@ module _ (all : List Placed) (ps : List Prepared) (known : Known) where
     up_to (suc i) zero h l a = absurd (omega (arith, l))
     up_to (suc i) (suc k) h l a = (a.0, up_to i k (step (next h) h) (omega (arith, l)) a.1)
 
-module _ (before after : List OpenDocument) (keep : Keeping) (had : ℕ → ℕ → Option Had) where
+module _ (before after : List OpenDocument) (keep : Keeping) (had : ℕ → ℕ → Option Had) (kept_first : ℕ → ℕ → Bool) where
   abbrev ds : List Document
   ds = read_documents after
 
@@ -106,14 +106,14 @@ module _ (before after : List OpenDocument) (keep : Keeping) (had : ℕ → ℕ 
   known = known_in ds
 
   abbrev Kept : Prepared → ScopedState → Type 0
-  Kept p s = KeepsAnswers known keep had p s
+  Kept p s = KeepsAnswers known keep had kept_first p s
 
   abbrev Plain : Prepared → ScopedState → Type 0
   Plain p s = UnitIsKept (forgetting enough_turns) known keep p s
 
   module _ (k : AtUnits all ps Kept (forgetting_worked all ps known keep) (length ps) scoped_before) (has : AllHave before after had) where
     plain : AtUnits all ps Plain (forgetting_worked all ps known keep) (length ps) scoped_before
-    plain = units_more all ps known Kept Plain (λ p s a. a.0) (forgetting_worked all ps known keep) (length ps) scoped_before k
+    plain = units_more all ps known Kept Plain (λ p s a. a.kept) (forgetting_worked all ps known keep) (length ps) scoped_before k
 
     one_unit : (w : WorkedUnit) → IsIn w (units_at_work ds) → Each (Whole before after w.number) (keep w.number)
     one_unit w i = go (worked_at_place all ps known (length ps) scoped_before w i)
@@ -137,7 +137,7 @@ module _ (before after : List OpenDocument) (keep : Keeping) (had : ℕ → ℕ 
             each_both (λ (y : WorkedForm). IsIn (p.number, y.form) (carried before after) → HasEntry p.number y.around.state.program (had p.number) y) (Same known p.number t)
             (λ (y : WorkedForm). IsIn (p.number, y.form) (carried before after) → HasEntry p.number t.program (had p.number) y) (λ y a b c. subst (λ q. HasEntry p.number q (had p.number) y) b.0 (a c)) gs there programs in
             subst (λ (x : WorkedUnit). Each (Whole before after x.number) (keep x.number)) (sym z.is)
-            (unit_whole before after n p z.within z.first z.fault h (keep p.number) o kept.0.0 kept.0.1 (had p.number) kept.1 have)
+            (unit_whole before after n p z.within z.first z.fault h (keep p.number) o kept.kept.0 kept.kept.1 (had p.number) (kept_first p.number) kept.first kept.turns have)
 
     pub program_keeps_all : KeepsAll (carried before after) keep
     program_keeps_all = all_whole before after keep (each_in (λ (w : WorkedUnit). Each (Whole before after w.number) (keep w.number)) (units_at_work ds) (λ w i. one_unit w i))

@@ -30,7 +30,7 @@ use Rattle.carried_laws.proofs.Places.{mapped_at}
 use Rattle.carried_laws.proofs.PairsSend.{pairs_found}
 use Rattle.carried_laws.proofs.CarriedOver.{both_there}
 use Rattle.carried_laws.proofs.StayingPrograms.{unit_forms, worked_form}
-use Rattle.answers_at_turns.specs.Had.{Had, KeepsFirst, KeepsLater, HadStands}
+use Rattle.answers_at_turns.specs.Had.{Had, KeepsFirst, KeepsLater, AreKept, HadStands}
 use Rattle.answers_at_turns.proofs.WholeUnits.{same_form, kept_whole, is_mapped, mapped_from, one_of}
 use Rattle.carried_units.specs.Entries.{HasEntry, CarriedHave}
 use Rattle.carried_units.proofs.Results.{is_first, result_stays}
@@ -117,9 +117,9 @@ module _ (before after : List OpenDocument) where
           let z = mapped_from worked_form gs (form_of x) (subst (IsIn (form_of x)) (forms ∙ sym (unit_forms known ts t)) (is_mapped form_of xs x i)) in
           (z.0, z.1, ap (λ (y : ℕ × Tree Ident). y.0) (sym z.2))
 
-      pub unit_whole : (had : ℕ → Option Had) → AtTurns (KeepsFirst had) (KeepsLater had) (forgetting enough_turns) known xs s → CarriedHave before after p.number s.program had gs →
+      pub unit_whole : (had : ℕ → Option Had) (kept_first : ℕ → Bool) → AreKept kept_first xs → AtTurns (KeepsFirst had) (KeepsLater had kept_first) (forgetting enough_turns) known xs s → CarriedHave before after p.number s.program had gs →
           Each (λ (x : FormOrKept). IsIn (p.number, x.form) (carried before after) → IsKeptWhole x.kept) xs
-      unit_whole had turns has = each_in (λ (x : FormOrKept). IsIn (p.number, x.form) (carried before after) → IsKeptWhole x.kept) xs (λ x i c. one x i c)
+      unit_whole had kept_first are turns has = each_in (λ (x : FormOrKept). IsIn (p.number, x.form) (carried before after) → IsKeptWhole x.kept) xs (λ x i c. one x i c)
         where
           one : (x : FormOrKept) → IsIn x xs → IsIn (p.number, x.form) (carried before after) → IsKeptWhole x.kept
           one x i c =
@@ -127,7 +127,7 @@ module _ (before after : List OpenDocument) where
               let b = one_of (λ (z : WorkedForm). IsIn (p.number, z.form) (carried before after) → HasEntry p.number s.program had z) gs has g y.1 (subst (λ m. IsIn (p.number, m) (carried before after)) (sym e) c) in
               let tree = same_form all ps known n h p xs o ready forms k x i g y.1 e in
               kept_whole all ps known n h p xs o ready forms k had w.0 (unit_by (forgetting enough_turns) known xs s).1 w.1 x i g y.1 e b.entry (ap had (sym e) ∙ b.there)
-              (subst (λ (z : ℕ × Tree Ident). HadStands p.number s.program z b.entry) (sym tree) b.stands) turns
+              (subst (λ (z : ℕ × Tree Ident). HadStands p.number s.program z b.entry) (sym tree) b.stands) kept_first are turns
               (subst (λ (z : ℕ × Tree Ident). HasAnswers z b.entry.kept b.entry.first b.entry.later g) (sym tree) b.answers)
 
   -- ---- all units

@@ -10,7 +10,7 @@ use Rattle.forgotten_locals.specs.Programs.{UnitIsKept}
 use Rattle.carried_forms.specs.Worked.{WorkedForm, WorkedUnit, OpenDocument, read_documents, units_at_work}
 use Rattle.carried_forms.specs.Carried.{IsIn, carried}
 use Rattle.carried_laws.specs.Entries.{HasAnswers}
-use Rattle.answers_at_turns.specs.Had.{Had, HadStands, KeepsFirst, KeepsLater}
+use Rattle.answers_at_turns.specs.Had.{Had, HadStands, KeepsFirst, KeepsLater, AreKept}
 
 pub record HasEntry (unit : ℕ) (program : Bool) (had : ℕ → Option Had) (g : WorkedForm) : Type 0 where
   pub entry : Had
@@ -28,6 +28,7 @@ AllHave before after had =
     Each (λ (w : WorkedUnit). Each (λ (g : WorkedForm). IsIn (w.number, g.form) (carried before after) → HasEntry w.number g.around.state.program (had w.number) g) w.forms) (units_at_work (read_documents after))
 
 -- what is kept of a unit may be kept, and at each turn all is that has its answers there
-abbrev pub KeepsAnswers : Known → Keeping → (ℕ → ℕ → Option Had) → Prepared → ScopedState → Type 0
-KeepsAnswers known keep had p s =
-    UnitIsKept (forgetting enough_turns) known keep p s × AtTurns (KeepsFirst (had p.number)) (KeepsLater (had p.number)) (forgetting enough_turns) known (keep p.number) s
+pub record KeepsAnswers (known : Known) (keep : Keeping) (had : ℕ → ℕ → Option Had) (kept_first : ℕ → ℕ → Bool) (p : Prepared) (s : ScopedState) : Type 0 where
+  pub kept : UnitIsKept (forgetting enough_turns) known keep p s
+  pub first : AreKept (kept_first p.number) (keep p.number)
+  pub turns : AtTurns (KeepsFirst (had p.number)) (KeepsLater (had p.number) (kept_first p.number)) (forgetting enough_turns) known (keep p.number) s
