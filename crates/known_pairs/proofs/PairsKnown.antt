@@ -59,7 +59,7 @@ in_pairs b (x ∷ us) vs (suc n) u p at e =
 
 -- ---- texts of which fewer are broken
 
-mapped_there : {X Y : Type 0} (f g : X → Y) (xs : List X) (n : ℕ) (y : Y) → At (map f xs) n y → (x : X) × IsIn x xs × (f x ≡ y) × At (map g xs) n (g x)
+pub mapped_there : {X Y : Type 0} (f g : X → Y) (xs : List X) (n : ℕ) (y : Y) → At (map f xs) n y → (x : X) × IsIn x xs × (f x ≡ y) × At (map g xs) n (g x)
 mapped_there f g [] n y at = absurd at
 mapped_there f g (x ∷ xs) zero y at = (x, inl refl, at, refl)
 mapped_there f g (x ∷ xs) (suc n) y at = let h = mapped_there f g xs n y at in (h.0, inr h.1, h.2, h.3)
