@@ -12,12 +12,12 @@ use Rattle.carried_forms.specs.Worked.{WorkedForm, WorkedUnit, units_at_work}
 use Rattle.carried_forms.specs.Carried.{form_at, worked_at, asks_alike}
 use Rattle.carried_laws.specs.AtWork.{IsAtWork}
 use Rattle.carried_laws.proofs.StayingPrograms.{program_begins}
-use Rattle.agreeing_numbers.specs.Following.{form_count, Follows}
+use Rattle.agreeing_numbers.specs.Following.{form_count, is_told, Follows}
 use Rattle.agreeing_numbers.proofs.NumbersFollow.{itself}
 use Rattle.agreeing_numbers.proofs.UnitsAgree.{FormAgrees}
 use Rattle.agreeing_numbers.proofs.ProgramsAgree.{program_agrees}
 use Rattle.agreeing_numbers.proofs.AlikeFollow.{itself_tells, alike_follows}
-use Rattle.agreeing_numbers.proofs.NumbersKept.{stays_below, keeper, keeper_tells, keeper_keeps}
+use Rattle.agreeing_numbers.proofs.NumbersKept.{stays_below, stays_told, keeper, keeper_tells, keeper_keeps}
 
 -- what holds of all forms at work by the numbers of their units holds of each that is found
 form_such : (P : WorkedForm → Type 0) (fs : List WorkedForm) (n : ℕ) (g : WorkedForm) → Each P fs → form_at fs n ≡ Some g → P g
@@ -41,5 +41,5 @@ pub follow_alike : (ds : List Document) (r q : Renumbering) → HasOldNumbers r 
     move_tree (change r) f.tree ≡ g.tree → asks_alike r f g ≡ true → asks_alike q f g ≡ true
 follow_alike ds r q b follows n m f g at worked form tree alike =
     let below : (u : ℕ) → r.unit u ≡ (keeper ds).unit (r.unit u) → r.unit u ≤ prelude_unit = λ u e. (let l = stays_below (suc prelude_unit) (r.unit u) e in omega (arith, l)) in
-    alike_follows (keeper ds) r q (keeper_tells ds) b (λ u e. follows.units u (below u e)) (λ u k e d. follows.forms u k (below u e) (stays_below (form_count ds (r.unit u)) (r.form u k) d)) n f g at
+    alike_follows (keeper ds) r q (keeper_tells ds) b (λ u e. follows.units u (below u e)) (λ u k e d. follows.forms u k (below u e) (stays_told (is_told ds (r.unit u) (r.form u k)) (form_count ds (r.unit u)) (r.form u k) d)) n f g at
     (worked_such IsAtWork (units_at_work ds) (r.unit n) m g (program_begins ds) worked) form tree alike (worked_such (λ u x. FormAgrees itself (keeper ds) x) (units_at_work ds) (r.unit n) m g (program_agrees ds itself (keeper ds) itself_tells (keeper_tells ds) (keeper_keeps ds)) worked)

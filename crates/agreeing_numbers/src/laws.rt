@@ -26,7 +26,7 @@ pub fn tables_agree_with_pairs()
     ensures { (before after : List OpenDocument) (is_home : ℕ → Bool) (q : Renumbering) → FollowsPairs before after is_home q → AgreeOn (numbers_between before after) q (read_documents before) }
 {}
 
-/// A form that asks alike under some numbers asks so under all others that follow these wherever they lead to what the program after has (R7RS 4.3, 5.3): what
+/// A form that asks alike under some numbers asks so under all others that follow these wherever they lead to what work on the program after tells (R7RS 4.3, 5.3): what
 /// it asks under them is asked there too, so it tells nothing else. What other numbers do with all that is gone afterwards doesn't matter.
 pub fn following_numbers_ask_alike()
     ensures { (ds : List Document) (r q : Renumbering) → HasOldNumbers r → Follows r q ds → (n m : ℕ) (f g : WorkedForm) → IsAtWork n f → worked_at (units_at_work ds) (r.unit n) m ≡ Some g → r.form n f.form ≡ g.form →

@@ -314,7 +314,7 @@ by_uri (d ∷ ds) h (suc m) (suc n) k l e = ap suc (by_uri ds h.1 m n (omega (ar
 
 -- ---- programs
 
-module _ (ds : List OpenDocument) (once : AreOpenOnce ds) where
+module _ (ds : List OpenDocument) where
   abbrev docs : List Document
   docs = read_documents ds
 
@@ -327,42 +327,48 @@ module _ (ds : List OpenDocument) (once : AreOpenOnce ds) where
   abbrev rs : List UnitResult
   rs = (scoped_work all ps (known_in docs) (length ps) scoped_before).results
 
-  abbrev text : Prepared → UnitText
-  text p = unit_text ds rs p
-
-  fine : (p : Prepared) → IsIn p ps → is_broken (result_at rs p.number) ≡ false → Clean all p
-  fine p h e =
+  -- a unit that isn't broken had no fault before its forms were worked on
+  pub no_fault : (p : Prepared) → IsIn p ps → is_broken (result_at rs p.number) ≡ false → fault_before all ps p ≡ None
+  no_fault p h e =
       let c = unbroken all ps (known_in docs) rs (work_told all ps (known_in docs) (length ps) scoped_before tt) p.number e in
-      clean_of all ps p (subst (λ (x : Prepared). fault_before all ps x ≡ None) (by_number 0 ps (in_order_of all 0 all) c.0 p c.1 h c.2) c.3)
+      subst (λ (x : Prepared). fault_before all ps x ≡ None) (by_number 0 ps (in_order_of all 0 all) c.0 p c.1 h c.2) c.3
 
-  behind : (p : Prepared) → IsIn p ps → max_units ≤ p.number → is_broken (result_at rs p.number) ≡ true
-  behind p h l = go (is_broken (result_at rs p.number)) refl
+-- by which units are said to be broken, where none of the others had a fault before
+module _ (ds : List OpenDocument) (once : AreOpenOnce ds) (broken : Prepared → Bool) (clear : (p : Prepared) → IsIn p (ps ds) → broken p ≡ false → fault_before (all ds) (ps ds) p ≡ None) where
+  abbrev text : Prepared → UnitText
+  text p = record (unit_text ds (rs ds) p) { broken = broken p }
+
+  fine : (p : Prepared) → IsIn p (ps ds) → broken p ≡ false → Clean (all ds) p
+  fine p h e = clean_of (all ds) (ps ds) p (clear p h e)
+
+  behind : (p : Prepared) → IsIn p (ps ds) → max_units ≤ p.number → broken p ≡ true
+  behind p h l = go (broken p) refl
     where
-      go : (t : Bool) → is_broken (result_at rs p.number) ≡ t → is_broken (result_at rs p.number) ≡ true
+      go : (t : Bool) → broken p ≡ t → broken p ≡ true
       go true e = e
       go false e = no (sym (fine p h e).few ∙ le-leb max_units p.number l)
 
-  within_from : (k : ℕ) (us : List Placed) → ((p : Prepared) → IsIn p (prepare all k us) → IsIn p ps) → AreWithin k (map text (prepare all k us))
+  within_from : (k : ℕ) (us : List Placed) → ((p : Prepared) → IsIn p (prepare (all ds) k us) → IsIn p (ps ds)) → AreWithin k (map text (prepare (all ds) k us))
   within_from k [] sub = tt
-  within_from k (u ∷ us) sub = (λ l. behind (prepared all k u) (sub (prepared all k u) (inl refl)) l, within_from (suc k) us (λ p h. sub p (inr h)))
+  within_from k (u ∷ us) sub = (λ l. behind (prepared (all ds) k u) (sub (prepared (all ds) k u) (inl refl)) l, within_from (suc k) us (λ p h. sub p (inr h)))
 
   abbrev Known_of : Placed → Type 0
   Known_of u = IsNamed u.source × (u.document < length ds)
 
-  clash : (p q : Prepared) → IsIn p ps → IsIn q ps → p.number < q.number → Known_of p.placed → Known_of q.placed → Differ p.placed q.placed → SameKey (text p) (text q) → ⊥
+  clash : (p q : Prepared) → IsIn p (ps ds) → IsIn q (ps ds) → p.number < q.number → Known_of p.placed → Known_of q.placed → Differ p.placed q.placed → SameKey (text p) (text q) → ⊥
   clash p q hp hq l np nq differ k = go p.placed.source.kind refl
     where
-      fp : Clean all p
+      fp : Clean (all ds) p
       fp = fine p hp k.here
 
-      fq : Clean all q
+      fq : Clean (all ds) q
       fq = fine q hq k.there
 
       named : p.placed.source.kind ≡ IsLibrary → (o : Option LibraryName) → p.placed.source.name ≡ o → ⊥
       named e None f = let bad = np.0 e f in fp.declared bad.0 bad.1
       named e (Some m) f =
-          let first = first_of_name all p m (named_if p m fp.few fp.declared f) fp.once in
-          let second = first_of_name all q m (named_if q m fq.few fq.declared (sym k.name ∙ f)) fq.once in
+          let first = first_of_name (all ds) p m (named_if p m fp.few fp.declared f) fp.once in
+          let second = first_of_name (all ds) q m (named_if q m fq.few fq.declared (sym k.name ∙ f)) fq.once in
           let same = same_Some p.number q.number (sym first ∙ second) in
           omega (arith, same, l)
 
@@ -381,18 +387,18 @@ module _ (ds : List OpenDocument) (once : AreOpenOnce ds) where
       go true e = absurd (f (key_told (text p) (text q) e))
       go false e = e
 
-  alone_from : (p : Prepared) → IsIn p ps → Known_of p.placed → (k : ℕ) (us : List Placed) → p.number < k → ((q : Prepared) → IsIn q (prepare all k us) → IsIn q ps) → EachOf Known_of us → EachOf (Differ p.placed) us →
-      IsAlone (text p) (map text (prepare all k us))
+  alone_from : (p : Prepared) → IsIn p (ps ds) → Known_of p.placed → (k : ℕ) (us : List Placed) → p.number < k → ((q : Prepared) → IsIn q (prepare (all ds) k us) → IsIn q (ps ds)) → EachOf Known_of us → EachOf (Differ p.placed) us →
+      IsAlone (text p) (map text (prepare (all ds) k us))
   alone_from p h np k [] l sub each differ = tt
   alone_from p h np k (u ∷ us) l sub each differ = (
-    apart_by p (prepared all k u) (clash p (prepared all k u) h (sub (prepared all k u) (inl refl)) l np each.0 differ.0),
+    apart_by p (prepared (all ds) k u) (clash p (prepared (all ds) k u) h (sub (prepared (all ds) k u) (inl refl)) l np each.0 differ.0),
     alone_from p h np (suc k) us (omega (arith, l)) (λ q i. sub q (inr i)) each.1 differ.1,
   )
 
-  told_from : (k : ℕ) (us : List Placed) → ((q : Prepared) → IsIn q (prepare all k us) → IsIn q ps) → EachOf Known_of us → AllDiffer us → AreTold (map text (prepare all k us))
+  told_from : (k : ℕ) (us : List Placed) → ((q : Prepared) → IsIn q (prepare (all ds) k us) → IsIn q (ps ds)) → EachOf Known_of us → AllDiffer us → AreTold (map text (prepare (all ds) k us))
   told_from k [] sub each differ = tt
   told_from k (u ∷ us) sub each differ = (
-    alone_from (prepared all k u) (sub (prepared all k u) (inl refl)) each.0 (suc k) us (omega arith) (λ q i. sub q (inr i)) each.1 differ.0,
+    alone_from (prepared (all ds) k u) (sub (prepared (all ds) k u) (inl refl)) each.0 (suc k) us (omega arith) (λ q i. sub q (inr i)) each.1 differ.0,
     told_from (suc k) us (λ q i. sub q (inr i)) each.1 differ.1,
   )
 
@@ -400,13 +406,23 @@ module _ (ds : List OpenDocument) (once : AreOpenOnce ds) where
   both_known [] h k = tt
   both_known (u ∷ us) h k = ((h.0, k.0), both_known us h.1 k.1)
 
+  pub texts_within : AreWithin 0 (map text (ps ds))
+  texts_within = within_from 0 (all ds) (λ p h. h)
+
+  pub texts_told : AreTold (map text (ps ds))
+  texts_told =
+      let texts = all_texts (sources_within max_tokens (naming (docs ds)) (known_in (docs ds)) (docs ds)) in
+      told_from 0 (all ds) (λ p h. h)
+      (both_known (all ds) (all_named texts (known_in (docs ds)) (naming (docs ds)) 0 (docs ds))
+      (documents_below texts (known_in (docs ds)) (naming (docs ds)) 0 (length ds) (docs ds) (let l = length-map ds (λ (d : OpenDocument). d.data_in) in omega (arith, l))))
+      (all_differ texts (known_in (docs ds)) (naming (docs ds)) 0 (docs ds))
+
+module _ (ds : List OpenDocument) (once : AreOpenOnce ds) where
+  abbrev broken_here : Prepared → Bool
+  broken_here p = is_broken (result_at (rs ds) p.number)
+
   pub programs_within : AreWithin 0 (unit_texts ds)
-  programs_within = within_from 0 all (λ p h. h)
+  programs_within = texts_within ds once broken_here (no_fault ds)
 
   pub programs_told : AreTold (unit_texts ds)
-  programs_told =
-      let texts = all_texts (sources_within max_tokens (naming docs) (known_in docs) docs) in
-      told_from 0 all (λ p h. h)
-      (both_known all (all_named texts (known_in docs) (naming docs) 0 docs)
-      (documents_below texts (known_in docs) (naming docs) 0 (length ds) docs (let l = length-map ds (λ (d : OpenDocument). d.data_in) in omega (arith, l))))
-      (all_differ texts (known_in docs) (naming docs) 0 docs)
+  programs_told = texts_told ds once broken_here (no_fault ds)

@@ -53,7 +53,7 @@ module _ (ds : List OpenDocument) where
   abbrev results : List UnitResult
   results = (scoped_work (units_of (read_documents ds)) units (known_in (read_documents ds)) (length units) scoped_before).results
 
-  text_of : (n f : ℕ) (u : UnitText) → At (unit_texts ds) n u → (x : FormText) → At u.forms f x → (w : WorkedForm) (k : IsWritten (read_documents ds) n f w)
+  pub text_of : (n f : ℕ) (u : UnitText) → At (unit_texts ds) n u → (x : FormText) → At u.forms f x → (w : WorkedForm) (k : IsWritten (read_documents ds) n f w)
       → x.tree ≡ tree_of (λ s. s) (placed_in 0 0 (home_of n f k.form).first) k.form.datum
   text_of n f u a x b w k =
       let p = mapped_at (unit_text ds results) units n u a in
@@ -83,7 +83,7 @@ tree_at_home before after r p i q k f g a b unit_to home_unit home_form =
 
 -- ---- where forms go on, and homes do
 
-or_none : (u f : ℕ) (d : Datum) (v g : ℕ) (e : Datum) (r : Renumbering) → r.unit u ≡ v → r.form u f ≡ g → (h i : Option Home) → (is_some h || is_some i) ≡ false
+pub or_none : (u f : ℕ) (d : Datum) (v g : ℕ) (e : Datum) (r : Renumbering) → r.unit u ≡ v → r.form u f ≡ g → (h i : Option Home) → (is_some h || is_some i) ≡ false
     → (r.unit (home_or u f d h).unit ≡ (home_or v g e i).unit) × (r.form (home_or u f d h).unit (home_or u f d h).form ≡ (home_or v g e i).form)
 or_none u f d v g e r a b None None h = (a, b)
 or_none u f d v g e r a b None (Some i) h = let z : true ≡ false = h in absurd cc
@@ -135,7 +135,7 @@ any_behind (x ∷ fs) gs n g h e = go x.included (any_behind fs gs n g h e)
     go true k = refl
     go false k = k
 
-both : (a b : Bool) → (a && b) ≡ true → (a ≡ true) × (b ≡ true)
+pub both : (a b : Bool) → (a && b) ≡ true → (a ≡ true) × (b ≡ true)
 both true true h = (refl, refl)
 both true false h = absurd cc
 both false b h = absurd cc
@@ -173,22 +173,22 @@ paired_homes fs gs qs e q h f g a b included =
     go true m false d k = let z : is_some (Some qs) ≡ false = ap is_some (sym k) in absurd cc
     go false m t d k = absurd cc
 
-module _ (before after : List OpenDocument) (r : Renumbering) (homes : HomesOfUris r before after) where
-  -- the text of a form at its place
-  text_at : (ds : List OpenDocument) (n f : ℕ) (u : UnitText) → At (unit_texts ds) n u → (x : FormText) → At u.forms f x → (y : UnitForm) → IsForm (prepared_of ds) n f y
-      → (x.home.uri ≡ uri_in ds (home_of n f y).unit) × (x.home.number ≡ (home_of n f y).form) × (x.included ≡ is_some y.home)
-  text_at ds n f u a x b y form =
-      let p = mapped_at (unit_text ds (results ds)) (units ds) n u a in
-      let e : p.0 ≡ form.0 = same_at (units ds) n p.0 form.0 p.1 form.1 in
-      let number = unit_number (units_of (read_documents ds)) n p.0 p.1 in
-      let q = texts_at (λ m. uri_at ds (document_of (results ds) m)) p.0.number 0 p.0.forms f x (subst (λ (z : UnitText). At z.forms f x) (sym p.2) b) in
-      let d : q.form ≡ y = same_at form.0.forms f q.form y (subst (λ (z : Prepared). At z.forms f q.form) e q.there) form.2 in
-      let z : 0 + f ≡ f = omega arith in (
-        sym (ap (λ (t : FormText). t.home.uri) q.text) ∙ (λ j. uri_in ds (home_of (number j) (z j) (d j)).unit),
-        sym (ap (λ (t : FormText). t.home.number) q.text) ∙ (λ j. (home_of (number j) (z j) (d j)).form),
-        sym (ap (λ (t : FormText). t.included) q.text) ∙ (λ j. is_some (d j).home),
-      )
+-- the text of a form at its place
+pub text_at : (ds : List OpenDocument) (n f : ℕ) (u : UnitText) → At (unit_texts ds) n u → (x : FormText) → At u.forms f x → (y : UnitForm) → IsForm (prepared_of ds) n f y
+    → (x.home.uri ≡ uri_in ds (home_of n f y).unit) × (x.home.number ≡ (home_of n f y).form) × (x.included ≡ is_some y.home)
+text_at ds n f u a x b y form =
+    let p = mapped_at (unit_text ds (results ds)) (units ds) n u a in
+    let e : p.0 ≡ form.0 = same_at (units ds) n p.0 form.0 p.1 form.1 in
+    let number = unit_number (units_of (read_documents ds)) n p.0 p.1 in
+    let q = texts_at (λ m. uri_at ds (document_of (results ds) m)) p.0.number 0 p.0.forms f x (subst (λ (z : UnitText). At z.forms f x) (sym p.2) b) in
+    let d : q.form ≡ y = same_at form.0.forms f q.form y (subst (λ (z : Prepared). At z.forms f q.form) e q.there) form.2 in
+    let z : 0 + f ≡ f = omega arith in (
+      sym (ap (λ (t : FormText). t.home.uri) q.text) ∙ (λ j. uri_in ds (home_of (number j) (z j) (d j)).unit),
+      sym (ap (λ (t : FormText). t.home.number) q.text) ∙ (λ j. (home_of (number j) (z j) (d j)).form),
+      sym (ap (λ (t : FormText). t.included) q.text) ∙ (λ j. is_some (d j).home),
+    )
 
+module _ (before after : List OpenDocument) (r : Renumbering) (homes : HomesOfUris r before after) where
   pub homes_by_uris : HomesGoOn r (prepared_of before) (prepared_of after) (pairs_between before after)
   homes_by_uris p i q k f g a b included =
       let us = unit_texts before in let vs = unit_texts after in

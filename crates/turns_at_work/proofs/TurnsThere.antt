@@ -38,7 +38,7 @@ use Rattle.turns_at_work.proofs.TurnsAnew.{Worked, WorkedLater, turns_anew}
 outside_told : (w v : Around) → bare_around v ≡ bare_around (around_outside w) → IsAroundOutside w v
 outside_told w v e = record { state = ap (λ (z : Around). z.state) e; known = ap (λ (z : Around). z.known) e; notes = ap (λ (z : Around). z.notes) e }
 
-told_outside : (w v : Around) → IsAroundOutside w v → bare_around v ≡ bare_around (around_outside w)
+pub told_outside : (w v : Around) → IsAroundOutside w v → bare_around v ≡ bare_around (around_outside w)
 told_outside w v h = let a = h.state in let b = h.known in let c = h.notes in λ j. record { state = a j; known = b j; notes = c j }
 
 module _ (w g v : Around) (turns : ℕ) (here : IsAroundOutside g v) (b : Begins w.state) (k : Begins g.state) where
@@ -67,10 +67,10 @@ module _ (all : List Placed) (ps : List Prepared) (known : Known) (n : ℕ) (h :
   abbrev gs : List WorkedForm
   gs = worked_forms known (forms_over (Written p.number) p.number 0 (forms_at_work p)) t
 
-  abbrev There : Around → FormOrKept → Type 0
+  abbrev pub There : Around → FormOrKept → Type 0
   There v x = (g : WorkedForm) → IsIn g gs → g.form ≡ x.form → IsAroundOutside g.around v
 
-  abbrev ThereLater : Around → LeftOrKept → Type 0
+  abbrev pub ThereLater : Around → LeftOrKept → Type 0
   ThereLater v r = (g : WorkedForm) → IsIn g gs → g.form ≡ r.form → IsAroundOutside g.later v
 
   module _ (o : IsProgressOutside a h) (ready : is_ready all ps a.results p ≡ true) (forms : map form_of xs ≡ forms_over (Written p.number) p.number 0 (forms_at_work p)) (k : AllKept (forgetting enough_turns) enough_turns known xs s) where

@@ -1,7 +1,6 @@
 use Rattle.std.proofs.Common.{List, [], ◌∷◌}
 use Rattle.form_laws.specs.Begins.{Each}
-use Rattle.renumbering_laws.specs.Renumbering.{Renumbering}
-use Rattle.carried_forms.specs.Worked.{WorkedForm, WorkedUnit, units_at_work}
+use Rattle.carried_forms.specs.Worked.{WorkedUnit, units_at_work}
 use Rattle.agreeing_numbers.proofs.UnitsAgree.{FormAgrees, asks_same}
 use Rattle.agreeing_numbers.proofs.ProgramsAgree.{program_agrees}
 use Rattle.agreeing_numbers.proofs.laws.agreeing_numbers_ask_alike.Goals as goal

@@ -1,0 +1,4 @@
+//! A law of pairs that are known before forms are worked on. No code stands on it.
+#![tactic(auto)]
+
+pub mod laws;
