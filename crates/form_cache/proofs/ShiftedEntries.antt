@@ -40,11 +40,12 @@ use Rattle.form_parts.specs.declared.items.Left as code_left
 use Rattle.form_parts.specs.declared.items.WaitingUse.{WaitingUse}
 use Rattle.unit_scopes.specs.Kept.{WaitsFor}
 use Rattle.unit_scopes.specs.State.{IsNumbered}
+use Rattle.unit_scopes.specs.declared.scope.Budget.{Budget}
 use Rattle.note_laws.specs.Told.{told}
 use Rattle.question_laws.specs.Noted.{all_noted}
 use Rattle.form_cache.specs.declared.shift.Shift.{Shift}
 use Rattle.form_cache.specs.declared.entries.Entry.{Entry}
-use Rattle.form_cache.specs.Entries.{Editions, IsEntry, IsLeft, AsideFor, RestFor, RestClosed, CountsAt, counted_at, numbered_from}
+use Rattle.form_cache.specs.Entries.{Editions, IsEntry, IsLeft, HasSpaceLeft, AsideFor, RestFor, RestClosed, CountsAt, counted_at, numbered_from}
 use Rattle.form_cache.specs.Shifted.{shifted, binder_shifted, LeftShifts, ExpandedShifts}
 use Rattle.form_cache.proofs.MostNumbers.{AtMost, count_within, set_aside_within}
 use Rattle.form_cache.proofs.Shifts.{Within, PartWithin, PartsWithin, items_stand, items_still, parts_stand, parts_still}
@@ -206,6 +207,10 @@ questions_stay u from to l h =
 
 -- ---- the entry
 
+space_stays : (s : Shift) (b : Budget) (o p : Option code_left.Left) → LeftShifts s o p → HasSpaceLeft b o → HasSpaceLeft b p
+space_stays s b None p shift h = subst (HasSpaceLeft b) (sym shift) tt
+space_stays s b (Some x) p shift h = subst (HasSpaceLeft b) (sym shift.1) h
+
 none_none : {X : Type 0} (R : X → X → Type 0) (xs ys : List X) → AllMatch R xs ys → xs ≡ [] → ys ≡ []
 none_none R xs [] h e = refl
 none_none R [] (y ∷ ys) h e = absurd h
@@ -247,7 +252,7 @@ module _ (work : Work) (region : Region) (e : Editions) (unit : ℕ) (n : ℕ ×
     left_now = left_is s made fits k.aside.before work region unit n.0 x.left left k.aside.pass.left low high h.aside.left left_shifts
 
     aside_now : AsideFor work region e unit n.0 n.1 y k.aside w
-    aside_now = let a = h.aside in record { tree = a.tree; lies = a.lies; left = left_now; declared = a.declared; noted = a.noted; part = a.part; told = a.told }
+    aside_now = let a = h.aside in record { tree = a.tree; lies = a.lies; left = left_now; declared = a.declared; space = space_stays s x.declared.counts x.left left left_shifts a.space; noted = a.noted; part = a.part; told = a.told }
 
     rest_now : (o : Option KeptParts) → RestStands unit n.0 u o → RestFits k.aside o → RestFor work region e unit n.0 x f o u → RestFor work region e unit n.0 y g (option_map (parts_from to) o) u
     rest_now None stands fit r = (none_none (ExpandedShifts s) f.items items items_shift r.0, subst (λ (z : Option code_left.Left). LeftShifts s z left) r.1 left_shifts, r.2)
