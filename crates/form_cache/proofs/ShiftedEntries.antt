@@ -266,13 +266,12 @@ module _ (work : Work) (region : Region) (e : Editions) (unit : ℕ) (n : ℕ ×
         let met = counted_at (last_of c.met c.items) in
         let result = result_shifted s made fits k.aside.before work unit n.0 f g (result_in c.items) met refl refl refl items_shift in_parts r.3 in
         let there = subst (λ (z : Result Parts Broken). IsResult work unit n.0 g z met) (sym (result_moved (bound_moved x.before to) c.items)) result in
-        let last : last_of c.met (map (item_moved (bound_moved c.before to)) c.items) ≡ last_of c.met c.items = last_moved (bound_moved c.before to) c.met c.items in
-        (
+        let last : last_of c.met (map (item_moved (bound_moved c.before to)) c.items) ≡ last_of c.met c.items = last_moved (bound_moved c.before to) c.met c.items in (
           r.0,
           refl,
           subst (IsLeft work region unit n.0 left) moved left_now,
           subst (λ (m : Moment). IsResult work unit n.0 g (result_in (map (item_moved (bound_moved c.before to)) c.items)) (counted_at m)) (sym last)
-          (subst (λ (b : ℕ). IsResult work unit n.0 g (result_in (map (item_moved (bound_moved b to)) c.items)) met) (sym before) there),
+              (subst (λ (b : ℕ). IsResult work unit n.0 g (result_in (map (item_moved (bound_moved b to)) c.items)) met) (sym before) there),
           subst (CountsAt x.counts) (sym last) r.4,
           r.5,
           r.6 ∙ ap (λ qs. map (told u) (all_noted u qs)) (sym (questions_stay u c.before to c.left stands.2)),
