@@ -1,5 +1,5 @@
 -- What a form that is declared again leaves in its unit, or one that isn't.
-use Rattle.std.proofs.Common.{◌≡◌, ℕ, ◌<◌, List, [], ◌∷◌, ◌++◌, length, reverse, Bool, true, false, refl, sym, ap, ◌∙◌, subst}
+use Rattle.std.proofs.Common.{ℕ, ◌<◌, List, ◌++◌, length, reverse, sym, ap, ◌∙◌, subst}
 use Rattle.std.proofs.lemmas.List.{reverse-reverse}
 use Rattle.std.specs.FinMap as map_of
 use Rattle.scheme_model.specs.Order.{Note}
@@ -7,15 +7,17 @@ use Rattle.scheme_model.specs.ScopedExpansion.{Frames, FramedIdent, ScopedState}
 use Rattle.syntax_tree.specs.declared.trees.Work.{Work}
 use Rattle.scope_env.specs.Environment.{Environment}
 use Rattle.unit_scopes.specs.Kept.{NotesFor}
+use Rattle.unit_scopes.specs.Outcomes.{KeepsNumbers}
 use Rattle.unit_scopes.specs.State.{Rests}
 use Rattle.unit_scopes.specs.declared.asked.Asked.{Asked}
 use Rattle.unit_scopes.specs.declared.scope.UnitScope.{UnitScope}
-use Rattle.declared_parts.specs.Again.{Again, moment_of, own_notes, noted_of, state_after, notes_after, CanDeclare, StandsAfter}
-use Rattle.declared_parts.specs.Going.{GoesOn, HasGone}
+use Rattle.declared_parts.specs.Again.{moment_of, own_notes, state_after, notes_after, CanDeclare, StandsAfter}
+use Rattle.declared_parts.specs.Going.{GoesOn}
 use Rattle.declared_parts.specs.Undone.{IsBack}
 use Rattle.declared_parts.specs.declared.again.Going.{Going}
 use Rattle.declared_parts.specs.declared.parts.DeclaredPart.{DeclaredPart}
 use Rattle.declared_parts.proofs.EndGoing.{whole}
+use Rattle.declared_parts.proofs.NumbersKept.{back_numbers, defined_numbers}
 use Rattle.declared_parts.proofs.StartGoing.{own_after, rests_there, tells_there}
 use Rattle.declared_parts.proofs.UndoneLaws.{stands_back, editions_back}
 
@@ -24,6 +26,9 @@ with_asked u a = record u { asked = a }
 
 rests_asked : (work : Work) (u : UnitScope) (a : Asked) (ls : List Frames) (s : ScopedState) → Rests work u ls s → Rests work (with_asked u a) ls s
 rests_asked work u a ls s h = record { unit = h.unit; program = h.program; env = h.env; macros = h.macros; root = h.root; own = h.own; begun = h.begun; defined = h.defined; known = h.known; count = h.count }
+
+numbers_asked : (u v : UnitScope) (a : Asked) → KeepsNumbers u v → KeepsNumbers u (with_asked v a)
+numbers_asked u v a h = record { defined = h.defined; numbers = h.numbers }
 
 module _ (work : Work) (old : UnitScope) (number : ℕ) (part : DeclaredPart) (can : CanDeclare work old number part) where
   -- all its definitions are made, and its notes are added
@@ -42,6 +47,7 @@ module _ (work : Work) (old : UnitScope) (number : ℕ) (part : DeclaredPart) (c
         tells = tells_there work old number part can u g (length (moment_of can.again).table) h (moment_of can.again) same.0 same.1;
         libraries = h.rest.libraries;
         roots = h.roots;
+        numbers = numbers_asked old u a (defined_numbers old u (reverse g.made.items) h.back);
       }
 
   -- they are taken back
@@ -54,4 +60,5 @@ module _ (work : Work) (old : UnitScope) (number : ℕ) (part : DeclaredPart) (c
     tells = editions_back work old v h can.layout can.again.now.state work.symbols can.editions can.tells;
     libraries = h.rest.libraries;
     roots = ap (λ (e : Environment). e.roots) h.env;
+    numbers = back_numbers old v h;
   }

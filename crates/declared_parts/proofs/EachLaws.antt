@@ -1,5 +1,5 @@
 -- What holds of each of a list holds of all that it contains.
-use Rattle.std.proofs.Common.{◌≡◌, ℕ, zero, suc, ◌<◌, List, [], ◌∷◌, ◌++◌, map, length, Contains, refl, ap, subst, arith}
+use Rattle.std.proofs.Common.{◌≡◌, zero, suc, ◌<◌, List, [], ◌∷◌, ◌++◌, map, length, Contains, refl, ap, subst, arith}
 use Rattle.form_laws.specs.Begins.{Each}
 use Rattle.note_laws.proofs.TestedNotes.{later_contained}
 

@@ -1,5 +1,5 @@
 -- A macro of the open unit has another edition: it is the same macro.
-use Rattle.std.proofs.Common.{◌≡◌, ◌⊎◌, ℕ, ◌<◌, List, [], length, Bool, true, false, Option, Some, None, nat_eq, refl, sym, ap, ◌∙◌, subst, inl, inr, eqb-true, eq-eqb}
+use Rattle.std.proofs.Common.{◌≡◌, ◌⊎◌, ℕ, List, [], Bool, true, false, Option, Some, None, nat_eq, refl, sym, ap, ◌∙◌, subst, inl, inr, eqb-true, eq-eqb}
 use Rattle.std.specs.Prelude.{◌&&◌, if◌then◌else◌}
 use Rattle.std.proofs.lemmas.Bool.{and_parts}
 use Rattle.scheme_model.specs.Ident.{Ident as Identifier}
@@ -12,10 +12,9 @@ use Rattle.syntax_tree.specs.Names.{Names}
 use Rattle.syntax_tree.specs.declared.meaning.Meaning as code_meaning
 use Rattle.syntax_tree.specs.declared.meaning.Meaning.TheVariants as meanings
 use Rattle.syntax_tree.specs.declared.trees.Work.{Work}
-use Rattle.equal_trees.specs.Told.{TellsRules}
 use Rattle.unit_scopes.specs.Editions.{EditionsTell}
 use Rattle.unit_scopes.specs.Macros.{macro_in, edition_of, edition_in, numbered, same_key}
-use Rattle.unit_scopes.specs.State.{IsMacro, IsMacroIfAny, MacrosStand}
+use Rattle.unit_scopes.specs.State.{IsMacroIfAny, MacrosStand}
 use Rattle.unit_scopes.specs.Units.{UnitStands}
 use Rattle.unit_scopes.specs.declared.macros.Macro.{Macro}
 use Rattle.unit_scopes.specs.declared.macros.Macros.{Macros}

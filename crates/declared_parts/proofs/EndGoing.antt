@@ -1,19 +1,18 @@
 -- All notes of a form tell what they told, and all its definitions are made again; or one doesn't.
 use Rattle.std.proofs.Common.{drop, take, get_or, Ok}
-use Rattle.std.proofs.Common.{◌≡◌, ◌⊎◌, inl, inr, ℕ, zero, suc, ◌+◌, ◌<◌, ◌≤◌, List, [], ◌∷◌, ◌++◌, map, length, Bool, true, false, Option, Some, None, Contains, length-append, refl, sym, ap, ◌∙◌, subst, arith}
+use Rattle.std.proofs.Common.{◌≡◌, inl, inr, ℕ, zero, suc, ◌+◌, ◌<◌, ◌≤◌, List, [], ◌∷◌, ◌++◌, map, length, true, false, None, Contains, length-append, refl, sym, ap, ◌∙◌, subst, arith}
 use Rattle.std.specs.List.{All}
 use Rattle.std.proofs.lemmas.List.{at_drop_more, drop_all, take_all}
 use Rattle.std.proofs.lemmas.List.Elements.{All-more, All-contains, Contains-get_or}
-use Rattle.scheme_model.specs.Ident.{Ident}
-use Rattle.scheme_model.specs.Questions.{Moment, Around, found, Outcome, Stands, Redefines, StoodBefore, Question, LooksUp, UsesRules, Compares, IsAssigned, Requires, Defines, answer, unit_outcome}
+use Rattle.scheme_model.specs.Questions.{Moment, Around, found, Outcome, Stands, Question, LooksUp, UsesRules, Compares, IsAssigned, Requires, Defines, answer, unit_outcome}
 use Rattle.scheme_model.specs.Substitution.{Table}
 use Rattle.scheme_model.specs.ScopedExpansion.{ScopedMacro}
-use Rattle.form_laws.specs.Begins.{Each}
 use Rattle.forgotten_locals.specs.Outside.{macros_outside}
 use Rattle.syntax_tree.specs.Names.{Names}
 use Rattle.syntax_tree.specs.declared.trees.Work.{Work}
-use Rattle.form_notes.specs.Noted.{Noted, Since}
-use Rattle.form_notes.specs.Standing.{IsNote, IsQuestion, IsAsked, HaveNotes, RisesTo, stood, made_by, outcome_as}
+use Rattle.core_tree.specs.Names.{AllMatch}
+use Rattle.form_notes.specs.Noted.{Since}
+use Rattle.form_notes.specs.Standing.{IsNote, IsQuestion, IsAsked, HaveNotes, RisesTo, stood}
 use Rattle.form_notes.specs.declared.notes.Note as code_note
 use Rattle.form_notes.specs.declared.notes.Outcome as code_outcome
 use Rattle.form_notes.specs.declared.notes.Outcome.TheVariants as outcomes
@@ -21,19 +20,19 @@ use Rattle.form_notes.specs.declared.notes.Question as code_question
 use Rattle.form_notes.specs.declared.notes.Question.TheVariants as code
 use Rattle.unit_scopes.specs.declared.scope.UnitScope.{UnitScope}
 use Rattle.note_laws.specs.Moments.{IsBefore, IsEnd}
-use Rattle.note_laws.specs.Told.{bare_question, bare_noted, told, since_of}
-use Rattle.note_laws.specs.Tested.{is_definition}
+use Rattle.note_laws.specs.Told.{bare_question, told, since_of}
 use Rattle.note_laws.proofs.BareNotes.{notes_bare}
-use Rattle.note_laws.proofs.TestedNotes.{definition_bare}
-use Rattle.declared_parts.specs.Again.{Again, moment_of, own_notes, noted_of, AreSameLater, SameLater, CanDeclare}
-use Rattle.declared_parts.specs.Going.{Tells, TellsSame, TellsOther, definition_in, GoesOn, KeptFrom, HasGoneBy, HasGone}
+use Rattle.declared_parts.specs.Again.{moment_of, own_notes, noted_of, AreSameLater, SameLater, CanDeclare}
+use Rattle.declared_parts.specs.Going.{Tells, TellsSame, TellsOther, GoesOn, KeptFrom, HasGoneBy, HasGone}
+use Rattle.declared_parts.specs.Parts.{IsKeptMacro}
 use Rattle.declared_parts.specs.declared.again.Going.{Going}
 use Rattle.declared_parts.specs.declared.parts.DeclaredPart.{DeclaredPart}
 use Rattle.declared_parts.proofs.EachLaws.{each_contained, contained_each, contained_map, map_contained}
 use Rattle.declared_parts.proofs.FormFacts.{definitions, last, as_many}
 use Rattle.declared_parts.proofs.LaterNotes.{none_is_told}
 use Rattle.declared_parts.proofs.NextMoments.{IfDefinition, HasLast, IsLast}
-use Rattle.declared_parts.proofs.SameEnds.{IsOf, told_definition, same_code}
+use Rattle.declared_parts.proofs.NumbersKept.{all_editions}
+use Rattle.declared_parts.proofs.SameEnds.{told_definition, same_code}
 
 -- ---- definitions that are made along the notes
 
@@ -245,6 +244,10 @@ module _ (work : Work) (old : UnitScope) (number : ℕ) (part : DeclaredPart) (c
       pub ends_so_far : (v : UnitScope) (e : Going) → HasGoneBy work old number part can x (drop (k + 1) part.notes) s.made v e (Ok false) → HasGone work old number part can v e (Ok false)
       ends_so_far v e h = (one_other work old number part can x there h.0, (s.made, h.1))
 
+  all_matched : {X Y : Type 0} (P : X → Y → Type 0) (xs : List X) → AllMatch P xs [] → xs ≡ []
+  all_matched P [] h = refl
+  all_matched P (x ∷ xs) h = absurd h
+
   -- all
   pub all_so_far : (k : ℕ) (u : UnitScope) (g : Going) → length part.notes ≤ k → SoFar work old number part can u g k → HasGone work old number part can u g (Ok true)
   all_so_far k u g end s =
@@ -253,4 +256,5 @@ module _ (work : Work) (old : UnitScope) (number : ℕ) (part : DeclaredPart) (c
       let whole : take k part.notes ≡ part.notes = take_all k part.notes end in (
         all_same work old number part can (λ x c. All-contains (TellsSame work old number part can) part.notes x (subst (All (TellsSame work old number part can)) whole s.same) c),
         subst (GoesOn work old number part can u g) (as_many_made work old number part can u g s.made s.goes made) s.goes,
+        all_editions part u g.macros s.goes.given (all_matched (IsKeptMacro work (since_of can.again.before can.editions) can.kept.noted) (drop g.macros part.macros) (subst (KeptFrom work old number part can g.macros) none s.kept)),
       )

@@ -1,5 +1,5 @@
 -- A definition is refused by the form's own notes, or by those of its unit before the form.
-use Rattle.std.proofs.Common.{◌≡◌, List, [], ◌∷◌, ◌++◌, Bool, true, false, refl, sym, ap, ◌∙◌}
+use Rattle.std.proofs.Common.{◌≡◌, List, [], ◌∷◌, ◌++◌, Bool, true, false, refl, ap, ◌∙◌}
 use Rattle.std.specs.Prelude.{◌||◌}
 use Rattle.scheme_model.specs.Substitution.{any}
 use Rattle.scheme_model.specs.Questions.{Outcome, Stands, Redefines, StoodBefore, outcome_by}

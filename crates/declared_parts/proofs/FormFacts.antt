@@ -1,16 +1,15 @@
 -- What is known of the noted questions of a form that is declared again.
-use Rattle.std.proofs.Common.{◌≡◌, ◌⊎◌, inl, inr, ℕ, suc, List, [], ◌∷◌, length, Contains, refl, sym, ap, ◌∙◌, subst}
-use Rattle.scheme_model.specs.Ident.{Ident}
+use Rattle.std.proofs.Common.{◌≡◌, List, [], length, refl, sym, subst}
 use Rattle.scheme_model.specs.Substitution.{Table}
 use Rattle.scheme_model.specs.Questions.{Moment, Around, Question}
-use Rattle.scheme_model.specs.FormsAlike.{set_aside_asking, questions_of_pass}
+use Rattle.scheme_model.specs.FormsAlike.{questions_of_pass}
 use Rattle.form_laws.specs.Begins.{Each}
 use Rattle.form_laws.proofs.OwnStates.{entry_given}
 use Rattle.question_laws.proofs.NotedFirst.{all_or, IsFirstOr}
 use Rattle.forgotten_locals.specs.Outside.{macros_outside}
 use Rattle.note_laws.specs.Moments.{IsEnd, IsBefore}
 use Rattle.note_laws.proofs.MomentsGrow.{pass_grows, noted_before, moments_told}
-use Rattle.declared_again.specs.Endings.{AtRoot, Made, MadeAtEach, MadeInOrder, endings, macros_made}
+use Rattle.declared_again.specs.Endings.{Made, MadeAtEach, endings, macros_made}
 use Rattle.declared_again.proofs.EndingSides.{made_by_then}
 use Rattle.declared_again.proofs.OwnNotes.{made_in_order}
 use Rattle.declared_again.proofs.RootMoments.{stays_at_root}

@@ -1,44 +1,36 @@
 -- The next definition of a form that is declared again: what a note of it tells, and that all goes on behind it.
-use Rattle.std.proofs.Common.{◌≡◌, ℕ, zero, suc, ◌+◌, ◌<◌, List, [], ◌∷◌, ◌++◌, map, length, slice_get, drop, filter, Bool, true, false, cond, Option, Some, None, Contains, refl, sym, ap, ◌∙◌, subst, arith}
-use Rattle.scheme_model.specs.Ident.{Ident}
-use Rattle.scheme_model.specs.ExpansionFaults.{Named}
+use Rattle.std.proofs.Common.{◌≡◌, ℕ, zero, suc, ◌+◌, List, [], ◌∷◌, ◌++◌, slice_get, drop, true, cond, Option, Some, None, refl, sym, ap, ◌∙◌, subst, arith}
 use Rattle.scheme_model.specs.Meaning.{Global}
-use Rattle.scheme_model.specs.RulesShape.{Rules}
 use Rattle.scheme_model.specs.Order.{Note, is_some}
-use Rattle.scheme_model.specs.Substitution.{Defined, Table}
-use Rattle.scheme_model.specs.ScopedExpansion.{Frames, FramedIdent, ScopedMacro, is_defined, macro_added}
-use Rattle.scheme_model.specs.Questions.{Moment, Around, found, Outcome, Stands, Redefines, StoodBefore, outcome_by, unit_outcome, Question, LooksUp, UsesRules, Compares, IsAssigned, Requires, Defines, answer, SameAnswer, Ends, Answer}
-use Rattle.scheme_model.specs.FormsAlike.{bare_note}
+use Rattle.scheme_model.specs.ScopedExpansion.{Frames, FramedIdent, is_defined, macro_added}
+use Rattle.scheme_model.specs.Questions.{Moment, Around, found, Outcome, Stands, unit_outcome, Question, answer, Ends}
 use Rattle.form_laws.specs.Begins.{Each}
 use Rattle.forgotten_locals.specs.Outside.{macros_outside}
-use Rattle.syntax_tree.specs.Names.{Names}
 use Rattle.syntax_tree.specs.declared.trees.Work.{Work}
-use Rattle.core_forms.specs.Parts.{IsName}
 use Rattle.core_tree.specs.Names.{AllMatch}
-use Rattle.form_notes.specs.Noted.{Noted, Since}
-use Rattle.form_notes.specs.Standing.{IsNote, IsQuestion, IsDefinitionOf, HaveNotes, outcome_as, made_by, stood}
+use Rattle.form_notes.specs.Noted.{Since}
+use Rattle.form_notes.specs.Standing.{outcome_as}
 use Rattle.form_notes.specs.declared.notes.Definition.{Definition}
 use Rattle.form_notes.specs.declared.notes.Note as code_note
 use Rattle.form_notes.specs.declared.notes.Outcome as code_outcome
 use Rattle.form_notes.specs.declared.notes.Outcome.TheVariants as outcomes
-use Rattle.form_notes.specs.declared.notes.Question.TheVariants as code
 use Rattle.unit_scopes.specs.Defining.{outcome_here}
 use Rattle.unit_scopes.specs.declared.scope.UnitScope.{UnitScope}
-use Rattle.note_laws.specs.Told.{bare_question, bare_noted, told, since_of}
+use Rattle.note_laws.specs.Told.{since_of}
 use Rattle.note_laws.specs.Moments.{IsBefore}
 use Rattle.note_laws.specs.Tested.{is_definition}
 use Rattle.declared_again.specs.Endings.{IsEarlier, NoteAtRoot}
-use Rattle.declared_parts.specs.Again.{Again, moment_of, own_notes, noted_of, SameLater, CanDeclare}
-use Rattle.declared_parts.specs.Going.{Tells, TellsSame, TellsOther, note_of, name_of, settled, notes_first, GoesOn, HasMacro, IsNext, KeptFrom}
-use Rattle.declared_parts.specs.Parts.{OwnNoteFor, IsKeptMacro, keyword_if, keyword_made, keyword_notes, rules_defined}
+use Rattle.declared_parts.specs.Again.{moment_of, own_notes, noted_of, SameLater, CanDeclare}
+use Rattle.declared_parts.specs.Going.{Tells, note_of, settled, GoesOn, HasMacro, IsNext, KeptFrom}
+use Rattle.declared_parts.specs.Parts.{IsKeptMacro, keyword_made, keyword_notes}
 use Rattle.declared_parts.specs.declared.again.Going.{Going}
 use Rattle.declared_parts.specs.declared.parts.DeclaredPart.{DeclaredPart}
 use Rattle.declared_parts.specs.declared.parts.KeptMacro.{KeptMacro}
-use Rattle.declared_parts.proofs.EachLaws.{each_contained, each_both, each_behind, contained_map, map_contained}
+use Rattle.declared_parts.proofs.EachLaws.{each_contained, each_both, each_behind}
 use Rattle.declared_parts.proofs.FormFacts.{befores, definitions, as_many}
 use Rattle.declared_parts.proofs.NextMoments.{IfDefinition, IsDefinitionIn, found_macros}
-use Rattle.declared_parts.proofs.OwnLaws.{own_root, unit_root, first_earlier, earlier_few}
-use Rattle.declared_parts.proofs.SameEnds.{IsOf, ended, told_definition, same_code, ends_here}
+use Rattle.declared_parts.proofs.OwnLaws.{own_root, unit_root}
+use Rattle.declared_parts.proofs.SameEnds.{IsOf, ended, told_definition, ends_here}
 use Rattle.unit_scopes.proofs.MadeLaws.{stands_so}
 
 -- ---- macros that are left
@@ -141,8 +133,9 @@ module _ (work : Work) (old : UnitScope) (number : ℕ) (part : DeclaredPart) (c
     -- ---- it is the next one
 
     pub is_next : (q : Moment × Question) (t : Tells work old number part can (note_of d outcomes.Stands made) q) → let f = of outcomes.Stands q t in outcome_here None f.name f.rules [] (f.notes ++ v.notes) (settled v h.moment) ≡ Stands →
-        HasMacro work can.editions (slice_get part.macros g.macros) d.keyword f.rules → IsNext work can.again can.editions h.moment d (slice_get part.macros g.macros)
-    is_next q t stands macro =
+        HasMacro work can.editions (slice_get part.macros g.macros) d.keyword f.rules → ((k : KeptMacro) → slice_get part.macros g.macros ≡ Some k → d.keyword ≡ true → k.ident ≡ d.ident) →
+        IsNext work can.again can.editions h.moment d (slice_get part.macros g.macros)
+    is_next q t stands macro named =
         let f = of outcomes.Stands q t in let e = ending outcomes.Stands q t in let m = then_made outcomes.Stands q t in
         let unit = can.comes.same.form.unit in let form = can.comes.same.form.form in
         record {
@@ -151,6 +144,7 @@ module _ (work : Work) (old : UnitScope) (number : ℕ) (part : DeclaredPart) (c
           is = (f.is.name, f.is.place);
           keyword = f.is.keyword;
           macro = macro;
+          named = named;
           new = (stands_so _ (is_defined (settled v h.moment) None f.name.name) stands).1;
           after = found w None f.name f.rules f.frames q.0;
           before = e.next f.ends;

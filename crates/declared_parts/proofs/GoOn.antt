@@ -1,18 +1,18 @@
 -- A form's next definition is made: all that was known where it goes on is known behind it.
-use Rattle.std.proofs.Common.{◌≡◌, ℕ, zero, suc, ◌+◌, ◌<◌, ◌≤◌, List, [], ◌∷◌, ◌++◌, length, reverse, slice_get, Bool, true, false, cond, Option, Some, None, refl, sym, ap, ◌∙◌, subst, arith}
+use Rattle.std.proofs.Common.{◌≡◌, ℕ, ◌+◌, ◌<◌, ◌≤◌, List, [], ◌∷◌, ◌++◌, length, reverse, slice_get, Bool, true, false, cond, Option, Some, None, refl, sym, ap, ◌∙◌, subst, arith}
 use Rattle.std.specs.Prelude.{if◌then◌else◌, ◌&&◌, nat_eq}
 use Rattle.std.proofs.Common.{eqb-true}
 use Rattle.std.specs.Prelude.{is_some as is_kept}
-use Rattle.std.specs.BTreeMap.{BTreeMap, get, btree_map_len}
+use Rattle.std.specs.BTreeMap.{get, btree_map_len}
 use Rattle.std.specs.Ordering.{nat_cmp, is_eq}
 use Rattle.std.specs.Option.{option_map}
 use Rattle.std.proofs.lemmas.List.{reverse-append}
-use Rattle.std.proofs.lemmas.Option.{slice_get_within, same_Some}
+use Rattle.std.proofs.lemmas.Option.{slice_get_within}
 use Rattle.scheme_model.specs.Ident.{Ident}
 use Rattle.scheme_model.specs.ExpansionFaults.{Named}
 use Rattle.scheme_model.specs.Meaning as model
 use Rattle.scheme_model.specs.RulesShape.{Rules}
-use Rattle.scheme_model.specs.Order.{Note, Transformer, is_some}
+use Rattle.scheme_model.specs.Order.{Transformer, is_some}
 use Rattle.scheme_model.specs.Questions.{Moment, Around}
 use Rattle.scheme_model.specs.Substitution.{Defined, Table, defined_in}
 use Rattle.scheme_model.specs.ScopedExpansion.{Frames, ScopedState, macro_at, definition_added, is_defined}
@@ -24,11 +24,10 @@ use Rattle.syntax_tree.specs.declared.trees.Work.{Work}
 use Rattle.scope_env.specs.Environment.{Environment, bound_in, with_bound}
 use Rattle.scope_env.specs.Resolved.{bound_at}
 use Rattle.scope_env.proofs.Places.{length-changed_at}
-use Rattle.core_forms.specs.Parts.{IsName}
 use Rattle.form_notes.specs.declared.notes.Definition.{Definition}
-use Rattle.unit_scopes.specs.Defining.{IsKept, KeepsAny, IsPlaced, Places, next_here}
+use Rattle.unit_scopes.specs.Defining.{KeepsAny, IsPlaced}
 use Rattle.unit_scopes.specs.Editions.{EditionsTell}
-use Rattle.unit_scopes.specs.Macros.{macro_in, same_key, Keeps}
+use Rattle.unit_scopes.specs.Macros.{macro_in, same_key}
 use Rattle.unit_scopes.specs.State.{IsMacroIfAny, Stands, most_locals}
 use Rattle.unit_scopes.specs.Stepped.{with_macros, with_told}
 use Rattle.unit_scopes.specs.declared.asked.Asked.{Asked}
@@ -36,13 +35,14 @@ use Rattle.unit_scopes.specs.declared.macros.Macro.{Macro}
 use Rattle.unit_scopes.specs.declared.macros.Macros.{Macros}
 use Rattle.unit_scopes.specs.declared.scope.UnitScope.{UnitScope}
 use Rattle.declared_parts.specs.Again.{Again, own_notes, CanDeclare}
-use Rattle.declared_parts.specs.Going.{settled, own_spot, name_of, AreMacrosDefined, OwnSoFar, HasMacro, IsNext, IsNextMacro, GoesOn}
+use Rattle.declared_parts.specs.Going.{settled, own_spot, name_of, AreMacrosDefined, OwnSoFar, HasMacro, HasMacros, IsNext, IsNextMacro, GoesOn}
 use Rattle.declared_parts.specs.Undone.{SameRest, is_it, Defines, AreDefined}
 use Rattle.declared_parts.specs.declared.again.Going.{Going}
 use Rattle.declared_parts.specs.declared.parts.DeclaredPart.{DeclaredPart}
 use Rattle.declared_parts.specs.declared.parts.KeptMacro.{KeptMacro}
 use Rattle.declared_parts.specs.declared.undoing.Made.{Made}
-use Rattle.declared_parts.proofs.MadeNext.{HasEdition, next_settled, closed_more, editions_more, kept_of}
+use Rattle.declared_parts.proofs.MadeNext.{next_settled, closed_more, editions_more, kept_of}
+use Rattle.declared_parts.proofs.NumbersKept.{macros_more}
 use Rattle.declared_parts.proofs.UndoneLaws.{rest_on}
 
 no_definition : {A : Type 0} (o : Option A) → is_some o ≡ false → o ≡ None
@@ -141,9 +141,9 @@ module _ (work : Work) (apart : AreToldApart work.symbols.idents) (told : AreTol
   around = can.again.now
 
   pub goes_next : (next : IsNext work can.again can.editions h.moment d (slice_get part.macros g.macros)) → IsNextMacro u.root (slice_get part.macros g.macros) d.keyword kept → IsPlaced u v (own_spot u) (name_of d) kept true →
-      Stands work v can.layout (definition_added None next.name next.rules [] (settled around h.moment)) → g2.own ≡ g.own → g2.asked ≡ g.asked → (before : Option Meaning) → before ≡ bound_at u.env u.root d.ident →
+      Stands work v can.layout (definition_added None next.name next.rules [] (settled around h.moment)) → g2.own ≡ g.own → g2.asked ≡ g.asked → g2.macros ≡ (if d.keyword then g.macros + 1 else g.macros) → (before : Option Meaning) → before ≡ bound_at u.env u.root d.ident →
       g2.made.items ≡ g.made.items ++ (record { ident = d.ident; before = before; keyword = d.keyword }) ∷ [] → GoesOn work old number part can v g2 (made + 1)
-  goes_next next is_macro placed stands own asked before bound items =
+  goes_next next is_macro placed stands own asked macros before bound items =
       let s = settled around h.moment in
       let same = next_settled around h.moment next.after next.name next.rules next.table next.macros in
       let rest = placed_rest u v d kept placed in
@@ -167,6 +167,7 @@ module _ (work : Work) (apart : AreToldApart work.symbols.idents) (told : AreTol
         scopes = ap (λ (e : Environment). length e.scopes) env ∙ (length-changed_at (bound_in d.ident (meanings.Global u.unit d.ident)) u.env.scopes u.root ∙ h.scopes);
         own = subst (λ (n : ℕ). OwnSoFar work can.layout (own_notes can.again) g2.own n) (sym asked) (subst (λ (a : Asked). OwnSoFar work can.layout (own_notes can.again) a g.asked) (sym own) h.own);
         back = subst (AreDefined old v) (sym (ap reverse items ∙ reverse-append g.made.items (one ∷ []))) (u, h.back, x);
+        given = subst (HasMacros v part.macros) (sym macros) (macros_more u v one x part.macros g.macros u.root kept placed.macros h.given next.named d.keyword refl is_macro);
       }
 
 -- ---- where it can be made

@@ -1,10 +1,9 @@
 -- A note that is no definition's, where a form is declared again: it is asked where the form is, and nothing is made.
-use Rattle.std.proofs.Common.{◌≡◌, ◌↔◌, ◌⊎◌, inl, inr, IsTrue, ℕ, zero, suc, ◌+◌, List, [], ◌∷◌, length, Bool, true, false, Option, Some, None, Ok, Contains, refl, sym, ap, ◌∙◌, subst, arith}
+use Rattle.std.proofs.Common.{◌≡◌, ◌↔◌, ◌⊎◌, inl, inr, IsTrue, ℕ, zero, suc, ◌+◌, List, ◌∷◌, length, Bool, true, false, Option, Some, None, Ok, refl, sym, ap, ◌∙◌, subst, arith}
 use Rattle.scheme_model.specs.Questions.{Moment, Around, Question, answer}
 use Rattle.scheme_model.specs.FormsAlike.{again}
 use Rattle.forgotten_locals.specs.Outside.{macros_outside, outside}
 use Rattle.question_laws.proofs.NotedFirst.{IsFirstOr}
-use Rattle.syntax_tree.specs.Names.{Names}
 use Rattle.syntax_tree.specs.declared.trees.Work.{Work}
 use Rattle.feature_requirements.specs.Judged.{Knows}
 use Rattle.form_notes.specs.Noted.{Noted, Since}
@@ -19,7 +18,7 @@ use Rattle.note_answers.specs.Answered.{answer_now, CanAsk, IsAskedOutside, Keep
 use Rattle.note_laws.specs.Moments.{IsBefore}
 use Rattle.note_laws.specs.Told.{bare_question, told, since_of}
 use Rattle.note_laws.specs.Tested.{is_definition}
-use Rattle.declared_parts.specs.Again.{Again, moment_of, noted_of, SameLater, CanDeclare}
+use Rattle.declared_parts.specs.Again.{moment_of, noted_of, SameLater, CanDeclare}
 use Rattle.declared_parts.specs.Going.{Tells, TellsSame, TellsOther, definition_in, note_of, GoesOn, KeptFrom, HasGoneBy}
 use Rattle.declared_parts.specs.Parts.{keyword_made}
 use Rattle.declared_parts.specs.declared.again.Going.{Going}
@@ -27,7 +26,7 @@ use Rattle.declared_parts.specs.declared.parts.DeclaredPart.{DeclaredPart}
 use Rattle.declared_parts.proofs.EachLaws.{each_contained}
 use Rattle.declared_parts.proofs.FormFacts.{befores, firsts, as_many}
 use Rattle.declared_parts.proofs.GoNext.{kept_past}
-use Rattle.declared_parts.proofs.LaterNotes.{there, none_is_told, later_looks, asked_outside, keeps_edition, later_same, later_other, first_same}
+use Rattle.declared_parts.proofs.LaterNotes.{none_is_told, later_looks, asked_outside, keeps_edition, later_same, later_other, first_same}
 use Rattle.declared_parts.proofs.StartGoing.{rests_there, tells_there}
 
 -- ---- what the question of a note tells

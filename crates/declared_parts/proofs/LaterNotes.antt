@@ -1,10 +1,10 @@
 -- A note that is no definition's: behind definitions of the form it is a look-up or a comparison, which is asked where these are made again;
 -- behind none it is asked when the form begins.
-use Rattle.std.proofs.Common.{◌≡◌, ◌↔◌, ◌⊎◌, inl, inr, IsTrue, ℕ, suc, List, [], ◌∷◌, length, Bool, true, false, Option, Some, None, Contains, refl, sym, ap, ◌∙◌, subst, arith}
+use Rattle.std.proofs.Common.{◌≡◌, inl, inr, suc, [], ◌∷◌, length, true, false, None, refl, sym, ap, ◌∙◌, subst, arith}
 use Rattle.std.specs.Prelude.{◌||◌}
 use Rattle.scheme_model.specs.Ident.{Ident, Written, Inserted}
 use Rattle.scheme_model.specs.Substitution.{Table}
-use Rattle.scheme_model.specs.Questions.{Moment, Around, Question, LooksUp, UsesRules, Compares, IsAssigned, Requires, Defines, answer, SameAnswer}
+use Rattle.scheme_model.specs.Questions.{Moment, Around, Question, LooksUp, UsesRules, Compares, IsAssigned, Requires, Defines, answer}
 use Rattle.scheme_model.specs.FormsAlike.{start, again}
 use Rattle.form_laws.proofs.OwnStates.{entry_given}
 use Rattle.forgotten_locals.specs.Outside.{outside}
@@ -13,13 +13,12 @@ use Rattle.question_laws.proofs.NotedFirst.{IsFirstOr}
 use Rattle.syntax_tree.specs.Names.{Names}
 use Rattle.syntax_tree.specs.declared.trees.Work.{Work}
 use Rattle.form_notes.specs.Noted.{Since}
-use Rattle.form_notes.specs.Standing.{IsNote, IsQuestion}
-use Rattle.form_notes.specs.declared.notes.Note as code_note
+use Rattle.form_notes.specs.Standing.{IsQuestion}
 use Rattle.form_notes.specs.declared.notes.Question as code_question
 use Rattle.form_notes.specs.declared.notes.Question.TheVariants as code
 use Rattle.note_answers.specs.Answered.{answer_now, IsAskedOutside, KeepsEdition}
 use Rattle.note_laws.specs.SameRoots.{NoLocalEntry, IsOfRoot}
-use Rattle.note_laws.specs.Told.{bare_question, told}
+use Rattle.note_laws.specs.Told.{bare_question}
 use Rattle.note_laws.specs.Tested.{is_definition}
 use Rattle.note_laws.proofs.BehindNotes.{answers_behind}
 use Rattle.note_laws.proofs.TestedNotes.{answer_bare, definition_bare}

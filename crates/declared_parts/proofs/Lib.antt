@@ -12,10 +12,12 @@ pub mod OwnLaws  -- A form's own notes, in the unit's own scope
 pub mod FormFacts  -- What is known of the noted questions of a form that is declared again
 pub mod GoNext  -- The next definition of a form that is declared again
 pub mod EndsLaws  -- A definition is refused by the form's own notes, or by those of its unit before the form
-pub mod GoOn  -- A form's next definition is made
 pub mod Stepping  -- A note of a definition, where a form is declared again
-pub mod EndGoing  -- All notes of a form tell what they told, and all its definitions are made again; or one doesn't
 pub mod LaterGoing  -- A note that is no definition's, where a form is declared again
-pub mod DoneLaws  -- What a form that is declared again leaves in its unit, or one that isn't
 pub mod StoodMacros  -- A definition that stood as a keyword's is that of a macro, whatever stood behind it
+pub mod NotedMacros  -- A macro that a form noted to be defined is there behind the form
 pub mod EditionLaws  -- A macro of the open unit has another edition
+pub mod NumbersKept  -- Definitions that are made again leave the editions of macros that stood, and give those of the form their own
+pub mod GoOn  -- A form's next definition is made
+pub mod EndGoing  -- All notes of a form tell what they told, and all its definitions are made again; or one doesn't
+pub mod DoneLaws  -- What a form that is declared again leaves in its unit, or one that isn't

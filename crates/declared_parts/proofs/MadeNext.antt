@@ -1,7 +1,6 @@
 -- The form's next definition is made: what it makes of the settled state, and that macros and their editions go on.
-use Rattle.std.proofs.Common.{◌≡◌, ◌==◌, ℕ, suc, List, [], ◌∷◌, ◌++◌, length, slice_get, Bool, true, false, cond, Option, Some, None, eq-eqb, refl, sym, ap, ◌∙◌, subst}
+use Rattle.std.proofs.Common.{◌≡◌, ◌==◌, ℕ, List, [], ◌∷◌, ◌++◌, slice_get, Bool, true, false, cond, Option, Some, None, refl, sym, ap, ◌∙◌, subst}
 use Rattle.std.specs.Prelude.{◌&&◌}
-use Rattle.std.specs.Prelude.{is_some as is_kept}
 use Rattle.scheme_model.specs.Ident.{Ident, same_ident}
 use Rattle.scheme_model.specs.ExpansionFaults.{Named}
 use Rattle.scheme_model.specs.Meaning as model
@@ -10,8 +9,7 @@ use Rattle.scheme_model.specs.Order.{Transformer, is_some}
 use Rattle.scheme_model.specs.Questions.{Moment, Around, bare_macro}
 use Rattle.scheme_model.specs.Substitution.{Defined, Table, defined_in}
 use Rattle.scheme_model.specs.ScopedExpansion.{Frames, ScopedMacro, ScopedState, macro_at, macro_added, definition_added}
-use Rattle.scheme_model.proofs.IdentLaws.{ident_told, ident_itself}
-use Rattle.forgotten_locals.specs.Outside.{macros_outside, outside}
+use Rattle.forgotten_locals.specs.Outside.{macros_outside}
 use Rattle.scheme_model.specs.Leaves.{leaves_of}
 use Rattle.rules_check.specs.Gathered.{AreLeaves}
 use Rattle.rules_check.specs.declared.leaf.RuleLeaf.{RuleLeaf}

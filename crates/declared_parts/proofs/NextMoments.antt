@@ -1,9 +1,8 @@
 -- The definitions that are noted of a form: where each is made, in view of which notes, and that the moment behind one that stands is before the
 -- form's last.
-use Rattle.std.proofs.Common.{◌≡◌, ◌⊎◌, inl, inr, ℕ, zero, suc, List, [], ◌∷◌, ◌++◌, length, Bool, true, false, cond, Option, Some, None, append_assoc, Contains, refl, sym, ap, ◌∙◌, subst, arith}
+use Rattle.std.proofs.Common.{◌≡◌, ◌⊎◌, inl, inr, zero, suc, List, [], ◌∷◌, ◌++◌, length, Bool, true, false, cond, Option, Some, None, append_assoc, Contains, refl, sym, ap, ◌∙◌, subst, arith}
 use Rattle.std.proofs.lemmas.List.Elements.{Contains-append_right}
 use Rattle.scheme_model.specs.Ident.{Ident}
-use Rattle.scheme_model.specs.Trees.{Tree}
 use Rattle.scheme_model.specs.ExpansionFaults.{Named}
 use Rattle.scheme_model.specs.Meaning.{Global}
 use Rattle.scheme_model.specs.RulesShape.{Rules}
@@ -11,12 +10,11 @@ use Rattle.scheme_model.specs.Order.{Note, is_some}
 use Rattle.scheme_model.specs.Substitution.{Defined, Table}
 use Rattle.scheme_model.specs.ScopedExpansion.{Frames, FramedIdent, ScopedMacro}
 use Rattle.scheme_model.specs.Questions.{Moment, Around, found, Outcome, Stands, Redefines, StoodBefore, Question, LooksUp, UsesRules, Compares, IsAssigned, Requires, Defines, unit_outcome}
-use Rattle.scheme_model.specs.FormsAlike.{set_aside_asking}
 use Rattle.form_laws.specs.Begins.{Each}
 use Rattle.question_laws.specs.Noted.{noted_as, noted, all_noted}
 use Rattle.forgotten_locals.specs.Outside.{macros_outside}
 use Rattle.note_laws.specs.Moments.{IsEnd, IsBefore, keyword_count}
-use Rattle.declared_again.specs.Endings.{Ending, endings, ending_in, table_if, macros_if, table_made, macros_made, Made, MadeAtEach, IsEarlier, MadeInOrder, AtRoot}
+use Rattle.declared_again.specs.Endings.{Ending, endings, ending_in, table_if, macros_if, table_made, macros_made, MadeAtEach, IsEarlier, MadeInOrder, AtRoot}
 use Rattle.declared_parts.proofs.EachLaws.{each_both}
 
 -- ---- ends of lists

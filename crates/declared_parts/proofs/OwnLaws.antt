@@ -1,13 +1,11 @@
 -- A form's own notes, in the unit's own scope.
-use Rattle.std.proofs.Common.{◌≡◌, ℕ, zero, suc, ◌+◌, ◌-◌, ◌<◌, ◌≤◌, List, [], ◌∷◌, ◌++◌, length, reverse, slice_get, get_or, take, drop, Bool, Option, Some, None, append_assoc, refl, sym, ap, ◌∙◌, subst, arith}
-use Rattle.std.proofs.lemmas.List.{reverse-append, reverse-reverse, append-nil}
+use Rattle.std.proofs.Common.{◌≡◌, ℕ, zero, suc, ◌-◌, ◌<◌, ◌≤◌, List, [], ◌∷◌, ◌++◌, length, reverse, slice_get, get_or, take, drop, Some, refl, sym, ap, ◌∙◌, subst, arith}
+use Rattle.std.proofs.lemmas.List.{reverse-append, reverse-reverse}
 use Rattle.std.proofs.lemmas.Option.{same_Some, slice_get_within}
-use Rattle.scheme_model.specs.Ident.{Ident}
 use Rattle.scheme_model.specs.Order.{Note, LookedUp, Compared}
 use Rattle.scheme_model.specs.ScopedExpansion.{Frames, FramedIdent}
 use Rattle.form_laws.specs.Begins.{Each}
 use Rattle.syntax_tree.specs.Names.{Names}
-use Rattle.syntax_tree.specs.Macros.{IsIdent}
 use Rattle.syntax_tree.specs.declared.trees.Work.{Work}
 use Rattle.core_tree.specs.Names.{AllMatch}
 use Rattle.unit_scopes.specs.Asks.{AreWithin, idents_of}
@@ -19,7 +17,7 @@ use Rattle.declared_parts.specs.Going.{note_at, notes_first}
 use Rattle.declared_parts.specs.Parts.{OwnNoteFor}
 use Rattle.declared_parts.specs.declared.parts.OwnNote as code
 use Rattle.declared_parts.specs.declared.parts.OwnNote.TheVariants as own
-use Rattle.declared_parts.proofs.EachLaws.{each_both, each_behind}
+use Rattle.declared_parts.proofs.EachLaws.{each_both}
 
 -- ---- lists that match
 

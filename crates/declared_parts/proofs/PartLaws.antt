@@ -1,5 +1,5 @@
 -- What is taken of a form that was gone through stands for what it left in its unit.
-use Rattle.std.proofs.Common.{◌≡◌, ℕ, zero, suc, ◌+◌, ◌≤◌, ◌<◌, List, [], ◌∷◌, ◌++◌, append_assoc, map, length, drop, get_or, slice_get, reverse, Bool, true, false, cond, Option, Some, None, refl, sym, ap, ◌∙◌, subst, arith}
+use Rattle.std.proofs.Common.{◌≡◌, ℕ, zero, suc, ◌+◌, ◌<◌, List, [], ◌∷◌, ◌++◌, append_assoc, map, length, drop, get_or, slice_get, reverse, Bool, true, false, cond, Option, Some, None, refl, sym, ap, ◌∙◌, subst, arith}
 use Rattle.std.specs.List.{Contains}
 use Rattle.std.proofs.lemmas.List.{reverse-append, length-reverse}
 use Rattle.std.proofs.lemmas.List.Elements.{Contains-append_right}
@@ -7,7 +7,7 @@ use Rattle.std.proofs.lemmas.Option.{same_Some}
 use Rattle.scheme_model.specs.Ident.{Ident as Identifier}
 use Rattle.scheme_model.specs.Meaning.{Meaning, Global}
 use Rattle.scheme_model.specs.Order.{Note, LookedUp, Compared, Transformer, is_some}
-use Rattle.scheme_model.specs.Questions.{Question, Answer, Defines, Ends, Stands, bare_macro}
+use Rattle.scheme_model.specs.Questions.{Defines, bare_macro}
 use Rattle.scheme_model.specs.RulesShape.{Rules, option_map}
 use Rattle.scheme_model.specs.ScopedExpansion.{Frames, FramedIdent, ScopedState, macro_at}
 use Rattle.syntax_tree.specs.Macros.{IsIdent}
@@ -15,8 +15,7 @@ use Rattle.syntax_tree.specs.declared.meaning.Meaning.TheVariants as meanings
 use Rattle.syntax_tree.specs.declared.trees.Work.{Work}
 use Rattle.core_tree.specs.Names.{AllMatch}
 use Rattle.form_notes.specs.Noted.{Noted, Since}
-use Rattle.form_notes.specs.Standing.{IsQuestion, IsNote, HaveNotes, InOrder, RisesTo}
-use Rattle.form_notes.specs.declared.notes.Definition.{Definition}
+use Rattle.form_notes.specs.Standing.{IsQuestion, IsNote, InOrder, RisesTo}
 use Rattle.form_notes.specs.declared.notes.Note as code_note
 use Rattle.form_notes.specs.declared.notes.Outcome.TheVariants as outcomes
 use Rattle.form_notes.specs.declared.notes.Question as code_question
@@ -32,7 +31,7 @@ use Rattle.unit_scopes.specs.declared.asked.Note.TheVariants as unit_notes
 use Rattle.unit_scopes.specs.declared.macros.Macro.{Macro}
 use Rattle.unit_scopes.specs.declared.macros.Macros.{Macros}
 use Rattle.unit_scopes.specs.declared.scope.UnitScope.{UnitScope}
-use Rattle.declared_parts.specs.Parts.{without_scopes, OwnNoteFor, keyword_made, keyword_notes, kept_as, kept_if, macro_taken, macros_taken, rules_defined, IsKeptMacro, HasDeclared, MacrosThere}
+use Rattle.declared_parts.specs.Parts.{without_scopes, OwnNoteFor, keyword_made, keyword_notes, kept_as, kept_if, macro_taken, macros_taken, rules_defined, IsKeptMacro, MacrosThere}
 use Rattle.declared_parts.specs.declared.parts.KeptMacro.{KeptMacro}
 use Rattle.declared_parts.specs.declared.parts.OwnNote as own_note
 

@@ -1,16 +1,13 @@
 -- A definition of a form ends where it is declared again as it does by the questions of the form; and one that stands is the form's next.
-use Rattle.std.proofs.Common.{◌≡◌, ℕ, suc, List, [], ◌∷◌, ◌++◌, map, length, Bool, true, false, Option, Some, None, Contains, refl, sym, ap, ◌∙◌, subst}
+use Rattle.std.proofs.Common.{◌≡◌, ℕ, suc, List, [], ◌∷◌, ◌++◌, map, length, Bool, true, false, Option, None, refl, sym, ap, ◌∙◌, subst}
 use Rattle.scheme_model.specs.Ident.{Ident}
 use Rattle.scheme_model.specs.ExpansionFaults.{Named}
-use Rattle.scheme_model.specs.Meaning.{Global}
 use Rattle.scheme_model.specs.RulesShape.{Rules}
 use Rattle.scheme_model.specs.Order.{Note, is_some}
-use Rattle.scheme_model.specs.Substitution.{Defined, Table, any}
-use Rattle.scheme_model.specs.ScopedExpansion.{Frames, FramedIdent, ScopedMacro, ScopedState, is_defined, macro_added, definition_added, meaning_next}
-use Rattle.scheme_model.specs.CountedExpansion.{refused_here}
-use Rattle.scheme_model.specs.Questions.{Moment, Around, found, Outcome, Stands, Redefines, StoodBefore, outcome_by, unit_outcome, Question, LooksUp, UsesRules, Compares, IsAssigned, Requires, Defines, Answer, Means, Expands, Says, Ends, answer, bare}
-use Rattle.scheme_model.specs.FormsAlike.{start, again, bare_note}
-use Rattle.form_laws.specs.Begins.{Each, IsEntry}
+use Rattle.scheme_model.specs.ScopedExpansion.{Frames, FramedIdent, is_defined}
+use Rattle.scheme_model.specs.Questions.{Moment, Around, Outcome, Stands, Redefines, StoodBefore, outcome_by, unit_outcome, Question, LooksUp, UsesRules, Compares, IsAssigned, Requires, Defines, Answer, Means, Expands, Says, Ends, answer}
+use Rattle.scheme_model.specs.FormsAlike.{again, bare_note}
+use Rattle.form_laws.specs.Begins.{Each}
 use Rattle.form_laws.proofs.OwnStates.{entry_given}
 use Rattle.forgotten_locals.specs.Outside.{macros_outside, outside}
 use Rattle.syntax_tree.specs.Names.{Names}
@@ -25,12 +22,10 @@ use Rattle.unit_scopes.specs.Defining.{outcome_here}
 use Rattle.note_laws.specs.SameRoots.{NoLocalEntry}
 use Rattle.note_laws.specs.Told.{bare_question, ImportsOthers}
 use Rattle.note_laws.specs.Tested.{is_definition}
-use Rattle.declared_parts.specs.Again.{SameLater}
 use Rattle.declared_again.specs.Endings.{AtRoot, NoteAtRoot, outcome_outside}
 use Rattle.declared_parts.specs.Going.{settled}
-use Rattle.declared_parts.proofs.NextMoments.{IfDefinition, IsDefinitionIn}
 use Rattle.declared_again.proofs.OutcomesOutside.{ends_outside}
-use Rattle.declared_parts.proofs.Settled.{with_counts, settled_is, settled_told}
+use Rattle.declared_parts.proofs.Settled.{settled_is, settled_told}
 use Rattle.declared_parts.proofs.SpokenRoot.{any_spoken}
 
 -- ---- the question of a note of a definition

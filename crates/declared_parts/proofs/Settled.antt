@@ -1,12 +1,10 @@
 -- What isn't local of a form's surroundings and of what it has made by a moment; the code's scopes stand for it whatever the forms have counted.
-use Rattle.std.proofs.Common.{◌≡◌, ℕ, ◌<◌, List, [], ◌∷◌, ◌++◌, length, slice_get, Bool, true, false, cond, Option, Some, None, refl, sym, ap, ◌∙◌, subst}
+use Rattle.std.proofs.Common.{◌≡◌, ℕ, ◌<◌, List, [], ◌∷◌, ◌++◌, slice_get, Bool, true, false, cond, Option, Some, None, refl, sym, ap, ◌∙◌, subst}
 use Rattle.std.specs.Option.{option_and_then}
 use Rattle.std.proofs.lemmas.Option.{slice_get_within}
 use Rattle.scheme_model.specs.Ident.{Ident as Identifier}
-use Rattle.scheme_model.specs.Cores.{Target, MacroUse}
 use Rattle.scheme_model.specs.Order.{Transformer}
-use Rattle.scheme_model.specs.Substitution.{Clock, Table}
-use Rattle.scheme_model.specs.ScopedExpansion.{Frame, Frames, ScopedMacro, ScopedState}
+use Rattle.scheme_model.specs.ScopedExpansion.{Frames, ScopedMacro, ScopedState}
 use Rattle.scheme_model.specs.Questions.{Moment, Around}
 use Rattle.scheme_model.specs.FormsAlike.{again}
 use Rattle.forgotten_locals.specs.Outside.{is_outside, macros_outside, outside}
@@ -16,7 +14,7 @@ use Rattle.scope_env.specs.Environment.{Environment, Scope, IsSound}
 use Rattle.scope_env.specs.Moved.{parent_of}
 use Rattle.unit_scopes.specs.Editions.{EditionsTell}
 use Rattle.unit_scopes.specs.Forgotten.{AllOwn}
-use Rattle.unit_scopes.specs.State.{AreEntered, AreDefined, EnvStands, MacrosStand, HasBegun, Rests, Stands}
+use Rattle.unit_scopes.specs.State.{AreEntered, AreDefined, EnvStands, Rests, Stands}
 use Rattle.unit_scopes.specs.declared.macros.Macros.{Macros}
 use Rattle.unit_scopes.specs.declared.scope.UnitScope.{UnitScope}
 use Rattle.declared_parts.specs.Going.{settled}

@@ -1,12 +1,12 @@
 -- A note at the root that is told otherwise by a definition of the unit has its identifier, or one that uses inserted in its place.
-use Rattle.std.proofs.Common.{◌≡◌, ◌==◌, ℕ, eqb-true, List, [], ◌∷◌, ◌++◌, Bool, true, false, Option, Some, None, refl, sym, ap, ◌∙◌}
+use Rattle.std.proofs.Common.{◌≡◌, ◌==◌, ℕ, eqb-true, List, [], ◌∷◌, Bool, true, false, Option, Some, None, refl, sym, ap, ◌∙◌}
 use Rattle.std.specs.Prelude.{◌&&◌, ◌||◌}
 use Rattle.scheme_model.specs.Ident.{Ident, Written, Inserted, same_ident}
 use Rattle.scheme_model.specs.ExpansionFaults.{Named}
 use Rattle.scheme_model.specs.Meaning.{Meaning, Local, Global, Standard, Free, same_meaning, of_form}
 use Rattle.scheme_model.specs.RulesShape.{Rules}
 use Rattle.scheme_model.specs.Order.{Note, LookedUp, Compared, is_some}
-use Rattle.scheme_model.specs.Scopes.{given_or, defined_or, imported_as}
+use Rattle.scheme_model.specs.Scopes.{given_or, defined_or}
 use Rattle.scheme_model.specs.Substitution.{Defined, defined_in, any, differ}
 use Rattle.scheme_model.specs.ScopedExpansion.{FramedIdent, ScopedState, means_outside, definition_added}
 use Rattle.scheme_model.specs.CountedExpansion.{means_here, refused_here}

@@ -1,40 +1,30 @@
 -- Where a form begins to be declared again, nothing is made yet; where all its definitions are made, the unit stands for the state behind it.
-use Rattle.std.proofs.Common.{◌≡◌, ℕ, zero, suc, ◌+◌, ◌*◌, ◌^◌, ◌<◌, ◌≤◌, List, [], ◌∷◌, ◌++◌, length, reverse, slice_get, Bool, true, false, Option, Some, None, append-nil, refl, sym, ap, ◌∙◌, subst, arith}
+use Rattle.std.proofs.Common.{◌≡◌, ℕ, ◌+◌, ◌*◌, ◌^◌, ◌<◌, ◌≤◌, List, [], length, reverse, append-nil, refl, sym, ap, ◌∙◌, subst, arith}
 use Rattle.std.specs.FinMap as map_of
-use Rattle.scheme_model.specs.Ident.{Ident}
-use Rattle.scheme_model.specs.Meaning.{Global}
-use Rattle.scheme_model.specs.Cores.{Target, MacroUse}
-use Rattle.scheme_model.specs.Order.{Note, is_some}
-use Rattle.scheme_model.specs.Substitution.{Table, defined_in}
-use Rattle.scheme_model.specs.ScopedExpansion.{Frames, FramedIdent, ScopedMacro, ScopedState, macro_at}
+use Rattle.scheme_model.specs.Order.{Note}
+use Rattle.scheme_model.specs.ScopedExpansion.{FramedIdent, ScopedState}
 use Rattle.scheme_model.specs.Questions.{Moment, Around}
 use Rattle.scheme_model.specs.FormsAlike.{again}
 use Rattle.forgotten_locals.specs.Outside.{macros_outside, outside}
 use Rattle.syntax_tree.specs.declared.trees.Work.{Work}
 use Rattle.scope_env.specs.Environment.{IsSound}
 use Rattle.core_tree.specs.Names.{AllMatch, IsTarget, IsUse}
-use Rattle.core_tree.specs.declared.cores.Binder as code_binder
-use Rattle.core_tree.specs.declared.cores.Target as code_target
-use Rattle.core_tree.specs.declared.traces.MacroUse as code_use
 use Rattle.unit_scopes.specs.Editions.{EditionsTell}
 use Rattle.unit_scopes.specs.Forgotten.{AllOwn}
-use Rattle.unit_scopes.specs.Kept.{NoteFor, NotesFor}
+use Rattle.unit_scopes.specs.Kept.{NoteFor}
 use Rattle.unit_scopes.specs.State.{FormStands, IsNumbered, Rests, Stands, numbered_in}
 use Rattle.unit_scopes.specs.Stepped.{IsFresh}
-use Rattle.unit_scopes.specs.Units.{UnitStands}
-use Rattle.unit_scopes.specs.declared.asked.Asked.{Asked}
 use Rattle.unit_scopes.specs.declared.asked.Note as asked
 use Rattle.unit_scopes.specs.declared.scope.Budget.{Budget}
 use Rattle.unit_scopes.specs.declared.scope.FormAtWork.{FormAtWork}
 use Rattle.unit_scopes.specs.declared.scope.UnitScope.{UnitScope}
-use Rattle.note_laws.specs.Moments.{IsBefore}
-use Rattle.declared_parts.specs.Again.{Again, moment_of, own_notes, state_after, notes_after, CanDeclare, StandsAfter}
-use Rattle.declared_parts.specs.Going.{settled, AreMacrosDefined, notes_first, OwnSoFar, IsNewForm, IsNothing, GoesOn}
+use Rattle.declared_parts.specs.Again.{moment_of, own_notes, CanDeclare}
+use Rattle.declared_parts.specs.Going.{settled, AreMacrosDefined, notes_first, IsNewForm, IsNothing, GoesOn}
 use Rattle.declared_parts.specs.Undone.{IsBack, AreDefined}
 use Rattle.declared_parts.specs.declared.again.Going.{Going}
 use Rattle.declared_parts.specs.declared.parts.DeclaredPart.{DeclaredPart}
 use Rattle.declared_parts.specs.declared.undoing.Made.{Made}
-use Rattle.declared_parts.proofs.Settled.{with_counts, settled_is, settled_told, all_flat, rests_counted, editions_counted, stands_rests}
+use Rattle.declared_parts.proofs.Settled.{settled_is, settled_told, all_flat, rests_counted, editions_counted, stands_rests}
 
 -- ---- the form
 
@@ -100,6 +90,9 @@ module _ (work : Work) (old : UnitScope) (number : ℕ) (part : DeclaredPart) (c
         macros = λ form m. refl;
       })
 
+  none_below : {P : Type 0} (i n : ℕ) → i < n → n ≡ 0 → P
+  none_below i n lt none = absurd (omega (arith, lt, none))
+
   pub begins : (u : UnitScope) (g : Going) → u ≡ record old { form = u.form } → IsNewForm number u.form → IsNothing g → GoesOn work old number part can u g 0
   begins u g rest form none =
       let back = back_first u rest in
@@ -122,6 +115,7 @@ module _ (work : Work) (old : UnitScope) (number : ℕ) (part : DeclaredPart) (c
           };
         };
         back = subst (λ (xs : List Made). AreDefined old u (reverse xs)) (sym none.made) back;
+        given = λ i k form lt at. none_below i g.macros lt none.macros;
       }
 
 -- ---- it is done

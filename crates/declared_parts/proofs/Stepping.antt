@@ -1,31 +1,28 @@
 -- A note of a definition, where a form is declared again: what it demands, and what is known behind it.
-use Rattle.std.proofs.Common.{◌≡◌, ℕ, zero, suc, ◌+◌, ◌≤◌, List, [], ◌∷◌, ◌++◌, map, length, slice_get, Bool, true, false, cond, Option, Some, None, Ok, Contains, refl, sym, ap, ◌∙◌, subst, arith}
+use Rattle.std.proofs.Common.{◌≡◌, ℕ, ◌+◌, ◌≤◌, List, [], ◌∷◌, ◌++◌, map, length, slice_get, Bool, true, false, Option, Some, None, Ok, Contains, refl, sym, ap, ◌∙◌, subst, arith}
 use Rattle.std.specs.Prelude.{if◌then◌else◌, Vec, reverse}
 use Rattle.std.specs.declared.alloc.Global.{Global}
 use Rattle.std.proofs.lemmas.List.{length-map, length-reverse}
+use Rattle.std.proofs.lemmas.Option.{same_Some}
 use Rattle.scheme_model.specs.Ident.{Ident}
 use Rattle.scheme_model.specs.RulesShape.{Rules}
-use Rattle.scheme_model.specs.Order.{Note, is_some}
-use Rattle.scheme_model.specs.ScopedExpansion.{Frames, FramedIdent}
-use Rattle.scheme_model.specs.Questions.{Moment, Around, Outcome, Stands, Question, LooksUp, UsesRules, Compares, IsAssigned, Requires, Defines, Answer, bare}
+use Rattle.scheme_model.specs.Questions.{Moment, Around, Outcome, Stands, Question, LooksUp, UsesRules, Compares, IsAssigned, Requires, Defines, bare}
 use Rattle.scheme_model.specs.FormsAlike.{bare_note}
 use Rattle.syntax_tree.specs.Names.{Names}
 use Rattle.syntax_tree.specs.declared.trees.Work.{Work}
-use Rattle.core_tree.specs.Names.{AllMatch}
 use Rattle.form_notes.specs.Noted.{Noted, Since}
-use Rattle.form_notes.specs.Standing.{IsNote, IsQuestion, IsDefinitionOf, outcome_as, made_by}
+use Rattle.form_notes.specs.Standing.{IsNote, outcome_as, made_by}
 use Rattle.form_notes.specs.declared.notes.Definition.{Definition}
 use Rattle.form_notes.specs.declared.notes.Note as code_note
 use Rattle.form_notes.specs.declared.notes.Outcome as code_outcome
 use Rattle.form_notes.specs.declared.notes.Outcome.TheVariants as outcomes
-use Rattle.form_notes.specs.declared.notes.Question.TheVariants as code
 use Rattle.unit_scopes.specs.Defining.{outcome_here}
 use Rattle.unit_scopes.specs.Kept.{NotesFor}
 use Rattle.unit_scopes.specs.declared.asked.Asked.{Asked}
 use Rattle.unit_scopes.specs.declared.scope.UnitScope.{UnitScope}
 use Rattle.note_laws.specs.Told.{bare_question, bare_noted, told, since_of}
-use Rattle.declared_parts.specs.Again.{Again, own_notes, noted_of, SameLater, CanDeclare}
-use Rattle.declared_parts.specs.Going.{Tells, TellsSame, TellsOther, note_of, notes_first, settled, OwnSoFar, CanSetOwn, CanEnd, GoesOn, HasGoneBy, HasMacro, IsNext, KeptFrom}
+use Rattle.declared_parts.specs.Again.{own_notes, noted_of, CanDeclare}
+use Rattle.declared_parts.specs.Going.{Tells, TellsSame, TellsOther, note_of, notes_first, settled, OwnSoFar, CanSetOwn, CanEnd, GoesOn, HasGoneBy, HasMacro, HasMacros, IsNext, KeptFrom}
 use Rattle.declared_parts.specs.Parts.{OwnNoteFor, IsKeptMacro, keyword_if, keyword_made, rules_defined}
 use Rattle.declared_parts.specs.Undone.{AreDefined}
 use Rattle.declared_parts.specs.declared.again.Going.{Going}
@@ -106,8 +103,8 @@ module _ (work : Work) (old : UnitScope) (number : ℕ) (part : DeclaredPart) (c
     can_end a own q t = let f = Of q t in record { stands = h.stands; is = (f.is.name, f.is.place); own = own_by_then a own q t; notes = notes_before }
 
     -- it goes on with other notes of its own
-    abbrev pub with_own : (g2 : Going) → g2.made ≡ g.made → OwnSoFar work can.layout (own_notes can.again) g2.own g2.asked → GoesOn work old number part can u g2 made
-    with_own g2 same own = record {
+    abbrev pub with_own : (g2 : Going) → g2.made ≡ g.made → g2.macros ≡ g.macros → OwnSoFar work can.layout (own_notes can.again) g2.own g2.asked → GoesOn work old number part can u g2 made
+    with_own g2 same macros own = record {
       moment = h.moment;
       before = h.before;
       count = h.count;
@@ -120,6 +117,7 @@ module _ (work : Work) (old : UnitScope) (number : ℕ) (part : DeclaredPart) (c
       scopes = h.scopes;
       own = own;
       back = subst (λ (m : Vec Made Global). AreDefined old u (reverse m.items)) (sym same) h.back;
+      given = subst (HasMacros u part.macros) (sym macros) h.given;
     }
 
     -- ---- how it ends
@@ -148,6 +146,7 @@ module _ (work : Work) (old : UnitScope) (number : ℕ) (part : DeclaredPart) (c
       pub question : Moment × Question
       pub tells : StandsSo question
       pub macro : HasMacro work can.editions (slice_get part.macros n) d.keyword (rules_of question tells)
+      pub named : (k : KeptMacro) → slice_get part.macros n ≡ Some k → d.keyword ≡ true → k.ident ≡ d.ident
 
     keyword_is : (b : Bool) → d.keyword ≡ b → keyword_made stands_so.question ≡ (if b then Some d.ident else None)
     keyword_is b e = ap (λ (k : Bool). if k then Some d.ident else None) e
@@ -166,14 +165,18 @@ module _ (work : Work) (old : UnitScope) (number : ℕ) (part : DeclaredPart) (c
               subst (λ (o : Option KeptMacro). HasMacro work can.editions o d.keyword f.rules) (sym at)
               (subst (λ (b : Bool). HasMacro work can.editions (Some k) b f.rules) (sym keyword)
               (subst (λ (p : Option (Rules Ident)). HasMacro work can.editions (Some k) true p) (sym same) has));
+          named = λ j there also. ap (λ (i : KeptMacro). i.ident) (same_Some j k (sym there ∙ at)) ∙ same_Some k.ident d.ident (sym is.keyword ∙ keyword_is true keyword);
         }
 
     pub next_of : (q : Moment × Question) → StandsSo q → (n : ℕ) → KeptFrom work old number part can n (stands_so ∷ left) → HasNext n
     next_of q t n kept = by d.keyword refl
       where
+        not_both : (b : Bool) → b ≡ true → b ≡ false → ⊥
+        not_both b on off = cc
+
         by : (b : Bool) → d.keyword ≡ b → HasNext n
         by true e = let k = kept_next work old number part can stands_so left n d.ident (keyword_is true e) kept in found_next n k.0 k.1 k.2 e
-        by false e = record { question = q; tells = t; macro = subst (λ (b : Bool). HasMacro work can.editions (slice_get part.macros n) b (rules_of q t)) (sym e) tt }
+        by false e = record { question = q; tells = t; macro = subst (λ (b : Bool). HasMacro work can.editions (slice_get part.macros n) b (rules_of q t)) (sym e) tt; named = λ k there keyword. absurd (not_both d.keyword keyword e) }
 
     -- the macros that are left then
     pub left_then : (n m : ℕ) → m ≡ (if d.keyword then n + 1 else n) → KeptFrom work old number part can n (stands_so ∷ left) → KeptFrom work old number part can m left
@@ -195,7 +198,7 @@ module _ (work : Work) (old : UnitScope) (number : ℕ) (part : DeclaredPart) (c
         let then_ = subst (λ (p : code_outcome.Outcome). Tells work old number part can (note_of d p made) q) is t in
         let left_so = subst (λ (p : code_outcome.Outcome). KeptFrom work old number part can g.macros (note_of d p made ∷ left)) is kept in
         let n = next_of u g made h d left q then_ g.macros left_so in
-        is_next work old number part can u g made h d n.question n.tells (sym (ended outcomes.Stands n.question n.tells) ∙ ap outcome_as (e ∙ is)) n.macro
+        is_next work old number part can u g made h d n.question n.tells (sym (ended outcomes.Stands n.question n.tells) ∙ ap outcome_as (e ∙ is)) n.macro n.named
 
     pub stands_gone : (o : code_outcome.Outcome) → o ≡ outcomes.Stands → ends ≡ o → (v : UnitScope) (g2 : Going) → GoesOn work old number part can v g2 (made + 1) → g2.macros ≡ (if d.keyword then g.macros + 1 else g.macros) →
         KeptFrom work old number part can g.macros (note_of d o made ∷ left) → HasGoneBy work old number part can (note_of d o made) left made v g2 (Ok true)

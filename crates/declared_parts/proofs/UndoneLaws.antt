@@ -1,5 +1,5 @@
 -- Definitions that are taken back: the scopes and macros stand for what they stood for.
-use Rattle.std.proofs.Common.{◌≡◌, ℕ, suc, ◌+◌, ◌<◌, List, [], ◌∷◌, length, slice_get, Bool, true, false, cond, Option, Some, None, refl, sym, ap, ◌∙◌, subst, arith}
+use Rattle.std.proofs.Common.{◌≡◌, ℕ, ◌+◌, ◌<◌, List, [], ◌∷◌, length, slice_get, Bool, true, false, Option, Some, None, refl, sym, ap, ◌∙◌, subst, arith}
 use Rattle.std.specs.FinMap as map_of
 use Rattle.std.specs.Prelude.{if◌then◌else◌}
 use Rattle.std.specs.BTreeMap.{get, btree_map_len}
@@ -20,8 +20,7 @@ use Rattle.syntax_tree.specs.Names.{Names}
 use Rattle.syntax_tree.specs.declared.meaning.Meaning.{Meaning}
 use Rattle.syntax_tree.specs.declared.meaning.Meaning.TheVariants as meanings
 use Rattle.syntax_tree.specs.declared.trees.Work.{Work}
-use Rattle.syntax_tree.specs.declared.units.UnitKind.{UnitKind}
-use Rattle.scope_env.specs.Environment.{Environment, with_bound, with_before}
+use Rattle.scope_env.specs.Environment.{Environment, with_before}
 use Rattle.scope_env.specs.Resolved.{bound_at}
 use Rattle.unit_scopes.specs.Editions.{EditionsTell}
 use Rattle.unit_scopes.specs.Kept.{NotesFor}

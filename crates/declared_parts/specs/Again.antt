@@ -1,6 +1,7 @@
 -- A form that was gone through in other surroundings is declared again where its turn comes (R7RS 5.3): its definitions are made again, if
 -- what they have a part in has the same answers.
 use Rattle.std.specs.Prelude.{◌≡◌, ℕ, List, [], ◌++◌, map, true, Option}
+use Rattle.std.specs.List.{Contains}
 use Rattle.scheme_model.specs.Ident.{Ident}
 use Rattle.scheme_model.specs.Trees.{Tree}
 use Rattle.scheme_model.specs.Order.{Note, Pass, Transformer}
@@ -10,11 +11,14 @@ use Rattle.scheme_model.specs.FormsAlike.{start, again, set_aside_asking, questi
 use Rattle.form_laws.specs.Begins.{Each}
 use Rattle.question_laws.specs.Noted.{all_noted, IsClosed, SameUnit}
 use Rattle.forgotten_locals.specs.Outside.{outside, IsOutside}
+use Rattle.syntax_tree.specs.declared.meaning.Meaning.TheVariants.{Global}
 use Rattle.syntax_tree.specs.declared.trees.Work.{Work}
 use Rattle.feature_requirements.specs.Judged.{Knows}
 use Rattle.form_notes.specs.Noted.{Noted}
 use Rattle.unit_scopes.specs.Editions.{EditionsTell}
 use Rattle.unit_scopes.specs.Forgotten.{AreAtRoot, AllOwn}
+use Rattle.unit_scopes.specs.Macros.{edition_in}
+use Rattle.unit_scopes.specs.Outcomes.{KeepsNumbers}
 use Rattle.unit_scopes.specs.Stepped.{IsFresh}
 use Rattle.unit_scopes.specs.Units.{UnitStands}
 use Rattle.unit_scopes.specs.declared.scope.UnitScope.{UnitScope}
@@ -23,6 +27,7 @@ use Rattle.note_laws.specs.Told.{bare_noted, told, since_of, ImportsOthers}
 use Rattle.note_laws.specs.Tested.{is_definition}
 use Rattle.declared_parts.specs.Parts.{IsPart}
 use Rattle.declared_parts.specs.declared.parts.DeclaredPart.{DeclaredPart}
+use Rattle.declared_parts.specs.declared.parts.KeptMacro.{KeptMacro}
 
 -- ---- the form
 
@@ -96,10 +101,15 @@ pub record CanDeclare (work : Work) (u : UnitScope) (form : ℕ) (part : Declare
 
 -- ---- what calls leave
 
--- the unit stands for this state and these notes; no scope is opened, no unit begun
+-- the unit stands for this state and these notes; no scope is opened, no unit begun, and macros that stood keep their editions
 pub record StandsAfter (work : Work) (u v : UnitScope) (ls : List Frames) (editions : ℕ → Option (Transformer Frames Ident)) (s : ScopedState) (notes : List (Note FramedIdent)) : Type 0 where
   pub stands : UnitStands work v ls s notes
   pub own : AllOwn v
   pub tells : EditionsTell work.symbols v.macros s editions
   pub libraries : v.libraries ≡ u.libraries
   pub roots : v.env.roots ≡ u.env.roots
+  pub numbers : KeepsNumbers u v
+
+-- each macro of the part is the unit's by now, with the edition that the part has for it
+abbrev pub HasEditions : DeclaredPart → UnitScope → Type 0
+HasEditions part u = (k : KeptMacro) (form : ℕ) → Contains part.macros k → edition_in u.macros form (Global u.unit k.ident) ≡ k.edition

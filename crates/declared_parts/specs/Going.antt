@@ -1,5 +1,5 @@
 -- How far a form is declared again (R7RS 5.3): its definitions by now, and what its notes by now have told.
-use Rattle.std.specs.Prelude.{◌≡◌, ℕ, ◌+◌, ◌≤◌, List, [], ◌∷◌, ◌++◌, length, slice_get, reverse, take, drop, Bool, true, false, Option, Some, None, Result, Ok, Err}
+use Rattle.std.specs.Prelude.{◌≡◌, ℕ, ◌+◌, ◌<◌, ◌≤◌, List, [], ◌∷◌, ◌++◌, length, slice_get, reverse, take, drop, Bool, true, false, Option, Some, None, Result, Ok, Err}
 use Rattle.std.specs.List.{Contains}
 use Rattle.scheme_model.specs.ExpansionFaults.{Named}
 use Rattle.scheme_model.specs.Ident.{Ident}
@@ -15,6 +15,7 @@ use Rattle.ls_base.specs.declared.Memory.{Memory}
 use Rattle.rules_check.specs.Gathered.{AreLeaves}
 use Rattle.syntax_tree.specs.Macros.{identifiers, RulesFor, AreChecked}
 use Rattle.syntax_tree.specs.Names.{Names}
+use Rattle.syntax_tree.specs.declared.meaning.Meaning.TheVariants as meanings
 use Rattle.syntax_tree.specs.declared.trees.Work.{Work}
 use Rattle.core_forms.specs.Parts.{IsName}
 use Rattle.core_forms.specs.declared.shape.NamePart.{NamePart}
@@ -29,6 +30,7 @@ use Rattle.form_parts.specs.declared.items.Spot.{Spot}
 use Rattle.unit_scopes.specs.Asks.{AskedStands}
 use Rattle.unit_scopes.specs.Editions.{EditionsTell}
 use Rattle.unit_scopes.specs.Kept.{NotesFor}
+use Rattle.unit_scopes.specs.Macros.{macro_in}
 use Rattle.unit_scopes.specs.Outcomes.{At}
 use Rattle.unit_scopes.specs.State.{Stands}
 use Rattle.unit_scopes.specs.declared.asked.Asked.{Asked}
@@ -39,7 +41,7 @@ use Rattle.unit_scopes.specs.declared.scope.FormAtWork.{FormAtWork}
 use Rattle.unit_scopes.specs.declared.scope.UnitScope.{UnitScope}
 use Rattle.note_laws.specs.Moments.{IsBefore}
 use Rattle.note_laws.specs.Told.{told, since_of}
-use Rattle.declared_parts.specs.Again.{Again, moment_of, own_notes, noted_of, SameLater, AreSameLater, CanDeclare}
+use Rattle.declared_parts.specs.Again.{Again, moment_of, own_notes, noted_of, SameLater, AreSameLater, CanDeclare, HasEditions}
 use Rattle.declared_parts.specs.Parts.{OwnNoteFor, IsKeptMacro, keyword_notes}
 use Rattle.declared_parts.specs.Undone.{SameRest, AreDefined}
 use Rattle.declared_parts.specs.declared.again.Going.{Going}
@@ -123,6 +125,10 @@ IsNextMacro root (Some k) true (Some m) = IsMacroIn root k m
 abbrev pub settled : Around → Moment → ScopedState
 settled v n = record (outside v.state) { table = n.table ++ v.state.table; macros = macros_outside n.macros ++ macros_outside v.state.macros }
 
+-- the unit has the first of these macros, with their editions
+abbrev pub HasMacros : UnitScope → List KeptMacro → ℕ → Type 0
+HasMacros u ks n = (i : ℕ) (k : KeptMacro) (form : ℕ) → i < n → slice_get ks i ≡ Some k → (m : Macro) × (macro_in u.macros form (meanings.Global u.unit k.ident) ≡ Some m) × (m.edition ≡ k.edition)
+
 -- each macro of the unit has a definition
 abbrev pub AreMacrosDefined : ScopedState → Type 0
 AreMacrosDefined s = (i : Ident) → is_some (macro_at s.macros (Global s.unit i)) ≡ true → is_some (defined_in s.table s.unit i) ≡ true
@@ -141,6 +147,7 @@ pub record GoesOn (work : Work) (old : UnitScope) (number : ℕ) (part : Declare
   pub scopes : length u.env.scopes ≡ length old.env.scopes
   pub own : OwnSoFar work can.layout (own_notes can.again) g.own g.asked
   pub back : AreDefined old u (reverse g.made.items)
+  pub given : HasMacros u part.macros g.macros
 
 -- ---- a definition
 
@@ -166,6 +173,7 @@ pub record IsNext (work : Work) (x : Again) (editions : ℕ → Option (Transfor
   pub is : IsName work (name_of d) name
   pub keyword : d.keyword ≡ is_some rules
   pub macro : HasMacro work editions kept d.keyword rules
+  pub named : (k : KeptMacro) → kept ≡ Some k → d.keyword ≡ true → k.ident ≡ d.ident
   pub new : is_defined (settled x.now n) None name.name ≡ false
   pub after : Moment
   pub before : IsBefore after (moment_of x)
@@ -199,8 +207,8 @@ module _ (work : Work) (old : UnitScope) (number : ℕ) (part : DeclaredPart) (c
   HasGoneBy x left made u g (Ok false) = TellsOther work old number part can x × GoesOn work old number part can u g made
   HasGoneBy x left made u g (Err e) = Unit {0}
 
-  -- all notes have theirs, and all definitions are made; or not
+  -- all notes have theirs, and all definitions are made, with the editions of macros; or not
   abbrev pub HasGone : UnitScope → Going → Result Bool Memory → Type 0
-  HasGone u g (Ok true) = AreSameLater can.again × GoesOn work old number part can u g (length (moment_of can.again).table)
+  HasGone u g (Ok true) = AreSameLater can.again × GoesOn work old number part can u g (length (moment_of can.again).table) × HasEditions part u
   HasGone u g (Ok false) = (AreSameLater can.again → ⊥) × ((made : ℕ) × GoesOn work old number part can u g made)
   HasGone u g (Err e) = Unit {0}

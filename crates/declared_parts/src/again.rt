@@ -7,7 +7,7 @@ ghost use Rattle.form_notes.specs.Standing.{IsAsked, IsNote};
 ghost use Rattle.form_notes.specs.declared.notes.Note.{Note as AnyNote};
 ghost use Rattle.note_answers.specs.Answered.{answer_now, CanAsk, IsAskedOutside, KeepsEdition};
 ghost use Rattle.unit_scopes.specs.declared.scope.UnitScope.{UnitScope as AnyUnits};
-ghost use Rattle.declared_parts.specs.Again.{AreSameLater, CanDeclare, StandsAfter, notes_after, state_after};
+ghost use Rattle.declared_parts.specs.Again.{AreSameLater, CanDeclare, HasEditions, StandsAfter, notes_after, state_after};
 ghost use Rattle.declared_parts.specs.Going.{definition_in, IsNewForm, IsNothing, GoesOn, KeptFrom, Tells, HasGone, HasGoneBy};
 
 use crate::defining::{defines_again, own_in};
@@ -44,6 +44,7 @@ pub fn declare_again(
     ensures good { (can : CanDeclare work.now units.old number part.now) → IfOk result (λ b. IsTrue b ↔ AreSameLater can.again) }
     ensures declared { (can : CanDeclare work.now units.old number part.now) → result ≡ Ok true →
         StandsAfter work.now units.old units.new can.layout can.editions (state_after can.again) (notes_after can.again) }
+    ensures editions { result ≡ Ok true → HasEditions part.now units.new }
     ensures refused { (can : CanDeclare work.now units.old number part.now) → result ≡ Ok false →
         StandsAfter work.now units.old units.new can.layout can.editions can.again.now.state can.again.now.notes }
 {

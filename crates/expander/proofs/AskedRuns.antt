@@ -25,12 +25,13 @@ use Rattle.noted_steps.specs.Noting.{Noting, state_of, noting}
 use Rattle.noted_steps.specs.Standing.{Stands, TargetFor, with_notes}
 use Rattle.noted_steps.specs.Outcomes.{Stays, Ends, Runs}
 use Rattle.noted_steps.proofs.NoteLaws.{plainly}
+use Rattle.unit_scopes.proofs.OutcomeLaws.{numbers_stay}
 use Rattle.noted_steps.proofs.OutcomeLaws.{moves_here, noted_stays, ends_after}
 use Rattle.expander.specs.Ready.{BeginsBelow}
 use Rattle.expander.specs.declared.expressions.At as code_at
 
 pub noted_same : (u w : UnitScope) → w ≡ with_notes u w.form.trace.notes → SameForm u w
-noted_same u w same = subst (λ (x : UnitScope). SameForm u x) (sym same) (record { unit = refl; number = refl; root = refl; libraries = refl; roots = refl; uses = omega arith; nodes = omega arith })
+noted_same u w same = subst (λ (x : UnitScope). SameForm u x) (sym same) (record { unit = refl; number = refl; root = refl; libraries = refl; roots = refl; uses = omega arith; nodes = omega arith; numbers = numbers_stay u (with_notes u w.form.trace.notes) refl refl })
 
 pub noted_knows : (u w : UnitScope) (known : Known) → w ≡ with_notes u w.form.trace.notes → Knows u.libraries known → Knows w.libraries known
 noted_knows u w known same knows = subst (λ (l : BTreeSet (String Global)). Knows l known) (sym (ap (λ (x : UnitScope). x.libraries) same)) knows

@@ -37,7 +37,7 @@ use Rattle.unit_scopes.proofs.BodiesStand.{body_opens}
 use Rattle.noted_steps.proofs.NoteLaws.{plainly}
 use Rattle.noted_steps.proofs.UsesMet.{MeetsAlone, met_stays, left_behind}
 use Rattle.expander.proofs.FormRows.{todo_stands}
-use Rattle.unit_scopes.proofs.OutcomeLaws.{grows_itself}
+use Rattle.unit_scopes.proofs.OutcomeLaws.{grows_itself, numbers_stay}
 use Rattle.noted_steps.specs.Noting.{Noting, state_of, next_number, noting}
 use Rattle.noted_steps.specs.Standing.{Stands}
 use Rattle.noted_steps.specs.Stepped.{entered, entered_frames}
@@ -84,7 +84,7 @@ module _ (work : Work) (region : Region) (u w : UnitScope) (scope inner : ℕ) (
       stands = body_stands work u ls s scope fs sound at e;
       work = grows_itself work region;
       counted = omega arith;
-      same = record { unit = refl; number = refl; root = refl; libraries = refl; roots = refl; uses = omega arith; nodes = omega arith };
+      same = record { unit = refl; number = refl; root = refl; libraries = refl; roots = refl; uses = omega arith; nodes = omega arith; numbers = numbers_stay u opened refl refl };
     }
 
     inside_stands : Stands work w inside (entered s)

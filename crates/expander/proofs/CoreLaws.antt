@@ -37,7 +37,7 @@ use Rattle.feature_requirements.specs.declared.fault.ExpandFault.{ExpandFault}
 use Rattle.unit_scopes.specs.declared.scope.UnitScope.{UnitScope}
 use Rattle.unit_scopes.proofs.BindersStand.{roots_stay}
 use Rattle.noted_steps.proofs.BindersStand.{bound_is, binders_stand, BindersStand}
-use Rattle.unit_scopes.proofs.OutcomeLaws.{grows_itself}
+use Rattle.unit_scopes.proofs.OutcomeLaws.{grows_itself, numbers_stay}
 use Rattle.expander.proofs.RowLaws.{ends_mapped}
 use Rattle.unit_scopes.proofs.CoreStandLaws.{binders_on}
 use Rattle.noted_steps.specs.Noting.{Noting, next_number, noting}
@@ -85,6 +85,7 @@ module _ (work : Work) (region : Region) (u w : UnitScope) (ls : List Frames) (s
         roots = ap (λ (x : UnitScope). x.env.roots) h.after ∙ roots_stay (with_child u.env scope) (length u.env.scopes) u.form.budget.locals xs;
         uses = omega (arith, ap (λ (x : UnitScope). x.form.budget.uses) h.after);
         nodes = omega (arith, ap (λ (x : UnitScope). x.form.budget.nodes) h.after);
+        numbers = numbers_stay u w (ap (λ (x : UnitScope). x.macros) h.after) (ap (λ (x : UnitScope). x.defined) h.after);
       };
     };
   }

@@ -31,7 +31,7 @@ use Rattle.form_parts.specs.declared.items.WaitingUse as code_waiting
 use Rattle.core_tree.specs.declared.traces.Trace.{Trace}
 use Rattle.unit_scopes.specs.declared.scope.Budget.{Budget}
 use Rattle.unit_scopes.specs.declared.scope.UnitScope.{UnitScope}
-use Rattle.unit_scopes.proofs.OutcomeLaws.{leaves_itself}
+use Rattle.unit_scopes.proofs.OutcomeLaws.{leaves_itself, numbers_from}
 use Rattle.noted_steps.specs.Noting.{Noting}
 use Rattle.noted_steps.specs.Outcomes.{Stays, Moves, Ends}
 use Rattle.noted_steps.specs.Standing.{Stands}
@@ -111,7 +111,7 @@ module _ (old new : Work) (region : Region) (u w : UnitScope) (a b : Asked) wher
   back = asking w b
 
   pub same_back : SameForm (asking u a) w → SameForm u back
-  same_back h = record { unit = h.unit; number = h.number; root = h.root; libraries = h.libraries; roots = h.roots; uses = h.uses; nodes = h.nodes }
+  same_back h = record { unit = h.unit; number = h.number; root = h.root; libraries = h.libraries; roots = h.roots; uses = h.uses; nodes = h.nodes; numbers = numbers_from u (asking u a) back refl refl refl (record { defined = h.numbers.defined; numbers = h.numbers.numbers }) }
 
   pub stays_back : (ls : List Frames) (t : Noting) → Stays old new region (asking u a) w ls t → Stays old new region u back ls t
   stays_back ls t h = record { stands = asked_stands new w b ls t h.stands; work = h.work; counted = h.counted; same = same_back h.same }

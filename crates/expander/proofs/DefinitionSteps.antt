@@ -37,7 +37,7 @@ use Rattle.form_parts.specs.declared.items.WaitingUse as code_waiting
 use Rattle.unit_scopes.specs.declared.scope.UnitScope.{UnitScope}
 use Rattle.noted_steps.proofs.BindersStand.{fields_are}
 use Rattle.unit_scopes.proofs.CountingStands.{all_last}
-use Rattle.unit_scopes.proofs.OutcomeLaws.{grows_itself, leaves_itself, same_itself, same_on}
+use Rattle.unit_scopes.proofs.OutcomeLaws.{grows_itself, leaves_itself, numbers_stay, same_itself, same_on}
 use Rattle.noted_steps.specs.Noting.{Noting, next_number, outcome, ended, define_by, noting}
 use Rattle.noted_steps.specs.Stepped.{taken}
 use Rattle.noted_steps.specs.Outcomes.{Stays}
@@ -290,7 +290,7 @@ in_after_same P work u w v ls spot fs (Err fault.Memory) x same h = h
 -- ---- records
 
 pub taken_same : (u : UnitScope) (n : ℕ) → SameForm u (with_locals u (u.form.budget.locals + n))
-taken_same u n = record { unit = refl; number = refl; root = refl; libraries = refl; roots = refl; uses = omega arith; nodes = omega arith }
+taken_same u n = record { unit = refl; number = refl; root = refl; libraries = refl; roots = refl; uses = omega arith; nodes = omega arith; numbers = numbers_stay u (with_locals u (u.form.budget.locals + n)) refl refl }
 
 abbrev pub with_fields : List Binder → List Binder × Renamed Identifier FramedIdent → Step Noting (List Binder × (List Binder × Renamed Identifier FramedIdent))
 with_fields bs q = done (bs, q)

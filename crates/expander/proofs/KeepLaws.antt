@@ -15,6 +15,7 @@ use Rattle.scheme_model.specs.Expression.{heads, keep_all}
 use Rattle.scheme_model.specs.ScopedExpansion.{Frames}
 use Rattle.syntax_tree.specs.Names.{AreToldApart}
 use Rattle.syntax_tree.specs.Works.{StandsFor}
+use Rattle.syntax_tree.specs.declared.meaning.Meaning.{Meaning}
 use Rattle.syntax_tree.specs.declared.meaning.Meaning.TheVariants as meanings
 use Rattle.syntax_tree.specs.declared.trees.Work.{Work}
 use Rattle.syntax_tree.specs.declared.trees.table.Region.{Region}
@@ -22,7 +23,8 @@ use Rattle.core_forms.specs.Parts.{AreMacros}
 use Rattle.core_forms.specs.declared.shape.LocalMacro.{LocalMacro}
 use Rattle.core_tree.specs.declared.cores.Binder as code_binder
 use Rattle.expander.specs.Bodies.{HaveNumbers, RulesAre}
-use Rattle.unit_scopes.specs.Macros.{Keeps, numbered}
+use Rattle.unit_scopes.specs.Macros.{edition_of, edition_in, Keeps, numbered}
+use Rattle.unit_scopes.specs.Outcomes.{IsSettled, KeepsNumbers}
 use Rattle.unit_scopes.specs.State.{IsMacro}
 use Rattle.unit_scopes.specs.Stepped.{with_macros}
 use Rattle.feature_requirements.specs.declared.fault.ExpandFault.{ExpandFault}
@@ -37,6 +39,16 @@ use Rattle.noted_steps.specs.Stepped.{kept}
 use Rattle.noted_steps.specs.Outcomes.{Stays, EndsHere}
 use Rattle.noted_steps.proofs.OutcomeLaws.{stays_itself, stays_on, here_after, here_fails, bound_goes}
 use Rattle.noted_steps.specs.Kept.{CanLook}
+
+-- a macro that is local to the form changes no other's edition
+local_numbers : (w : UnitScope) (ms : Macros) (n : ℕ) (m : Macro) → Keeps w.macros ms w.form.number (meanings.Local n) m → KeepsNumbers w (with_macros w ms)
+local_numbers w ms n m keeps = record { defined = λ i there. there; numbers = by }
+  where
+    by : (form : ℕ) (c : Meaning) → IsSettled w c → edition_in ms form c ≡ edition_in w.macros form c
+    by form (meanings.Local i) settled = absurd settled
+    by form (meanings.Global u i) settled = ap edition_of (keeps form (meanings.Global u i))
+    by form (meanings.Standard x) settled = ap edition_of (keeps form (meanings.Standard x))
+    by form (meanings.Free x) settled = refl
 
 -- ---- rules that have a head
 
@@ -207,7 +219,7 @@ module _ (known : Known) (here : Here) (fs : Frames) (work : Work) (region : Reg
             stands = kept_stands work w ls t ms (meanings.Local b.number) n.number m (record { env = fs; rules = ends.0 }) edition apart told keeps tt (number_there t ends.1) ends.3 ends.1.stands;
             work = grows_itself work region;
             counted = omega arith;
-            same = record { unit = refl; number = refl; root = refl; libraries = refl; roots = refl; uses = omega arith; nodes = omega arith };
+            same = record { unit = refl; number = refl; root = refl; libraries = refl; roots = refl; uses = omega arith; nodes = omega arith; numbers = local_numbers w ms b.number (numbered m edition) keeps };
           });
           rest = split ∙ bound_goes one next_kept ends.0 ends.2;
         }

@@ -36,7 +36,7 @@ use Rattle.feature_requirements.specs.declared.fault.ExpandFault.TheVariants as 
 use Rattle.form_parts.specs.declared.heads.Head as code_head
 use Rattle.form_parts.specs.declared.heads.Head.TheVariants as heads
 use Rattle.unit_scopes.specs.declared.scope.UnitScope.{UnitScope}
-use Rattle.unit_scopes.proofs.OutcomeLaws.{grows_itself, leaves_itself}
+use Rattle.unit_scopes.proofs.OutcomeLaws.{grows_itself, leaves_itself, numbers_stay}
 use Rattle.unit_scopes.proofs.NodeLaws.{plain_is}
 use Rattle.expander.proofs.ReadLaws.{HeadNamed}
 use Rattle.noted_steps.specs.Noting.{Noting, state_of, noting}
@@ -185,7 +185,7 @@ meets work region u v ls s x k is for e = subst (λ (w : UnitScope). Stays work 
   stands = keyword_stands work u ls s x k for e;
   work = grows_itself work region;
   counted = omega arith;
-  same = record { unit = refl; number = refl; root = refl; libraries = refl; roots = refl; uses = omega arith; nodes = omega arith };
+  same = record { unit = refl; number = refl; root = refl; libraries = refl; roots = refl; uses = omega arith; nodes = omega arith; numbers = numbers_stay u (with_keyword u x) refl refl };
 })
 
 pub meets_here : (work : Work) (u v : UnitScope) (ls : List Frames) (s : Noting) (x : code_target.Target) (k : Target) → v ≡ with_keyword u x → IsTarget work.symbols s.unit s.form x k → Stands work u ls s → Stands work v ls (met k s)

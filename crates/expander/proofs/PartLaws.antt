@@ -25,6 +25,7 @@ use Rattle.unit_scopes.specs.declared.asked.Asked.{Asked}
 use Rattle.unit_scopes.specs.declared.scope.Budget.{Budget}
 use Rattle.unit_scopes.specs.declared.scope.FormAtWork.{FormAtWork}
 use Rattle.unit_scopes.specs.declared.scope.UnitScope.{UnitScope}
+use Rattle.unit_scopes.proofs.OutcomeLaws.{numbers_from}
 use Rattle.noted_steps.specs.Noting.{Noting, state_of, going, noting}
 use Rattle.noted_steps.specs.Outcomes.{Ends}
 use Rattle.noted_steps.specs.Standing.{Stands, with_notes}
@@ -46,7 +47,7 @@ module _ (old new : Work) (region : Region) (u u1 v : UnitScope) (same : u1 ≡ 
         stands = g.stands;
         work = g.work;
         counted = g.counted;
-        same = record { unit = g.same.unit; number = g.same.number; root = g.same.root; libraries = g.same.libraries; roots = g.same.roots; uses = g.same.uses; nodes = g.same.nodes };
+        same = record { unit = g.same.unit; number = g.same.number; root = g.same.root; libraries = g.same.libraries; roots = g.same.roots; uses = g.same.uses; nodes = g.same.nodes; numbers = numbers_from u (with_notes u u1.form.trace.notes) v refl refl refl g.same.numbers };
       }
 
   pub leaves_from : Leaves old new region u1 → Leaves old new region u

@@ -46,7 +46,7 @@ use Rattle.unit_scopes.specs.declared.uses.Use as code_use
 use Rattle.expander.proofs.DefinitionSteps.{StaysBeside, aside_now}
 use Rattle.expander.proofs.FitLaws.{some_node, shape_fits}
 use Rattle.unit_scopes.proofs.NodeLaws.{plain_is}
-use Rattle.unit_scopes.proofs.OutcomeLaws.{grows_itself, leaves_itself}
+use Rattle.unit_scopes.proofs.OutcomeLaws.{grows_itself, leaves_itself, numbers_stay}
 use Rattle.expander.proofs.PassLaws.{spot_same, goes_misread, goes_so}
 use Rattle.expander.proofs.ReadLaws.{HeadNamed, head_named, target_at}
 use Rattle.expander.proofs.WeightLaws.{weight_less, shape_passes}
@@ -203,7 +203,7 @@ keyword_stays work region u ls s x k is e = record {
   stands = keyword_stands work u ls s x k is e;
   work = grows_itself work region;
   counted = omega arith;
-  same = record { unit = refl; number = refl; root = refl; libraries = refl; roots = refl; uses = omega arith; nodes = omega arith };
+  same = record { unit = refl; number = refl; root = refl; libraries = refl; roots = refl; uses = omega arith; nodes = omega arith; numbers = numbers_stay u (with_keyword u x) refl refl };
 }
 
 -- what definitions demand

@@ -1,5 +1,5 @@
 -- What a step of one form leaves of the others, and what the form itself has then.
-use Rattle.std.proofs.Common.{◌≡◌, ℕ, ◌+◌, ◌*◌, ◌^◌, ◌≤◌, List, [], ◌∷◌, take, false, Option, Some, None, Ok, Err, Vec, Global, refl, sym, ◌∙◌, subst, arith}
+use Rattle.std.proofs.Common.{◌≡◌, ℕ, ◌+◌, ◌*◌, ◌^◌, ◌≤◌, List, [], ◌∷◌, take, false, Option, Some, None, Ok, Err, refl, sym, ◌∙◌, subst, arith}
 use Rattle.scheme_model.specs.Ident.{Ident as Identifier}
 use Rattle.scheme_model.specs.Order.{Left, Pass}
 use Rattle.scheme_model.specs.ScopedExpansion.{Frames, FramedIdent, ScopedState}
@@ -30,7 +30,7 @@ use Rattle.expansion_laws.proofs.OtherForms.{others_itself}
 use Rattle.expansion_laws.proofs.OtherCounts.{others_count, order_stays}
 use Rattle.unit_scopes.proofs.FreshLaws.{none_count, none_has_space}
 use Rattle.expansion_laws.proofs.PartsStay.{fault_on, items_on, uses_on}
-use Rattle.form_expansion.specs.Forms.{Passing, IsUntouched, IsSetAside, HasSpaceLeft, IsDeclared, KeepsOthers, LeavesOthers, PassesTo, PassesOutside}
+use Rattle.form_expansion.specs.Forms.{Passing, IsUntouched, IsSetAside, HasSpaceLeft, IsDeclared, KeepsOthers, LeavesOthers, PassesTo, PassesOutside, declared_as}
 use Rattle.form_expansion.specs.declared.forms.Bench.{Bench}
 use Rattle.form_expansion.specs.declared.forms.Declared as code
 use Rattle.form_expansion.proofs.BenchLaws.{Forgets, stands_outside}
@@ -42,16 +42,16 @@ nothing_left = record { uses = []; items = [] }
 
 pub blank_is : (b : Bench) (unit form : ℕ) (s : ScopedState) (d : code.Declared) → IsUntouched d → IsFresh s form → IsDeclared b.work b.region unit form s d (Ok nothing_left)
 blank_is b unit form s d none fresh =
-    let space : d.budget.locals + (2 ^ 43 + 2 ^ 40) ≤ 2 ^ 44 * (d.budget.nodes + 1) = none_has_space d.budget none.locals in
+    let space : d.so_far.budget.locals + (2 ^ 43 + 2 ^ 40) ≤ 2 ^ 44 * (d.so_far.budget.nodes + 1) = none_has_space d.so_far.budget none.locals in
     record {
-      counts = none_count b.work s form d.budget d.trace fresh none.uses none.nodes none.locals none.definitions none.keywords none.met;
+      counts = none_count b.work s form d.so_far.budget d.so_far.trace fresh none.uses none.nodes none.locals none.definitions none.keywords none.met;
       set_aside =
           subst (λ (f : Option FormFault). IsSetAside b.work b.region unit form d f (Ok nothing_left)) (sym none.fault) (
             subst (λ (us : List code_waiting.WaitingUse). AllMatch (WaitsFor b.work unit form) us []) (sym none.waiting) tt,
             subst (λ (xs : List code_item.Item). AllMatch (ItemFor b.work b.region unit form) xs []) (sym none.aside) tt,
           );
       tops = tt;
-      space = subst (HasSpaceLeft d.budget) (sym none.fault) (omega (arith, space));
+      space = subst (HasSpaceLeft d.so_far.budget) (sym none.fault) (omega (arith, space));
     }
 
 -- ---- the other forms
@@ -69,8 +69,8 @@ none_matched P (y ∷ ys) h = absurd h
 module _ (b c : Bench) (trees : KeepsTrees b.work c.work) (names : KeepsNames b.work.symbols c.work.symbols) (same : c.region ≡ b.region) (unit : ℕ) where
   set_aside_on : (m : ℕ) (d : code.Declared) (f : Option FormFault) (r : Passing) → IsSetAside b.work b.region unit m d f r → IsSetAside c.work c.region unit m d f r
   set_aside_on m d None (Ok l) h = (
-    uses_on b.work c.work trees names unit m d.uses.items l.uses h.0,
-    subst (λ (r : Region). AllMatch (ItemFor c.work r unit m) d.aside l.items) (sym same) (items_on b.work c.work trees names unit b.region m d.aside l.items h.1),
+    uses_on b.work c.work trees names unit m d.left.uses.items l.uses h.0,
+    subst (λ (r : Region). AllMatch (ItemFor c.work r unit m) d.left.items l.items) (sym same) (items_on b.work c.work trees names unit b.region m d.left.items l.items h.1),
   )
   set_aside_on m d None (Err e) h = h
   set_aside_on m d (Some e) (Ok l) h = h
@@ -79,8 +79,8 @@ module _ (b c : Bench) (trees : KeepsTrees b.work c.work) (names : KeepsNames b.
   module _ (form : ℕ) (s t : ScopedState) (stay : OthersStay form s t) where
     pub others_kept : KeepsOthers b c unit form s t
     others_kept m d r apart h = record {
-      counts = others_count form s t stay b.work c.work m d.budget d.trace apart names h.counts;
-      set_aside = set_aside_on m d d.fault r h.set_aside;
+      counts = others_count form s t stay b.work c.work m d.so_far.budget d.so_far.trace apart names h.counts;
+      set_aside = set_aside_on m d d.so_far.fault r h.set_aside;
       tops = h.tops;
       space = h.space;
     }
@@ -112,7 +112,7 @@ module _ (b c : Bench) (trees : KeepsTrees b.work c.work) (names : KeepsNames b.
 module _ (b c : Bench) (trees : KeepsTrees b.work c.work) (names : KeepsNames b.work.symbols c.work.symbols) (same : c.region ≡ b.region) (form : ℕ) (s : ScopedState) (p : Pass Identifier FramedIdent × ScopedState) (stay : OthersStay form s p.1) (tops : OfOk (λ (l : Left Identifier). ItemsBind false l.items) p.0.left)
     (before after : Budget) (ls : List Frames) (trace : Trace) where
   pub passes_ok : (x : code_left.Left) → HasSpace (2 ^ 43) after → Declares b.work c.work b.region b.scope c.scope before after ls form trace (Ok x) p →
-      PassesTo b c s.unit form s p (record { budget = after; trace = trace; uses = x.uses; aside = x.items; fault = None })
+      PassesTo b c s.unit form s p (declared_as (record { budget = after; trace = trace; fault = None }) x)
   passes_ok x space h =
       let goes = h.2 in
       let own : c.scope.unit ≡ s.unit = goes.stands.rests.unit ∙ stay.unit in
@@ -125,23 +125,23 @@ module _ (b c : Bench) (trees : KeepsTrees b.work c.work) (names : KeepsNames b.
         stands = goes.stands;
         form_is = record {
           counts = goes.counts;
-          set_aside = subst (λ (r : Passing). IsSetAside c.work c.region s.unit form (record { budget = after; trace = trace; uses = x.uses; aside = x.items; fault = None }) None r) (sym h.1) (uses, items);
+          set_aside = subst (λ (r : Passing). IsSetAside c.work c.region s.unit form (declared_as (record { budget = after; trace = trace; fault = None }) x) None r) (sym h.1) (uses, items);
           tops = tops;
           space = space;
         };
         others = others_left b c trees names same s.unit form s p.1 stay trace refl;
       }
 
-  pub passes_at : (us : Vec code_waiting.WaitingUse Global) (xs : List code_item.Item) (e : FormFault) → Declares b.work c.work b.region b.scope c.scope before after ls form trace (Err (fault.At e)) p →
-      PassesTo b c s.unit form s p (record { budget = after; trace = trace; uses = us; aside = xs; fault = Some e })
-  passes_at us xs e h =
+  pub passes_at : (x : code_left.Left) (e : FormFault) → Declares b.work c.work b.region b.scope c.scope before after ls form trace (Err (fault.At e)) p →
+      PassesTo b c s.unit form s p (declared_as (record { budget = after; trace = trace; fault = Some e }) x)
+  passes_at x e h =
       let goes = h.2 in
       record {
         layout = goes.layout;
         stands = goes.stands;
         form_is = record {
           counts = goes.counts;
-          set_aside = subst (λ (r : Passing). IsSetAside c.work c.region s.unit form (record { budget = after; trace = trace; uses = us; aside = xs; fault = Some e }) (Some e) r) (sym h.1) h.3;
+          set_aside = subst (λ (r : Passing). IsSetAside c.work c.region s.unit form (declared_as (record { budget = after; trace = trace; fault = Some e }) x) (Some e) r) (sym h.1) h.3;
           tops = tops;
           space = tt;
         };

@@ -1,12 +1,12 @@
 -- What a form set aside is expanded, once its macro uses are met: item by item, until all is or work on the unit ends.
-use Rattle.std.proofs.Common.{◌≡◌, ℕ, zero, suc, ◌+◌, ◌≤◌, ◌<◌, List, [], ◌∷◌, ◌++◌, map, take, drop, reverse, length, get_or, slice_get, true, false, Option, Some, None, Result, Ok, Err, refl, sym, ap, ◌∙◌, subst, arith, true≢false}
+use Rattle.std.proofs.Common.{◌≡◌, ℕ, zero, suc, ◌+◌, ◌≤◌, List, [], ◌∷◌, ◌++◌, map, take, drop, reverse, length, slice_get, true, false, Option, Some, None, Result, Ok, Err, refl, sym, ap, ◌∙◌, subst, arith, true≢false}
 use Rattle.std.specs.Prelude.{nat_lt}
 use Rattle.std.specs.Option.{is_some}
 use Rattle.std.proofs.lemmas.Bool.{le-ltb}
 use Rattle.std.proofs.lemmas.List.{map-append, reverse-reverse}
 use Rattle.std.proofs.lemmas.Option.{same_Some}
 use Rattle.scheme_model.specs.Ident.{Ident as Identifier}
-use Rattle.scheme_model.specs.Order.{Item, Left, Note, WaitingUse}
+use Rattle.scheme_model.specs.Order.{Item, Left, Note}
 use Rattle.scheme_model.specs.Cores.{Part, Parts, no_parts, part}
 use Rattle.scheme_model.specs.Steps.{Broken, Step as ModelStep}
 use Rattle.scheme_model.specs.Expression.{expand, item_part}
@@ -15,7 +15,7 @@ use Rattle.scheme_model.specs.UnitExpansion.{max_depth, max_total, nodes_in, wit
 use Rattle.scheme_model.specs.Requirements.{Known}
 use Rattle.scheme_model.specs.ScopedExpansion.{Frames, FramedIdent, ScopedMacro, ScopedState}
 use Rattle.syntax_tree.specs.Names.{KeepsNames}
-use Rattle.syntax_tree.specs.Works.{IsOpened, KeepsTrees, SameRegions, AddsIn, live_count}
+use Rattle.syntax_tree.specs.Works.{KeepsTrees, live_count}
 use Rattle.syntax_tree.specs.declared.trees.Work.{Work}
 use Rattle.syntax_tree.specs.declared.trees.table.Region.{Region}
 use Rattle.syntax_tree.proofs.Places.{none_some}
@@ -28,23 +28,23 @@ use Rattle.core_tree.specs.declared.traces.FormFault.{FormFault}
 use Rattle.core_tree.specs.declared.traces.Trace.{Trace}
 use Rattle.core_tree.specs.declared.units.ExpandedItem.{ExpandedItem}
 use Rattle.core_tree.specs.declared.units.UnitForm as code_form
-use Rattle.feature_requirements.specs.Judged.{Knows}
 use Rattle.form_laws.specs.Begins.{Each}
+use Rattle.form_notes.specs.Noted.{Noted}
+use Rattle.form_notes.specs.declared.noting.Noting as code_noting
 use Rattle.forgotten_locals.specs.Outside.{macros_outside, outside, forgotten}
 use Rattle.root_laws.specs.AtRoot.{AllAtRoot}
 use Rattle.root_laws.proofs.OutsideItems.{met_macros, item_outside}
 use Rattle.root_laws.proofs.RootStates.{nothing_local, outside_root}
+use Rattle.unit_scopes.specs.Editions.{EditionsTell}
 use Rattle.unit_scopes.specs.Forgotten.{AreAtRoot}
 use Rattle.unit_scopes.specs.Searched.{searched}
 use Rattle.unit_scopes.specs.State.{IsNumbered, numbered_in}
 use Rattle.unit_scopes.specs.Stepped.{turned}
 use Rattle.expansion_laws.specs.Tops.{OfOk, ItemBinds, ItemsBind}
-use Rattle.unit_scopes.specs.Kept.{WaitsFor}
-use Rattle.unit_scopes.specs.Units.{UnitStands, CountsFor, ItemFor, CanDeclare, Expands, uses_met, expanded}
-use Rattle.feature_requirements.specs.declared.fault.ExpandFault.{ExpandFault}
+use Rattle.unit_scopes.specs.Units.{UnitStands, CountsFor, ItemFor, Expands, uses_met, expanded}
 use Rattle.feature_requirements.specs.declared.fault.ExpandFault.TheVariants as fault
 use Rattle.form_parts.specs.declared.items.Item as code_item
-use Rattle.form_parts.specs.declared.items.WaitingUse as code_waiting
+use Rattle.unit_scopes.specs.declared.macros.Macros.{Macros}
 use Rattle.unit_scopes.specs.declared.scope.Budget.{Budget}
 use Rattle.unit_scopes.specs.declared.scope.UnitScope.{UnitScope}
 use Rattle.unit_scopes.proofs.CoreStandLaws.{parts_stand_on, kept_on}
@@ -52,11 +52,14 @@ use Rattle.unit_scopes.proofs.OutcomeLaws.{grows_itself}
 use Rattle.expansion_laws.proofs.ItemTables.{expanded_table, met_table}
 use Rattle.expansion_laws.proofs.OtherForms.{expanded_stays, met_stays}
 use Rattle.expansion_laws.proofs.TopForms.{expanded_binds}
-use Rattle.form_expansion.specs.Forms.{StandsOutside, Passing, IsUntouched, IsSetAside, IsDeclared, KeepsOthers, HaveCounted, expanding, FinishesTo, FinishesForm, EndsForm, CanFinish, Stays, known_by}
+use Rattle.noted_steps.specs.Noting.{Noting, state_of}
+use Rattle.expander.specs.UnitNotes.{CanNote, Editions, HasNoted, expand_noting, met_noting, part_begun}
+use Rattle.form_expansion.specs.Forms.{StandsOutside, Passing, IsSetAside, IsDeclared, KeepsOthers, HaveCounted, expanding, FinishesTo, FinishesForm, EndsForm, NotedInside, NotedOutside, left_noting}
 use Rattle.form_expansion.specs.declared.forms.Bench.{Bench}
 use Rattle.form_expansion.specs.declared.forms.Declared as code
-use Rattle.form_expansion.proofs.BenchLaws.{Forgets, same_root, stands_outside, stays_by, stays_on}
+use Rattle.form_expansion.proofs.BenchLaws.{Forgets, stands_outside}
 use Rattle.form_expansion.proofs.FormAtWork.{item_form, met_form, same_turned, unit_turned}
+use Rattle.form_expansion.proofs.FormNotes.{NotesSo, begins, uses_so, can_note, item_so, item_breaks, tell_before, told_then}
 use Rattle.form_expansion.proofs.FormSteps.{others_kept, declared_outside}
 use Rattle.form_expansion.proofs.Live.{live_on}
 use Rattle.core_tree.proofs.Matched.{matched_at}
@@ -102,20 +105,20 @@ dropped_at [] k x at = none_some x at
 dropped_at (y ∷ xs) zero x at = ap (λ (z : _). z ∷ xs) (same_Some y x at)
 dropped_at (y ∷ xs) (suc k) x at = dropped_at xs k x at
 
-dropped_behind : {X : Type 0} (xs : List X) (k : ℕ) → length xs ≤ k → drop k xs ≡ []
+pub dropped_behind : {X : Type 0} (xs : List X) (k : ℕ) → length xs ≤ k → drop k xs ≡ []
 dropped_behind [] zero le = refl
 dropped_behind [] (suc k) le = refl
 dropped_behind (x ∷ xs) zero le = absurd (omega (arith, le))
 dropped_behind (x ∷ xs) (suc k) le = dropped_behind xs k (omega (arith, le))
 
-matched_length : {X Y : Type 0} (P : X → Y → Type 0) (xs : List X) (ys : List Y) → AllMatch P xs ys → length ys ≡ length xs
+pub matched_length : {X Y : Type 0} (P : X → Y → Type 0) (xs : List X) (ys : List Y) → AllMatch P xs ys → length ys ≡ length xs
 matched_length P [] [] h = refl
 matched_length P [] (y ∷ ys) h = absurd h
 matched_length P (x ∷ xs) [] h = absurd h
 matched_length P (x ∷ xs) (y ∷ ys) h = let e = matched_length P xs ys h.1 in omega (arith, e)
 
 -- what matches as much as nothing does is nothing
-none_more : {X Y : Type 0} (P : X → Y → Type 0) (xs zs : List X) (ys : List Y) → zs ≡ [] → AllMatch P zs ys → AllMatch P xs ys → xs ≡ []
+pub none_more : {X Y : Type 0} (P : X → Y → Type 0) (xs zs : List X) (ys : List Y) → zs ≡ [] → AllMatch P zs ys → AllMatch P xs ys → xs ≡ []
 none_more {X} {Y} P xs zs ys none h k = by xs ys (subst (λ (qs : List X). AllMatch P qs ys) none h) k
   where
     by : (qs : List X) (rs : List Y) → AllMatch P [] rs → AllMatch P qs rs → qs ≡ []
@@ -123,7 +126,7 @@ none_more {X} {Y} P xs zs ys none h k = by xs ys (subst (λ (qs : List X). AllMa
     by (q ∷ qs) [] h k = absurd k
     by (q ∷ qs) (r ∷ rs) h k = absurd h
 
-none_reversed : {X : Type 0} (xs : List X) → reverse xs ≡ [] → xs ≡ []
+pub none_reversed : {X : Type 0} (xs : List X) → reverse xs ≡ [] → xs ≡ []
 none_reversed {X} xs h = sym (reverse-reverse xs) ∙ ap (λ (ys : List X). reverse ys) h
 
 pub none_of : {X : Type 0} (o : Option X) → is_some o ≡ false → o ≡ None
@@ -142,14 +145,22 @@ not_over : {P : Type 0} (total : ℕ) → total ≤ max_total → nat_lt max_tot
 not_over total few many = absurd (true≢false (sym many ∙ le-ltb 500000 total few))
 
 -- a form that has a fault isn't one that set something aside
-no_fault : {P : Type 0} (work : Work) (region : Region) (unit form : ℕ) (s : ScopedState) (d : code.Declared) (b : Broken) → IsDeclared work region unit form s d (Err b) → d.fault ≡ None → P
+pub no_fault : {P : Type 0} (work : Work) (region : Region) (unit form : ℕ) (s : ScopedState) (d : code.Declared) (b : Broken) → IsDeclared work region unit form s d (Err b) → d.so_far.fault ≡ None → P
 no_fault work region unit form s d b h none = absurd (subst (λ (f : Option FormFault). IsSetAside work region unit form d f (Err b)) none h.set_aside)
 
-set_aside_of : (work : Work) (region : Region) (unit form : ℕ) (s : ScopedState) (d : code.Declared) (l : Left Identifier) → IsDeclared work region unit form s d (Ok l) → d.fault ≡ None → IsSetAside work region unit form d None (Ok l)
+pub set_aside_of : (work : Work) (region : Region) (unit form : ℕ) (s : ScopedState) (d : code.Declared) (l : Left Identifier) → IsDeclared work region unit form s d (Ok l) → d.so_far.fault ≡ None → IsSetAside work region unit form d None (Ok l)
 set_aside_of work region unit form s d l h none = subst (λ (f : Option FormFault). IsSetAside work region unit form d f (Ok l)) none h.set_aside
 
+-- nor one that set something aside one that has a fault
+pub never_left : {P : Type 0} (work : Work) (region : Region) (unit form : ℕ) (s : ScopedState) (d : code.Declared) (l : Left Identifier) → IsDeclared work region unit form s d (Ok l) → is_some d.so_far.fault ≡ true → P
+never_left {P} work region unit form s d l h some = by d.so_far.fault h.set_aside some
+  where
+    by : (f : Option FormFault) → IsSetAside work region unit form d f (Ok l) → is_some f ≡ true → P
+    by None is none = absurd cc
+    by (Some e) is none = absurd is
+
 -- what is left of a form without a fault
-left_of : (work : Work) (region : Region) (unit form : ℕ) (s : ScopedState) (d : code.Declared) (r : Passing) → IsDeclared work region unit form s d r → d.fault ≡ None → (l : Left Identifier) × IsDeclared work region unit form s d (Ok l)
+pub left_of : (work : Work) (region : Region) (unit form : ℕ) (s : ScopedState) (d : code.Declared) (r : Passing) → IsDeclared work region unit form s d r → d.so_far.fault ≡ None → (l : Left Identifier) × IsDeclared work region unit form s d (Ok l)
 left_of work region unit form s d (Ok l) h none = (l, h)
 left_of work region unit form s d (Err b) h none = no_fault work region unit form s d b h none
 
@@ -164,13 +175,13 @@ pub record GoneSo (known : Known) (fs : List ℕ) (form : ℕ) (l : Left Identif
   pub on : nat_lt max_total total ≡ false → expanding known fs form (Ok l) s ≡ before done (to_come known fs rest t)
 
 -- what a form set aside is being expanded: what came of so much of it, and the state by now
-pub record Finishing (old new : Bench) (known : Known) (unit form : ℕ) (l : Left Identifier) (s : ScopedState) (k start total : ℕ) (budget : Budget) (trace : Trace) (items : List ExpandedItem) : Type 0 where
+pub record Finishing (old new : Bench) (known : Known) (unit form : ℕ) (l : Left Identifier) (s : ScopedState) (notes : List (Note FramedIdent)) (first : Trace) (k start total : ℕ) (budget : Budget) (trace : Trace) (items : List ExpandedItem) : Type 0 where
   pub layout : List Frames
   pub state : ScopedState
-  pub notes : List (Note FramedIdent)
   pub stands : UnitStands new.work new.scope layout state notes
   pub at_root : AreAtRoot notes
   pub counts : CountsFor new.work state form budget trace
+  pub own : s.unit ≡ unit
   pub number : state.unit ≡ unit
   pub at_work : state.form ≡ form
   pub kept : KeepsOthers old new unit form s state
@@ -181,6 +192,7 @@ pub record Finishing (old new : Bench) (known : Known) (unit form : ℕ) (l : Le
   pub stand : PartsStand new.work unit form (map (λ (i : ExpandedItem). i.part) items) (as_parts parts)
   pub tops : PartsBind false (as_parts parts)
   pub goes : (fs : List ℕ) → HaveCounted known fs form s start → GoneSo known fs form l s total parts (drop k l.items) state
+  pub noted : (editions : Editions) (ms : List Noted) → CanNote old.work old.scope first (s.uses form) editions ms (turned form s) → NotesSo new.work new.scope.macros known l k state trace (begins form notes editions ms s)
 
 -- ---- its uses are met
 
@@ -189,7 +201,8 @@ abbrev pub with_scope : Bench → UnitScope → Bench
 with_scope b u = record b { scope = u }
 
 module _ (b : Bench) (u : UnitScope) (known : Known) (unit form : ℕ) (ls : List Frames) (s : ScopedState) (notes : List (Note FramedIdent)) (d : code.Declared) (l : Left Identifier) (own : s.unit ≡ unit) (h : IsDeclared b.work b.region unit form s d (Ok l)) (trace : Trace)
-    (stands : UnitStands b.work u ls (uses_met known form l.uses s) notes) (at_root : AreAtRoot notes) (counts : CountsFor b.work (uses_met known form l.uses s) form d.budget trace) where
+    (stands : UnitStands b.work u ls (uses_met known form l.uses s) notes) (at_root : AreAtRoot notes) (counts : CountsFor b.work (uses_met known form l.uses s) form d.so_far.budget trace)
+    (noted : (editions : Editions) (ms : List Noted) → CanNote b.work b.scope d.so_far.trace (s.uses form) editions ms (turned form s) → HasNoted b.work u.macros trace (met_noting known l.uses (begins form notes editions ms s))) where
   abbrev met : ScopedState
   met = uses_met known form l.uses s
 
@@ -199,21 +212,21 @@ module _ (b : Bench) (u : UnitScope) (known : Known) (unit form : ℕ) (ls : Lis
       let stay = met_stays form known l.uses s in
       let now : nodes_in (searched known) fs met + s.nodes form ≡ nodes_in (searched known) fs s + met.nodes form = step_counted (searched known) form s met (λ m apart. (stay.counts m apart).nodes) 0 fs c.rise c.among in
       let was : nodes_in (searched known) fs s ≡ total = c.counted in
-      let first : d.budget.nodes ≡ s.nodes form = h.counts.nodes in
-      let last : d.budget.nodes ≡ met.nodes form = counts.nodes in
+      let first : d.so_far.budget.nodes ≡ s.nodes form = h.counts.nodes in
+      let last : d.so_far.budget.nodes ≡ met.nodes form = counts.nodes in
       omega (arith, was, now, first, last)
 
-  pub nothing_finished : (total : ℕ) → total ≤ max_total → Finishing b (with_scope b u) known unit form l s 0 total total d.budget trace []
+  pub nothing_finished : (total : ℕ) → total ≤ max_total → Finishing b (with_scope b u) known unit form l s notes d.so_far.trace 0 total total d.so_far.budget trace []
   nothing_finished total few =
       let stay = met_stays form known l.uses s in
       let g = grows_itself b.work b.region in
       record {
         layout = ls;
         state = met;
-        notes = notes;
         stands = stands;
         at_root = at_root;
         counts = counts;
+        own = own;
         number = stay.unit ∙ own;
         at_work = met_form form known l.uses s;
         kept = others_kept b (with_scope b u) g.trees g.names refl unit form s met stay;
@@ -228,12 +241,13 @@ module _ (b : Bench) (u : UnitScope) (known : Known) (unit form : ℕ) (ls : Lis
           over = λ many. not_over total few many;
           on = λ still. sym (before_none (to_come known fs l.items met));
         };
+        noted = λ editions ms can. uses_so known form l notes editions ms s b.work u.macros trace (noted editions ms can);
       }
 
 -- ---- a form that was broken before
 
 pub broken_before : (b : Bench) (known : Known) (unit form : ℕ) (ls : List Frames) (s : ScopedState) (notes : List (Note FramedIdent)) (d : code.Declared) (r : Passing) (total : ℕ) (e : FormFault) (k : code_form.UnitForm) → StandsOutside b ls s notes → s.unit ≡ unit →
-    IsDeclared b.work b.region unit form s d r → total ≤ max_total → d.fault ≡ Some e → k.fault ≡ Some e → k.trace.definitions ≡ d.trace.definitions → (steps : ℕ) → FinishesForm b b known unit form r s total total steps steps k
+    IsDeclared b.work b.region unit form s d r → total ≤ max_total → d.so_far.fault ≡ Some e → k.fault ≡ Some e → k.trace.definitions ≡ d.so_far.trace.definitions → (steps : ℕ) → FinishesForm b b known unit form r s total total steps steps d.so_far.budget k
 broken_before b known unit form ls s notes d (Ok l) total e k stands own h few was fault told steps = absurd (subst (λ (f : Option FormFault). IsSetAside b.work b.region unit form d f (Ok l)) was h.set_aside)
 broken_before b known unit form ls s notes d (Err x) total e k stands own h few was fault told steps =
     record {
@@ -249,7 +263,7 @@ broken_before b known unit form ls s notes d (Err x) total e k stands own h few 
         result_is = (e, fault, subst (λ (f : Option FormFault). IsSetAside b.work b.region unit form d f (Err x)) was h.set_aside);
         definitions =
             subst (λ (bs : List code_binder.Binder). AllMatch (IsNumbered b.work.symbols form) (reverse bs) (numbered_in unit form s.table)) (sym told)
-            (subst (λ (u : ℕ). AllMatch (IsNumbered b.work.symbols form) (reverse d.trace.definitions) (numbered_in u form s.table)) own h.counts.definitions);
+            (subst (λ (u : ℕ). AllMatch (IsNumbered b.work.symbols form) (reverse d.so_far.trace.definitions) (numbered_in u form s.table)) own h.counts.definitions);
       };
       layout = ls;
       notes = notes;
@@ -258,33 +272,35 @@ broken_before b known unit form ls s notes d (Err x) total e k stands own h few 
       goes = λ fs c. record { counted = turned_counted known form s fs ∙ c.counted; over = λ many. not_over total few many; whole = λ still. (Err x, refl, refl) };
       counted = refl;
       steps = refl;
+      spent = record { uses = h.counts.uses; nodes = h.counts.nodes; locals = h.counts.locals };
     }
 
 pub broken_first : (b : Bench) (known : Known) (unit form : ℕ) (ls : List Frames) (s : ScopedState) (notes : List (Note FramedIdent)) (d : code.Declared) (r : Passing) (total : ℕ) (k : code_form.UnitForm) → StandsOutside b ls s notes → s.unit ≡ unit →
-    IsDeclared b.work b.region unit form s d r → total ≤ max_total → is_some d.fault ≡ true → k.fault ≡ d.fault → k.trace.definitions ≡ d.trace.definitions → (steps : ℕ) → FinishesForm b b known unit form r s total total steps steps k
-broken_first b known unit form ls s notes d r total k stands own h few is fault told steps = by d.fault refl is
+    IsDeclared b.work b.region unit form s d r → total ≤ max_total → is_some d.so_far.fault ≡ true → k.fault ≡ d.so_far.fault → k.trace.definitions ≡ d.so_far.trace.definitions → (steps : ℕ) → FinishesForm b b known unit form r s total total steps steps d.so_far.budget k
+broken_first b known unit form ls s notes d r total k stands own h few is fault told steps = by d.so_far.fault refl is
   where
-    by : (f : Option FormFault) → d.fault ≡ f → is_some f ≡ true → FinishesForm b b known unit form r s total total steps steps k
+    by : (f : Option FormFault) → d.so_far.fault ≡ f → is_some f ≡ true → FinishesForm b b known unit form r s total total steps steps d.so_far.budget k
     by None was is = absurd cc
     by (Some e) was is = broken_before b known unit form ls s notes d r total e k stands own h few was (fault ∙ was) told steps
 
 -- ---- one item more
 
 -- an item that was set aside, in a work that has grown
-pub item_there : (old b : Bench) (unit form : ℕ) (s : ScopedState) (d : code.Declared) (l : Left Identifier) → IsDeclared old.work old.region unit form s d (Ok l) → d.fault ≡ None → KeepsTrees old.work b.work → KeepsNames old.work.symbols b.work.symbols → b.region ≡ old.region →
-    (n : ℕ) (x : code_item.Item) → slice_get d.aside n ≡ Some x → (i : Item Identifier) × (slice_get l.items n ≡ Some i) × ItemFor b.work b.region unit form x i × ItemBinds false i
+pub item_there : (old b : Bench) (unit form : ℕ) (s : ScopedState) (d : code.Declared) (l : Left Identifier) → IsDeclared old.work old.region unit form s d (Ok l) → d.so_far.fault ≡ None → KeepsTrees old.work b.work → KeepsNames old.work.symbols b.work.symbols → b.region ≡ old.region →
+    (n : ℕ) (x : code_item.Item) → slice_get d.left.items n ≡ Some x → (i : Item Identifier) × (slice_get l.items n ≡ Some i) × ItemFor b.work b.region unit form x i × ItemBinds false i
 item_there old b unit form s d l h none trees names same n x at =
-    let m = matched_at (ItemFor old.work old.region unit form) d.aside l.items n x (set_aside_of old.work old.region unit form s d l h none).1 at in
+    let m = matched_at (ItemFor old.work old.region unit form) d.left.items l.items n x (set_aside_of old.work old.region unit form s d l h none).1 at in
     (m.0, m.1, subst (λ (g : Region). ItemFor b.work g unit form x m.0) (sym same) (kept_on old.work b.work trees names unit form old.region x.kept m.0 m.2), top_at l.items n m.0 h.tops m.1)
 
-module _ (known : Known) (old b c : Bench) (unit form : ℕ) (l : Left Identifier) (s : ScopedState) (k start total : ℕ) (before_it after : Budget) (trace next : Trace) (items : List ExpandedItem) (h : Finishing old b known unit form l s k start total before_it trace items) where
+module _ (known : Known) (old b c : Bench) (unit form : ℕ) (l : Left Identifier) (s : ScopedState) (notes : List (Note FramedIdent)) (first : Trace) (k start total : ℕ) (before_it after : Budget) (trace next : Trace) (items : List ExpandedItem)
+    (h : Finishing old b known unit form l s notes first k start total before_it trace items) where
   -- the item, as the scopes' unit has it
-  item_here : (x : code_item.Item) (i : Item Identifier) → ItemFor b.work b.region unit form x i → ItemFor b.work b.region b.scope.unit form x i
+  pub item_here : (x : code_item.Item) (i : Item Identifier) → ItemFor b.work b.region unit form x i → ItemFor b.work b.region b.scope.unit form x i
   item_here x i is = subst (λ (u : ℕ). ItemFor b.work b.region u form x i) (sym (h.stands.rests.unit ∙ h.number)) is
 
   module _ (i : Item Identifier) (trees : KeepsTrees b.work c.work) where
     -- the form has counted no less
-    counts_more : (e : FormFault) → Expands b.work c.work b.region b.scope c.scope before_it after h.layout form next h.notes (Err (fault.At e)) (expanded known form i h.state) → before_it.nodes ≤ after.nodes
+    pub counts_more : (e : FormFault) → Expands b.work c.work b.region b.scope c.scope before_it after h.layout form next notes (Err (fault.At e)) (expanded known form i h.state) → before_it.nodes ≤ after.nodes
     counts_more e x =
         let counted : live_count c.work + before_it.nodes ≤ live_count b.work + after.nodes = x.2.counted in
         let live : live_count b.work ≤ live_count c.work = live_on b.work c.work trees in
@@ -354,9 +370,16 @@ module _ (known : Known) (old b c : Bench) (unit form : ℕ) (l : Left Identifie
             ∙ (ap (before h.parts) (item_fault (searched known) fs one i rest h.state e step.1 (step_is (Err e) so) (ap (nat_lt max_total) step_counts ∙ still))
             ∙ ap (λ (r : Result Parts Broken). (Some r, step.1)) (no_parts_given h.parts e))
 
-      item_finished : (x : ExpandedItem) → ItemBinds false i → Expands b.work c.work b.region b.scope c.scope before_it after h.layout form next h.notes (Ok x) step →
-          Finishing old c known unit form l s (suc k) start (total + x.count) after next (items ++ x ∷ [])
-      item_finished x top e =
+      -- what is noted with it
+      abbrev Notes : Type 0
+      Notes = (editions : Editions) (ms : List Noted) → CanNote b.work b.scope trace trace.notes.begun editions ms (turned form h.state) → HasNoted c.work c.scope.macros next (expand_noting known i (part_begun trace.notes.begun notes editions ms (turned form h.state))).1
+
+      same_unit : h.state.unit ≡ s.unit
+      same_unit = h.number ∙ sym h.own
+
+      pub item_finished : (x : ExpandedItem) → ItemBinds false i → Expands b.work c.work b.region b.scope c.scope before_it after h.layout form next notes (Ok x) step → Notes →
+          Finishing old c known unit form l s notes first (suc k) start (total + x.count) after next (items ++ x ∷ [])
+      item_finished x top e noted =
           let goes = e.2 in
           let own : c.scope.unit ≡ unit = goes.stands.rests.unit ∙ step_unit in
           let stands : PartStands c.work unit form x.part e.0 = subst (λ (u : ℕ). PartStands c.work u form x.part e.0) own e.3 in
@@ -365,10 +388,10 @@ module _ (known : Known) (old b c : Bench) (unit form : ℕ) (l : Left Identifie
           record {
             layout = goes.layout;
             state = step.1;
-            notes = h.notes;
             stands = goes.stands;
             at_root = h.at_root;
             counts = goes.counts;
+            own = h.own;
             number = step_unit;
             at_work = item_form form known i h.state;
             kept = step_kept;
@@ -385,11 +408,15 @@ module _ (known : Known) (old b c : Bench) (unit form : ℕ) (l : Left Identifie
               over = λ many. step_over (total + x.count) nodes goes.counts fs have (Ok e.0) e.1 many;
               on = λ still. step_on (total + x.count) nodes goes.counts fs have e.0 e.1 still;
             };
+            noted = λ editions ms can.
+                let w = h.noted editions ms can in
+                item_so known form l notes editions ms s b.work b.scope.macros k h.state trace w same_unit h.at_work i at c.work c.scope.macros next
+                (noted editions w.now.noted (can_note known form l notes editions ms s b.work b.scope.macros k h.state trace w same_unit h.at_work b.scope refl)) e.0 e.1;
           }
 
       -- it is broken, so nothing behind it is expanded
-      broken_now : (e : FormFault) (q : code_form.UnitForm) (more : ℕ) → more + before_it.nodes ≡ total + after.nodes → q.fault ≡ Some e → q.trace.definitions ≡ next.definitions →
-          Expands b.work c.work b.region b.scope c.scope before_it after h.layout form next h.notes (Err (fault.At e)) step → (from to : ℕ) → to + s.uses form ≡ from + after.uses → FinishesForm old c known unit form (Ok l) s start more from to q
+      pub broken_now : (e : FormFault) (q : code_form.UnitForm) (more : ℕ) → more + before_it.nodes ≡ total + after.nodes → q.fault ≡ Some e → q.trace.definitions ≡ next.definitions →
+          Expands b.work c.work b.region b.scope c.scope before_it after h.layout form next notes (Err (fault.At e)) step → (from to : ℕ) → to + s.uses form ≡ from + after.uses → FinishesForm old c known unit form (Ok l) s start more from to after q
       broken_now e q more nodes told defines x from to steps =
           let goes = x.2 in
           record {
@@ -408,7 +435,7 @@ module _ (known : Known) (old b c : Bench) (unit form : ℕ) (l : Left Identifie
                   (subst (λ (u : ℕ). AllMatch (IsNumbered c.work.symbols form) (reverse next.definitions) (numbered_in u form step.1.table)) step_unit goes.counts.definitions);
             };
             layout = goes.layout;
-            notes = h.notes;
+            notes = notes;
             stands = goes.stands;
             at_root = h.at_root;
             goes = λ fs have. record {
@@ -418,11 +445,28 @@ module _ (known : Known) (old b c : Bench) (unit form : ℕ) (l : Left Identifie
             };
             counted = refl;
             steps = steps ∙ ap (λ n. from + n) goes.counts.uses;
+            spent = record { uses = goes.counts.uses; nodes = goes.counts.nodes; locals = goes.counts.locals };
           }
+
+      pub broken_notes : (e : FormFault) (q : code_form.UnitForm) → q.trace.notes ≡ next.notes → Expands b.work c.work b.region b.scope c.scope before_it after h.layout form next notes (Err (fault.At e)) step → Notes →
+          (editions : Editions) (ms : List Noted) → CanNote old.work old.scope first (s.uses form) editions ms (turned form s) → NotedInside c.work c.scope.macros q.trace (left_noting known l (begins form notes editions ms s))
+      broken_notes e q told x noted editions ms can =
+          let w = h.noted editions ms can in
+          item_breaks known form l notes editions ms s b.work b.scope.macros k h.state trace w same_unit h.at_work i at c.work c.scope.macros next
+          (noted editions w.now.noted (can_note known form l notes editions ms s b.work b.scope.macros k h.state trace w same_unit h.at_work b.scope refl)) x.0 x.1 q.trace (ap (λ (n : code_noting.Noting). n.notes) told)
+
+      -- editions tell the same of macros
+      pub broken_tells : Notes → (editions : Editions) (ms : List Noted) → CanNote old.work old.scope first (s.uses form) editions ms (turned form s) → EditionsTell c.work.symbols c.scope.macros s editions
+      broken_tells noted editions ms can =
+          let w = h.noted editions ms can in
+          tell_before c.work.symbols c.scope.macros step.1 s editions (step_unit ∙ sym h.own) step_macros
+          (told_then known form l notes editions ms s b.work b.scope.macros k h.state trace w same_unit h.at_work i at c.work c.scope.macros next
+          (noted editions w.now.noted (can_note known form l notes editions ms s b.work b.scope.macros k h.state trace w same_unit h.at_work b.scope refl)))
 
 -- ---- a form that was expanded
 
-module _ (old b : Bench) (known : Known) (unit form : ℕ) (l : Left Identifier) (s : ScopedState) (k start total : ℕ) (budget : Budget) (trace : Trace) (items : List ExpandedItem) (h : Finishing old b known unit form l s k start total budget trace items) where
+module _ (old b : Bench) (known : Known) (unit form : ℕ) (l : Left Identifier) (s : ScopedState) (notes : List (Note FramedIdent)) (first : Trace) (k start total : ℕ) (budget : Budget) (trace : Trace) (items : List ExpandedItem)
+    (h : Finishing old b known unit form l s notes first k start total budget trace items) where
   -- as much as is
   finished_so : FinishesTo old b unit form s (record { items = items; trace = trace; fault = None })
   finished_so =
@@ -447,12 +491,12 @@ module _ (old b : Bench) (known : Known) (unit form : ℕ) (l : Left Identifier)
       }
 
   -- nothing is left, or work on the unit ended
-  form_finished : (nat_lt max_total total ≡ false → drop k l.items ≡ []) → (from to : ℕ) → to + s.uses form ≡ from + budget.uses → FinishesForm old b known unit form (Ok l) s start total from to (record { items = items; trace = trace; fault = None })
+  pub form_finished : (nat_lt max_total total ≡ false → drop k l.items ≡ []) → (from to : ℕ) → to + s.uses form ≡ from + budget.uses → FinishesForm old b known unit form (Ok l) s start total from to budget (record { items = items; trace = trace; fault = None })
   unfolding finished_so
   form_finished all from to steps = record {
     finishes = finished_so;
     layout = h.layout;
-    notes = h.notes;
+    notes = notes;
     stands = h.stands;
     at_root = h.at_root;
     goes = λ fs have.
@@ -467,11 +511,12 @@ module _ (old b : Bench) (known : Known) (unit form : ℕ) (l : Left Identifier)
         };
     counted = ap (λ (t : ScopedState). (searched known).counted t) (same_turned h.state form h.at_work);
     steps = steps ∙ ap (λ n. from + n) h.counts.uses;
+    spent = record { uses = h.counts.uses; nodes = h.counts.nodes; locals = h.counts.locals };
   }
 
 -- ---- what is local to it is forgotten
 
-module _ (old b : Bench) (u : UnitScope) (forgets : Forgets b u) (known : Known) (unit form : ℕ) (r : Passing) (s : ScopedState) (macros : AllAtRoot s) (before_it after from to : ℕ) (c : code_form.UnitForm) (h : FinishesForm old b known unit form r s before_it after from to c) where
+module _ (old b : Bench) (u : UnitScope) (forgets : Forgets b u) (known : Known) (unit form : ℕ) (r : Passing) (s : ScopedState) (macros : AllAtRoot s) (before_it after from to : ℕ) (budget : Budget) (c : code_form.UnitForm) (h : FinishesForm old b known unit form r s before_it after from to budget c) where
   abbrev then_ : ScopedState
   then_ = h.finishes.state
 
@@ -490,7 +535,7 @@ module _ (old b : Bench) (u : UnitScope) (forgets : Forgets b u) (known : Known)
         definitions = f.definitions;
       }
 
-  pub ends_outside : EndsForm old (record b { scope = u }) known unit form r s before_it after from to c
+  pub ends_outside : EndsForm old (record b { scope = u }) known unit form r s before_it after from to budget c
   unfolding outside_to
   ends_outside = record {
     finishes = outside_to;
@@ -507,176 +552,9 @@ module _ (old b : Bench) (u : UnitScope) (forgets : Forgets b u) (known : Known)
         };
     counted = h.counted;
     steps = h.steps;
+    spent = let x = h.spent in record { uses = x.uses; nodes = x.nodes; locals = x.locals };
   }
 
--- ---- the loop over a form's items
-
--- nothing was met
-pub record IsBlankTrace (t : Trace) : Type 0 where
-  pub definitions : t.definitions ≡ []
-  pub keywords : t.keywords ≡ []
-  pub uses : t.uses ≡ []
-
-item_at : {X : Type 0} (xs : List X) (k : ℕ) (d : X) → k < length xs → slice_get xs k ≡ Some (get_or xs k d)
-item_at [] k d low = absurd (omega (arith, low))
-item_at (x ∷ xs) zero d low = refl
-item_at (x ∷ xs) (suc k) d low = item_at xs k d (omega (arith, low))
-
--- what came of the form so far, from each state that it may have begun in
-abbrev pub Continues : (old b : Bench) (unit form : ℕ) → code.Declared → (k start total : ℕ) → Budget → Trace → List ExpandedItem → Type 0
-Continues old b unit form d k start total budget trace items = (known : Known) (ls : List Frames) (s : ScopedState) (notes : List (Note FramedIdent)) (l : Left Identifier) → Knows old.scope.libraries known → StandsOutside old ls s notes → s.unit ≡ unit →
-    IsDeclared old.work old.region unit form s d (Ok l) → Finishing old b known unit form l s k start total budget trace items
-
--- what comes of the form, from each state that it may begin in
-abbrev pub Finished : (old b : Bench) (unit form : ℕ) → code.Declared → (start total : ℕ) → (from to : ℕ) → code_form.UnitForm → Type 0
-Finished old b unit form d start total from to k = (known : Known) (ls : List Frames) (s : ScopedState) (notes : List (Note FramedIdent)) (r : Passing) → Knows old.scope.libraries known → StandsOutside old ls s notes → s.unit ≡ unit →
-    IsDeclared old.work old.region unit form s d r → FinishesForm old b known unit form r s start total from to k
-
--- and where what is local to it is forgotten then
-abbrev pub Ended : (old b : Bench) (unit form : ℕ) → code.Declared → (start total : ℕ) → (from to : ℕ) → code_form.UnitForm → Type 0
-Ended old b unit form d start total from to k = (known : Known) (ls : List Frames) (s : ScopedState) (notes : List (Note FramedIdent)) (r : Passing) → Knows old.scope.libraries known → StandsOutside old ls s notes → s.unit ≡ unit →
-    IsDeclared old.work old.region unit form s d r → EndsForm old b known unit form r s start total from to k
-
--- the call that meets the form's uses
-abbrev pub Meets : (b : Bench) (u : UnitScope) (form : ℕ) (budget : Budget) (trace next : Trace) → List code_waiting.WaitingUse → Type 0
-Meets b u form budget trace next xs = (known : Known) (ls : List Frames) (s : ScopedState) (notes : List (Note FramedIdent)) (us : List (WaitingUse Identifier)) → UnitStands b.work b.scope ls s notes → CountsFor b.work s form budget trace → AllMatch (WaitsFor b.work b.scope.unit form) xs us →
-    UnitStands b.work u ls (uses_met known form us s) notes × CountsFor b.work (uses_met known form us s) form budget next
-
--- the call that expands the item
-abbrev pub Step : (b c : Bench) (form : ℕ) (before after : Budget) (trace next : Trace) → code_item.Item → Result ExpandedItem ExpandFault → Type 0
-Step b c form before_it after trace next x result = (known : Known) (ls : List Frames) (s : ScopedState) (notes : List (Note FramedIdent)) (i : Item Identifier) → Knows b.scope.libraries known →
-    UnitStands b.work b.scope ls s notes → CountsFor b.work s form before_it trace → ItemFor b.work b.region b.scope.unit form x i →
-    Expands b.work c.work b.region b.scope c.scope before_it after ls form next notes result (expanded known form i s)
-
-module _ (b : Bench) (unit form : ℕ) (d : code.Declared) (none : d.fault ≡ None) where
-  waits_here : (ls : List Frames) (s : ScopedState) (notes : List (Note FramedIdent)) (l : Left Identifier) → UnitStands b.work b.scope ls s notes → s.unit ≡ unit → IsDeclared b.work b.region unit form s d (Ok l) → AllMatch (WaitsFor b.work b.scope.unit form) d.uses.items l.uses
-  waits_here ls s notes l stands own h =
-      subst (λ (u : ℕ). AllMatch (WaitsFor b.work u form) d.uses.items l.uses) (sym (stands.rests.unit ∙ own)) (set_aside_of b.work b.region unit form s d l h none).0
-
-  -- what the call demands
-  pub can_meet : CanFinish b unit form d → CanDeclare b.work b.scope form d.budget d.trace
-  can_meet can = record { layout = can.layout; state = can.state; notes = can.notes; stands = can.stands.stands; counts = can.form_is.counts }
-
-  pub uses_wait : CanFinish b unit form d → (us : List (WaitingUse Identifier)) × AllMatch (WaitsFor b.work b.scope.unit form) d.uses.items us
-  uses_wait can = let l = left_of b.work b.region unit form can.state d can.result can.form_is none in (l.0.uses, waits_here can.layout can.state can.notes l.0 can.stands.stands can.number l.1)
-
-  module _ (u : UnitScope) (next : Trace) (call : Meets b u form d.budget d.trace next d.uses.items) where
-    -- its uses are met, and no item is expanded
-    pub uses_continue : (total : ℕ) → total ≤ max_total → Continues b (with_scope b u) unit form d 0 total total d.budget next []
-    uses_continue total few known ls s notes l knows stands own h =
-        let m = call known ls s notes l.uses stands.stands h.counts (waits_here ls s notes l stands.stands own h) in
-        nothing_finished b u known unit form ls s notes d l own h next m.0 stands.notes m.1 total few
-
-    -- a form that isn't expanded has met nothing by now either
-    pub still_blank : IsUntouched d → CanFinish b unit form d → IsBlankTrace next
-    still_blank un can =
-        let s = can.state in
-        let names = b.work.symbols in
-        let was = can.form_is.counts in
-        let now = (call (known_by b.scope.libraries) can.layout s can.notes [] can.stands.stands was (subst (λ (xs : List code_waiting.WaitingUse). AllMatch (WaitsFor b.work b.scope.unit form) xs []) (sym un.waiting) tt)).1 in
-        record {
-          definitions =
-              none_reversed next.definitions
-              (none_more (IsNumbered names form) (reverse next.definitions) (reverse d.trace.definitions) (numbered_in s.unit form s.table) (ap (λ (bs : List code_binder.Binder). reverse bs) un.definitions) was.definitions now.definitions);
-          keywords = none_more (IsTarget names s.unit form) next.keywords d.trace.keywords (reverse (s.keywords form)) un.keywords was.keywords now.keywords;
-          uses = none_more (IsUse names s.unit form) next.uses d.trace.uses (reverse (s.met form)) un.met was.met now.met;
-        }
-
-pub uses_stay : (b : Bench) (u : UnitScope) → IsOpened b.work b.region → u ≡ record b.scope { form = u.form } → Stays b (with_scope b u)
-uses_stay b u opened is =
-    let g = grows_itself b.work b.region in
-    stays_by b (with_scope b u) opened refl g.trees g.names g.added g.regions (ap (λ (v : UnitScope). v.env.roots) is) (ap (λ (v : UnitScope). v.root) is) (ap (λ (v : UnitScope). v.libraries) is)
-
-module _ (old b : Bench) (unit form : ℕ) (d : code.Declared) (none : d.fault ≡ None) (stay : Stays old b) (k start total : ℕ) (before_it : Budget) (trace : Trace) (items : List ExpandedItem) (so : Continues old b unit form d k start total before_it trace items)
-    (xs : List code_item.Item) (whole : xs ≡ d.aside) (x : code_item.Item) (low : k < length xs) (is : x ≡ get_or xs k x) where
-  x_at : slice_get d.aside k ≡ Some x
-  x_at = subst (λ (ys : List code_item.Item). slice_get ys k ≡ Some x) whole (item_at xs k x low ∙ ap (λ (y : code_item.Item). Some y) (sym is))
-
-  -- the item that it stands for
-  record Here (set : List (Item Identifier)) : Type 0 where
-    item : Item Identifier
-    there : drop k set ≡ item ∷ drop (suc k) set
-    stands : ItemFor b.work b.region b.scope.unit form x item
-    binds : ItemBinds false item
-
-  item_is : (known : Known) (s : ScopedState) (l : Left Identifier) → IsDeclared old.work old.region unit form s d (Ok l) → Finishing old b known unit form l s k start total before_it trace items → Here l.items
-  item_is known s l h f =
-      let i = item_there old b unit form s d l h none stay.trees stay.names stay.region k x x_at in
-      record { item = i.0; there = dropped_at l.items k i.0 i.1; stands = item_here known old b b unit form l s k start total before_it before_it trace trace items f x i.0 i.2; binds = i.3 }
-
-  abbrev all_known : Known
-  all_known = known_by old.scope.libraries
-
-  all_there : Knows old.scope.libraries all_known
-  all_there n _ = refl
-
-  module _ (c : Bench) (after : Budget) (next : Trace) (trees : KeepsTrees b.work c.work) (names : KeepsNames b.work.symbols c.work.symbols) (added : AddsIn b.work c.work b.region) (regions : SameRegions b.work c.work) (same : c.region ≡ b.region) where
-    pub ok_finishes : (y : ExpandedItem) → nat_lt max_total total ≡ false → Step b c form before_it after trace next x (Ok y) → Continues old c unit form d (suc k) start (total + y.count) after next (items ++ y ∷ [])
-    ok_finishes y few call known ls s notes l knows stands own h =
-        let f = so known ls s notes l knows stands own h in
-        let i = item_is known s l h f in
-        item_finished known old b c unit form l s k start total before_it after trace next items f i.item trees names same i.there few y i.binds
-        (call known f.layout f.state f.notes i.item (stay.libraries known knows) f.stands f.counts i.stands)
-
-    pub at_finishes : (e : FormFault) (more : ℕ) → more + before_it.nodes ≡ total + after.nodes → nat_lt max_total total ≡ false → Step b c form before_it after trace next x (Err (fault.At e)) →
-        (q : code_form.UnitForm) → q.fault ≡ Some e → q.trace.definitions ≡ next.definitions → (from to : ℕ) → to + d.budget.uses ≡ from + after.uses → Finished old c unit form d start more from to q
-    at_finishes e more nodes few call q told defines from to steps known ls s notes (Err z) knows stands own h = no_fault old.work old.region unit form s d z h none
-    at_finishes e more nodes few call q told defines from to steps known ls s notes (Ok l) knows stands own h =
-        let f = so known ls s notes l knows stands own h in
-        let i = item_is known s l h f in
-        broken_now known old b c unit form l s k start total before_it after trace next items f i.item trees names same i.there few e q more nodes told defines
-        (call known f.layout f.state f.notes i.item (stay.libraries known knows) f.stands f.counts i.stands) from to (ap (λ n. to + n) (sym h.counts.uses) ∙ steps)
-
-    -- what the call leaves, by the state that there is
-    module _ (can : CanFinish old unit form d) where
-      abbrev left : (l : Left Identifier) × IsDeclared old.work old.region unit form can.state d (Ok l)
-      left = left_of old.work old.region unit form can.state d can.result can.form_is none
-
-      step_root : (f : Finishing old b all_known unit form left.0 can.state k start total before_it trace items) (i : Item Identifier) (ms : List Frames) → UnitStands c.work c.scope ms (expanded all_known form i f.state).1 f.notes → c.scope.env.roots ≡ b.scope.env.roots →
-          c.scope.root ≡ b.scope.root
-      step_root f i ms after roots = same_root b.work c.work b.scope c.scope f.layout ms f.state (expanded all_known form i f.state).1 f.notes f.notes f.stands after (expanded_stays form all_known i f.state).unit roots
-
-      pub ok_stays : (y : ExpandedItem) → Step b c form before_it after trace next x (Ok y) → Stays old c
-      ok_stays y call =
-          let f = so all_known can.layout can.state can.notes left.0 all_there can.stands can.number left.1 in
-          let i = item_is all_known can.state left.0 left.1 f in
-          let goes = (call all_known f.layout f.state f.notes i.item (stay.libraries all_known all_there) f.stands f.counts i.stands).2 in
-          stays_on old b c stay (stays_by b c stay.opened same trees names added regions goes.units (step_root f i.item goes.layout goes.stands goes.units) goes.libraries)
-
-      pub at_stays : (e : FormFault) → Step b c form before_it after trace next x (Err (fault.At e)) → Stays old c × (before_it.nodes ≤ after.nodes)
-      at_stays e call =
-          let f = so all_known can.layout can.state can.notes left.0 all_there can.stands can.number left.1 in
-          let i = item_is all_known can.state left.0 left.1 f in
-          let gone = call all_known f.layout f.state f.notes i.item (stay.libraries all_known all_there) f.stands f.counts i.stands in (
-            stays_on old b c stay (stays_by b c stay.opened same trees names added regions gone.2.units (step_root f i.item gone.2.layout gone.2.stands gone.2.units) gone.2.libraries),
-            counts_more all_known old b c unit form left.0 can.state k start total before_it after trace next items f i.item trees e gone,
-          )
-
-  pub item_ready : CanFinish old unit form d → (i : Item Identifier) × ItemFor b.work b.region b.scope.unit form x i
-  item_ready can =
-      let l = left_of old.work old.region unit form can.state d can.result can.form_is none in
-      let i = item_is all_known can.state l.0 l.1 (so all_known can.layout can.state can.notes l.0 all_there can.stands can.number l.1) in (i.item, i.stands)
-
--- ---- all items of a form, or as many as are expanded before work on the unit ends
-
-module _ (old b : Bench) (unit form : ℕ) (d : code.Declared) (none : d.fault ≡ None) (k start total : ℕ) (budget : Budget) (trace : Trace) (items : List ExpandedItem) (so : Continues old b unit form d k start total budget trace items) where
-  pub finishes_by : (nat_lt max_total total ≡ false → length d.aside ≤ k) → (from to : ℕ) → to + d.budget.uses ≡ from + budget.uses → Finished old b unit form d start total from to (record { items = items; trace = trace; fault = None })
-  finishes_by all from to steps known ls s notes (Err e) knows stands own h = no_fault old.work old.region unit form s d e h none
-  finishes_by all from to steps known ls s notes (Ok l) knows stands own h =
-      form_finished old b known unit form l s k start total budget trace items (so known ls s notes l knows stands own h)
-      (λ few.
-      let long = matched_length (ItemFor old.work old.region unit form) d.aside l.items (set_aside_of old.work old.region unit form s d l h none).1 in
-      let there = all few in
-      dropped_behind l.items k (omega (arith, there, long)))
-      from to (ap (λ n. to + n) (sym h.counts.uses) ∙ steps)
-
-  -- what a loop over the items knows of the scopes
-  pub can_go_on : CanFinish old unit form d → CanDeclare b.work b.scope form budget trace
-  can_go_on can =
-      let l = left_of old.work old.region unit form can.state d can.result can.form_is none in
-      let h = so (known_by old.scope.libraries) can.layout can.state can.notes l.0 (λ n _. refl) can.stands can.number l.1 in
-      record { layout = h.layout; state = h.state; notes = h.notes; stands = h.stands; counts = h.counts }
-
--- a form that set nothing aside has no item
-pub none_there : {P : Type 0} (xs ys : List code_item.Item) → xs ≡ ys → ys ≡ [] → (k : ℕ) → k < length xs → P
-none_there xs ys same none k low = absurd (let long : length xs ≡ 0 = ap (λ (zs : List code_item.Item). length zs) (same ∙ none) in omega (arith, low, long))
+-- and so its notes stand
+pub noted_outside : (work : Work) (old new : Macros) (trace : Trace) (t : Noting) → NotedInside work old trace t → EditionsTell work.symbols new (outside (state_of t)) t.since.editions → NotedOutside work new trace t
+noted_outside work old new trace t h editions = record { notes = h.notes; editions = editions }

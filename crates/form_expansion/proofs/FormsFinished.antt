@@ -29,6 +29,7 @@ use Rattle.unit_scopes.specs.Others.{InOrder}
 use Rattle.unit_scopes.specs.Searched.{searched}
 use Rattle.unit_scopes.specs.State.{numbered, IsNumbered, numbered_in}
 use Rattle.unit_scopes.specs.Forgotten.{OwnFirst}
+use Rattle.unit_scopes.specs.declared.scope.Budget.{Budget}
 use Rattle.unit_scopes.specs.declared.scope.UnitScope.{UnitScope}
 use Rattle.unit_scopes.proofs.CoreStandLaws.{every_on}
 use Rattle.unit_scopes.proofs.FormsDefine.{Tell, forms_define}
@@ -39,7 +40,8 @@ use Rattle.form_expansion.specs.Forms.{StandsOutside, IsUntouched, HaveCounted, 
 use Rattle.form_expansion.specs.declared.forms.Bench.{Bench}
 use Rattle.form_expansion.specs.declared.forms.Declared as code
 use Rattle.form_expansion.proofs.DeclaredForms.{declared_on}
-use Rattle.form_expansion.proofs.FormsFinish.{Ended, with_scope, dropped_at}
+use Rattle.form_expansion.proofs.FormsFinish.{with_scope, dropped_at}
+use Rattle.form_expansion.proofs.FormLoop.{Ended}
 use Rattle.form_expansion.proofs.UnitForms.{step_total}
 use Rattle.form_expansion.proofs.UnitWalk.{behind, behind_none, behind_twice}
 use Rattle.form_expansion.proofs.OutsideWalk.{way, among_left, finish_over, finish_on}
@@ -143,8 +145,8 @@ can_finish_at b unit place ds first h n same d at = subst (λ (m : ℕ). CanFini
 
 -- as it is left by the call that expands the form
 pub finished_at : (b c : Bench) (unit place : ℕ) (ds : List code.Declared) (cs : List code_form.UnitForm) (k : code_form.UnitForm) (h : AreFinished b unit place ds cs) → KeepsTrees b.work c.work → KeepsNames b.work.symbols c.work.symbols →
-    (d : code.Declared) → slice_get ds place ≡ Some d → (start total : ℕ) (from to : ℕ) → Ended b c unit place d start total from to k → AreFinished c unit (suc place) ds (cs ++ k ∷ [])
-finished_at b c unit place ds cs k h trees names d at start total from to so =
+    (d : code.Declared) → slice_get ds place ≡ Some d → (start total : ℕ) (from to : ℕ) (budget : Budget) → Ended b c unit place d start total from to budget k → AreFinished c unit (suc place) ds (cs ++ k ∷ [])
+finished_at b c unit place ds cs k h trees names d at start total from to budget so =
     let was = h.held in
     let x = was.held place d (omega arith) at in
     let f = so (known_by b.scope.libraries) was.layout was.state was.notes x.0 (λ l _. refl) was.stands was.number x.1 in
@@ -173,7 +175,7 @@ none_matched {X} {Y} P xs ys none h = by ys (subst (λ (zs : List X). AllMatch P
 blank_to : (b : Bench) (u : UnitScope) (unit place : ℕ) (ds : List code.Declared) (h : FormsHeld b unit place ds) (d : code.Declared) (k : code_form.UnitForm) → slice_get ds place ≡ Some d → IsUntouched d → IsBlank k → FinishesTo b (with_scope b u) unit place h.state k
 blank_to b u unit place ds h d k at none blank =
     let x = h.held place d (omega arith) at in
-    let defined : numbered_in h.state.unit place h.state.table ≡ [] = none_matched (IsNumbered b.work.symbols place) d.trace.definitions (numbered_in h.state.unit place h.state.table) none.definitions x.1.counts.definitions in
+    let defined : numbered_in h.state.unit place h.state.table ≡ [] = none_matched (IsNumbered b.work.symbols place) d.so_far.trace.definitions (numbered_in h.state.unit place h.state.table) none.definitions x.1.counts.definitions in
     record {
       state = h.state;
       number = h.number;
@@ -264,7 +266,7 @@ module _ (known : Known) (unit : ℕ) (rs : List LeftOrKept) (s : ScopedState) (
 
     -- one that is
     module _ (c : Bench) (after : ℕ) (trees : KeepsTrees b.work c.work) (names : KeepsNames b.work.symbols c.work.symbols) (r : LeftOrKept) (rest : List LeftOrKept) (parted : a.front ++ r ∷ rest ≡ rs) (others : a.rest ≡ r ∷ rest) (here : r.form ≡ place)
-        (left : AreDeclared b.work b.region unit (suc place) was (drop (suc place) ds) rest) (to : ℕ) (f : EndsForm b c known unit place r.left was total after so_many to k) where
+        (left : AreDeclared b.work b.region unit (suc place) was (drop (suc place) ds) rest) (to : ℕ) (budget : Budget) (f : EndsForm b c known unit place r.left was total after so_many to budget k) where
       abbrev now : ScopedState
       now = f.finishes.state
 
@@ -332,9 +334,9 @@ module _ (known : Known) (unit : ℕ) (rs : List LeftOrKept) (s : ScopedState) (
     next_is = dropped_at ds place d at
 
     -- either
-    pub one_so : (c : Bench) (after to : ℕ) → KeepsTrees b.work c.work → KeepsNames b.work.symbols c.work.symbols → Knows b.scope.libraries known → (IsUntouched d → IsBlank k) → (IsUntouched d → IsForgotten b c × (after ≡ total) × (to ≡ so_many)) → Ended b c unit place d total after so_many to k →
+    pub one_so : (c : Bench) (after to : ℕ) (budget : Budget) → KeepsTrees b.work c.work → KeepsNames b.work.symbols c.work.symbols → Knows b.scope.libraries known → (IsUntouched d → IsBlank k) → (IsUntouched d → IsForgotten b c × (after ≡ total) × (to ≡ so_many)) → Ended b c unit place d total after so_many to budget k →
         AllSo c after (suc place) to (cs ++ k ∷ [])
-    one_so c after to trees names knows blank same so = by a.rest refl (subst (λ (es : List code.Declared). AreDeclared b.work b.region unit place was es a.rest) next_is so_far.left)
+    one_so c after to budget trees names knows blank same so = by a.rest refl (subst (λ (es : List code.Declared). AreDeclared b.work b.region unit place was es a.rest) next_is so_far.left)
       where
         none : IsUntouched d → AreDeclared b.work b.region unit (suc place) was (drop (suc place) ds) a.rest → AllSo c after (suc place) to (cs ++ k ∷ [])
         none un left =
@@ -349,7 +351,7 @@ module _ (known : Known) (unit : ℕ) (rs : List LeftOrKept) (s : ScopedState) (
         by (r ∷ rest) is h = elim h [
           | inl un ↦ none un.0 (subst (λ (qs : List LeftOrKept). AreDeclared b.work b.region unit (suc place) was (drop (suc place) ds) qs) (sym is) un.2)
           | inr made ↦
-              next_so c after trees names r rest (ap (λ (qs : List LeftOrKept). a.front ++ qs) (sym is) ∙ a.parted) is made.0 made.2 to
+              next_so c after trees names r rest (ap (λ (qs : List LeftOrKept). a.front ++ qs) (sym is) ∙ a.parted) is made.0 made.2 to budget
               (so known a.base.held.layout was a.base.held.notes r.left knows a.base.held.stands a.base.held.number made.1)
         ]
 
@@ -392,10 +394,10 @@ pub none_from : (b : Bench) (unit : ℕ) (ds : List code.Declared) (start steps 
 none_from b unit ds start steps known h rs knows can = none_so known unit rs h.state can.rise ds steps b h start refl can
 
 pub next_from : (old b c : Bench) (unit : ℕ) (ds : List code.Declared) (start total place : ℕ) (from now : ℕ) (cs : List code_form.UnitForm) → AllFrom old b unit ds start total place from now cs → Stays old b → Stays b c → nat_lt max_total total ≡ false →
-    (d : code.Declared) → slice_get ds place ≡ Some d → (k : code_form.UnitForm) (after to : ℕ) → (IsUntouched d → IsBlank k) → (IsUntouched d → IsForgotten b c × (after ≡ total) × (to ≡ now)) → Ended b c unit place d total after now to k →
+    (d : code.Declared) → slice_get ds place ≡ Some d → (k : code_form.UnitForm) (after to : ℕ) (budget : Budget) → (IsUntouched d → IsBlank k) → (IsUntouched d → IsForgotten b c × (after ≡ total) × (to ≡ now)) → Ended b c unit place d total after now to budget k →
     AllFrom old c unit ds start after (suc place) from to (cs ++ k ∷ [])
-next_from old b c unit ds start total place from now cs so stay stays few d at k after to blank same done known h rs knows can =
-    one_so known unit rs h.state can.rise ds from b total place now cs (so known h rs knows can) few d at k c after to stays.trees stays.names (stay.libraries known knows) blank same done
+next_from old b c unit ds start total place from now cs so stay stays few d at k after to budget blank same done known h rs knows can =
+    one_so known unit rs h.state can.rise ds from b total place now cs (so known h rs knows can) few d at k c after to budget stays.trees stays.names (stay.libraries known knows) blank same done
 
 pub all_from : (old b : Bench) (unit : ℕ) (ds : List code.Declared) (start total place : ℕ) (from to : ℕ) (cs : List code_form.UnitForm) → AllFrom old b unit ds start total place from to cs → (nat_lt max_total total ≡ false → place ≡ length ds) →
     (known : Known) (h : FormsHeld old unit 0 ds) (rs : List LeftOrKept) → Knows old.scope.libraries known → CanFinishAll old unit known rs h.state start ds → Finishes b unit known rs h.state total from to cs

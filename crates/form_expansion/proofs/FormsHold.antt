@@ -174,7 +174,7 @@ dropped_all (f ∷ fs) zero le = absurd (omega (arith, le))
 dropped_all (f ∷ fs) (suc k) le = dropped_all fs k (omega (arith, le))
 
 -- one form more
-pub used_more : (ds : List code.Declared) (d : code.Declared) → used_by (ds ++ d ∷ []) ≡ used_by ds + d.budget.uses
+pub used_more : (ds : List code.Declared) (d : code.Declared) → used_by (ds ++ d ∷ []) ≡ used_by ds + d.so_far.budget.uses
 used_more [] d = omega arith
 used_more (e ∷ ds) d = let rest = used_more ds d in omega (arith, rest)
 
@@ -230,10 +230,10 @@ module _ (known : Known) (unit : ℕ) (ts : List (ℕ × Tree Identifier)) (s : 
     by_declared q = behind a.gone (to_come (cond q others (tree ∷ others)) a.base.held.notes was)
 
     -- one that isn't expanded
-    blank_so : f.declared ≡ true → IsUntouched d → PassedSo b (total + d.budget.nodes) (ds ++ d ∷ []) (suc place) left
+    blank_so : f.declared ≡ true → IsUntouched d → PassedSo b (total + d.so_far.budget.nodes) (ds ++ d ∷ []) (suc place) left
     unfolding blank_held
     blank_so off none =
-        let same : total ≡ total + d.budget.nodes = let e = none.nodes in omega (arith, e) in
+        let same : total ≡ total + d.so_far.budget.nodes = let e = none.nodes in omega (arith, e) in
         record {
           base = blank_held b unit ds a.base d none;
           front = a.front;
@@ -257,25 +257,25 @@ module _ (known : Known) (unit : ℕ) (ts : List (ℕ × Tree Identifier)) (s : 
       parted_so : (a.front ++ tree ∷ []) ++ others ≡ ts
       parted_so = append_assoc a.front (tree ∷ []) others ∙ (ap (λ (q : Bool). a.front ++ cond q others (tree ∷ others)) (sym off) ∙ a.parted)
 
-      counted_so : nodes_in (counted known) (numbers_of ts) now.1 ≡ total + d.budget.nodes
+      counted_so : nodes_in (counted known) (numbers_of ts) now.1 ≡ total + d.so_far.budget.nodes
       counted_so =
           let here : IsAmong place (numbers_of ts) = subst (λ (xs : List (ℕ × Tree Identifier)). IsAmong place (numbers_of xs)) (sym (append_assoc a.front (tree ∷ []) others) ∙ parted_so) (among a.front others tree) in
           let stay = declared_stays place known (taken unit place (form_of f)) a.base.held.notes was in
-          counted_on (nodes_in (counted known) (numbers_of ts) now.1) (nodes_in (counted known) (numbers_of ts) was) total d.budget.nodes (was.nodes place) (now.1.nodes place)
+          counted_on (nodes_in (counted known) (numbers_of ts) now.1) (nodes_in (counted known) (numbers_of ts) was) total d.so_far.budget.nodes (was.nodes place) (now.1.nodes place)
           (step_counted (counted known) place was now.1 (λ m apart. (stay.counts m apart).nodes) 0 (numbers_of ts) rise here) a.counted (a.base.fresh place (omega (arith, at))).nodes n.form_is.counts.nodes
 
       used_so : total_of now.1.uses (numbers_of ts) ≡ used_by (ds ++ d ∷ [])
       used_so =
           let here : IsAmong place (numbers_of ts) = subst (λ (xs : List (ℕ × Tree Identifier)). IsAmong place (numbers_of xs)) (sym (append_assoc a.front (tree ∷ []) others) ∙ parted_so) (among a.front others tree) in
           let stay = declared_stays place known (taken unit place (form_of f)) a.base.held.notes was in
-          counted_on (total_of now.1.uses (numbers_of ts)) (total_of was.uses (numbers_of ts)) (used_by ds) d.budget.uses (was.uses place) (now.1.uses place)
+          counted_on (total_of now.1.uses (numbers_of ts)) (total_of was.uses (numbers_of ts)) (used_by ds) d.so_far.budget.uses (was.uses place) (now.1.uses place)
           (step_total place was.uses now.1.uses (λ m apart. (stay.counts m apart).uses) 0 (numbers_of ts) rise here) a.used (a.base.fresh place (omega (arith, at))).uses n.form_is.counts.uses
           ∙ sym (used_more ds d)
 
       before_it : whole ≡ behind a.gone (to_come (tree ∷ others) a.base.held.notes was)
       before_it = a.on few ∙ ap by_declared off
 
-      next_so : PassedSo c (total + d.budget.nodes) (ds ++ d ∷ []) (suc place) left
+      next_so : PassedSo c (total + d.so_far.budget.nodes) (ds ++ d ∷ []) (suc place) left
       unfolding next_held
       next_so = record {
         base = next_held b unit ds a.base d c now (subst (λ (m : ℕ). PassesOutside b c unit m was now d) at n);
@@ -294,11 +294,11 @@ module _ (known : Known) (unit : ℕ) (ts : List (ℕ × Tree Identifier)) (s : 
 
     -- either
     pub one_so : Rise 0 (numbers_of ts) → nat_lt max_total total ≡ false → (c : Bench) → (f.declared ≡ true → IsUntouched d) → (f.declared ≡ true → c ≡ b) →
-        (f.declared ≡ false → PassesForm b c known unit place (form_of f) a.base.held.notes was d) → PassedSo c (total + d.budget.nodes) (ds ++ d ∷ []) (suc place) left
+        (f.declared ≡ false → PassesForm b c known unit place (form_of f) a.base.held.notes was d) → PassedSo c (total + d.so_far.budget.nodes) (ds ++ d ∷ []) (suc place) left
     one_so rise few c blank same passes = by f.declared refl
       where
-        by : (q : Bool) → f.declared ≡ q → PassedSo c (total + d.budget.nodes) (ds ++ d ∷ []) (suc place) left
-        by true off = subst (λ (e : Bench). PassedSo e (total + d.budget.nodes) (ds ++ d ∷ []) (suc place) left) (sym (same off)) (blank_so off (blank off))
+        by : (q : Bool) → f.declared ≡ q → PassedSo c (total + d.so_far.budget.nodes) (ds ++ d ∷ []) (suc place) left
+        by true off = subst (λ (e : Bench). PassedSo e (total + d.so_far.budget.nodes) (ds ++ d ∷ []) (suc place) left) (sym (same off)) (blank_so off (blank off))
         by false off = next_so rise off few c (passes off)
 
   pub all_passed : (b : Bench) (total place : ℕ) (ds : List code.Declared) (left : List UnitForm) → PassedSo b total ds place left → (nat_lt max_total total ≡ false → left ≡ []) → Passes b unit known ts s total ds
@@ -329,7 +329,7 @@ pub next_from : (old b c : Bench) (unit total place : ℕ) (fs : List source.Uni
     (d : code.Declared) (n : ℕ) → n ≡ place → (f : source.UnitForm) → place < length fs → f ≡ get_or fs place f → (f.declared ≡ true → IsUntouched d) → (f.declared ≡ true → c ≡ b) →
     ((known : Known) (ls : List Frames) (s : ScopedState) (notes : List (Note FramedIdent)) → f.declared ≡ false → Knows b.scope.libraries known → StandsOutside b ls s notes → s.unit ≡ unit → IsFresh s n →
     PassesForm b c known unit n (form_of f) notes s d) →
-    PassedFrom old c unit (total + d.budget.nodes) (suc place) fs (ds ++ d ∷ [])
+    PassedFrom old c unit (total + d.so_far.budget.nodes) (suc place) fs (ds ++ d ∷ [])
 next_from old b c unit total place fs ds so stay at few d n same_n f low is blank same passes known ls s knows stands own fresh =
     let ts = forms_over (Written unit) unit 0 (forms_of fs) in
     let a : PassedSo known unit ts s b total ds place (form_of f ∷ drop (suc place) (forms_of fs)) =

@@ -7,7 +7,10 @@ pub mod DeclaredForms  -- What forms set aside stands, one form more at a time, 
 mod RefusedLaws  -- Forms of which those that include a text are refused stand for those of the definition
 pub mod UnitWalk  -- Work on a unit one form or item at a time
 pub mod OutsideWalk  -- Work on a unit one form at a time, where what is local is forgotten behind each
+pub mod AnewSides  -- No step of an expansion that notes what it asks reads whether nothing was noted when its part began
+pub mod FormNotes  -- What a form asks while what it set aside is expanded, item by item
 pub mod FormsFinish  -- What a form set aside is expanded, once its macro uses are met
+pub mod FormLoop  -- The loop over what a form set aside
 pub mod FormsHold  -- Forms that were gone through are held, one more at a time
 pub mod FormsFinished  -- What forms set aside is expanded, one form more at a time
 pub mod FormsUnfold  -- What a unit's forms come to, once they were gone through and what they set aside was expanded

@@ -7,7 +7,7 @@ use Rattle.scheme_model.specs.Ident.{Ident as Identifier}
 use Rattle.scheme_model.specs.Declarations.{UnitForm, home_of}
 use Rattle.scheme_model.specs.Cores.{Parts}
 use Rattle.scheme_model.specs.Steps.{Broken}
-use Rattle.scheme_model.specs.Order.{Left, Note, Pass, Counted}
+use Rattle.scheme_model.specs.Order.{Left, Note, Pass, Counted, Transformer}
 use Rattle.scheme_model.specs.UnitExpansion.{Formed, form_parts, max_total, nodes_in}
 use Rattle.scheme_model.specs.CountedExpansion.{counted}
 use Rattle.scheme_model.specs.Expression.{expand}
@@ -35,6 +35,7 @@ use Rattle.forgotten_locals.specs.Ways.{firsts_by, seconds_by, unit_by}
 use Rattle.note_laws.specs.Searching.{searching, none_kept, forms_anew}
 use Rattle.noted_steps.specs.Noting.{Noting, noting, state_of}
 use Rattle.core_tree.specs.declared.traces.Trace.{Trace}
+use Rattle.form_notes.specs.Noted.{Noted, beginning}
 use Rattle.form_notes.specs.Standing.{HaveNotes}
 use Rattle.form_parts.specs.declared.items.Left as code_left
 use Rattle.unit_scopes.specs.Editions.{EditionsTell}
@@ -240,10 +241,20 @@ EndsOutside known form r s before after last result =
 abbrev pub left_noting : Known → Left Identifier → Noting → Noting
 left_noting known l s = (finish_by (noting known) enough_turns [] (Ok l) s).1
 
--- the notes of a part that has ended, and then what is local was forgotten: macros that aren't local have editions that tell their rules
+-- the notes of a part that has ended: macros that aren't local have editions that tell their rules
+pub record NotedInside (work : Work) (macros : Macros) (trace : Trace) (s : Noting) : Type 0 where
+  pub notes : HaveNotes work.symbols s.since trace.notes.notes s.noted
+  pub editions : EditionsTell work.symbols macros (state_of s) s.since.editions
+
+-- the same once what is local was forgotten
 pub record NotedOutside (work : Work) (macros : Macros) (trace : Trace) (s : Noting) : Type 0 where
   pub notes : HaveNotes work.symbols s.since trace.notes.notes s.noted
   pub editions : EditionsTell work.symbols macros (outside (state_of s)) s.since.editions
+
+-- editions tell the rules of macros that aren't local, and what a form that isn't broken has noted stands
+pub record MayNote (b : Bench) (form : ℕ) (s : ScopedState) (trace : Trace) (editions : ℕ → Option (Transformer Frames Identifier)) (ms : List Noted) (r : Passing) : Type 0 where
+  pub tells : EditionsTell b.work.symbols b.scope.macros s editions
+  pub notes : OfOk (λ l. HaveNotes b.work.symbols (beginning s.unit form (s.uses form) editions) trace.notes.notes ms) r
 
 -- what a form came to, and the state then: the unit's definitions are those that there were, and so are the macros that aren't local
 pub record FinishesTo (old new : Bench) (unit form : ℕ) (s : ScopedState) (c : code_form.UnitForm) : Type 0 where

@@ -21,20 +21,19 @@ ghost use Rattle.core_tree.specs.Units.{IsBlank};
 ghost use Rattle.feature_requirements.specs.Judged.{Knows};
 ghost use Rattle.unit_scopes.specs.Stepped.{IsFresh, turned};
 ghost use Rattle.form_notes.specs.Noted.{Noted};
-ghost use Rattle.expander.specs.UnitNotes.{CanNote, Editions, HasNoted, part_begun, set_noting};
+ghost use Rattle.expander.specs.UnitNotes.{CanNote, Editions, HasNoted, OnEnded, expand_noting, part_begun, set_noting};
 ghost use Rattle.unit_scopes.specs.Outcomes.{Grows, IsAtWork};
 ghost use Rattle.unit_scopes.specs.Searched.{searched_unit_over};
 ghost use Rattle.unit_scopes.specs.Units.{UnitStands, CountsFor, HasSpace, ItemFor, CanDeclare, Expands, declared, expanded};
-ghost use Rattle.form_expansion.specs.Forms.{IsBench, IsBegun, StandsOutside, MayForget, IsUntouched, IsDeclared, used_by, Passing, PassesTo, PassesForm, FinishesForm, EndsForm, CanPass, CanFinish, CanFinishAll, FormsHeld, Passes, Finishes, AreFormed, Unfolds, Stays, IsTurned, IsForgotten, NotedOutside, declared_as, left_noting};
+ghost use Rattle.form_expansion.specs.Forms.{IsBench, IsBegun, StandsOutside, MayForget, MayNote, IsUntouched, IsDeclared, used_by, Passing, PassesTo, PassesForm, FinishesForm, EndsForm, CanPass, CanFinish, CanFinishAll, FormsHeld, Passes, Finishes, AreFormed, Unfolds, Stays, IsTurned, IsForgotten, NotedInside, NotedOutside, declared_as, left_noting, taken};
+ghost use Rattle.unit_scopes.specs.Editions.{EditionsTell};
 ghost use Rattle.unit_scopes.specs.Forgotten.{OwnFirst};
 ghost use Rattle.read_documents.specs.WereRead.{WereRead};
 
 use core_tree::traces::{FormFault, Trace, blank_trace};
 use core_tree::units::{ExpandedItem, UnitForm};
 use datum_reader::seed_as;
-use expander::{
-    Budget, ExpandFault, Item, Left, UnitScope, declare_form, expand_item, meet_uses,
-};
+use expander::{Budget, ExpandFault, Item, Left, UnitScope, declare_form, expand_item, meet_uses};
 use ls_base::limits::MAX_UNIT_NODES;
 use ls_base::{Items, Mem, Memory, Steps};
 use read_documents::form_numbers::number_of;
@@ -347,6 +346,10 @@ pub fn finish_form<L: Ledger>(
         StandsOutside bench.old ls s notes → s.unit ≡ unit → IsDeclared bench.old.work bench.old.region unit number s (declared_as so_far left.now) (Ok l) →
         CanNote bench.old.work bench.old.scope so_far.trace (s.uses number) editions ms (turned number s) →
         IfOk result (λ ended. nat_lt max_total total.new ≡ false → NotedOutside bench.new.work bench.new.scope.macros ended.0.trace (left_noting known l (part_begun (s.uses number) notes editions ms (turned number s)))) }
+    // Editions that told the rules of macros still do, whatever the form comes to.
+    ensures editions { (ls : List Frames) (s : ScopedState) (notes : List (Note FramedIdent)) (r : Passing) (editions : Editions) (ms : List Noted) → StandsOutside bench.old ls s notes → s.unit ≡ unit →
+        IsDeclared bench.old.work bench.old.region unit number s (declared_as so_far left.now) r → MayNote bench.old number s so_far.trace editions ms r →
+        IfOk result (λ ended. EditionsTell bench.new.work.symbols bench.new.scope.macros s editions) }
     ensures stays { OnOk result (Stays bench.old bench.new) }
     // What stood before still stands, also where memory ran out.
     ensures grows { Grows bench.old.work bench.new.work bench.old.region }
@@ -378,7 +381,11 @@ fn finish<L: Ledger>(
     ensures noted { (known : Known) (ls : List Frames) (s : ScopedState) (notes : List (Note FramedIdent)) (l : ModelLeft Identifier) (editions : Editions) (ms : List Noted) → Knows bench.old.scope.libraries known →
         StandsOutside bench.old ls s notes → s.unit ≡ unit → IsDeclared bench.old.work bench.old.region unit number s (declared_as so_far left.now) (Ok l) →
         CanNote bench.old.work bench.old.scope so_far.trace (s.uses number) editions ms (turned number s) →
-        IfOk result (λ ended. nat_lt max_total total.new ≡ false → HasNoted bench.new.work bench.new.scope.macros ended.0.trace (left_noting known l (part_begun (s.uses number) notes editions ms (turned number s)))) }
+        IfOk result (λ ended. nat_lt max_total total.new ≡ false → NotedInside bench.new.work bench.new.scope.macros ended.0.trace (left_noting known l (part_begun (s.uses number) notes editions ms (turned number s)))) }
+    // Editions that told the rules of macros still do, whatever the form comes to.
+    ensures editions { (ls : List Frames) (s : ScopedState) (notes : List (Note FramedIdent)) (r : Passing) (editions : Editions) (ms : List Noted) → StandsOutside bench.old ls s notes → s.unit ≡ unit →
+        IsDeclared bench.old.work bench.old.region unit number s (declared_as so_far left.now) r → MayNote bench.old number s so_far.trace editions ms r →
+        IfOk result (λ ended. EditionsTell bench.new.work.symbols bench.new.scope.macros s editions) }
     ensures stays { OnOk result (Stays bench.old bench.new) }
     // What stood before still stands, also where memory ran out.
     ensures grows { Grows bench.old.work bench.new.work bench.old.region }
@@ -392,7 +399,14 @@ fn finish<L: Ledger>(
         return Ok((broken(alloc, trace, fault), budget));
     }
     let Bench { work, scope, .. } = bench;
-    meet_uses(scope, work, left.uses.as_slice(), number, budget, &mut trace)?;
+    meet_uses(
+        scope,
+        work,
+        left.uses.as_slice(),
+        number,
+        budget,
+        &mut trace,
+    )?;
     let mut items = Items::new(alloc);
     for item in left.items.as_slice() {
         if is_large(*total) {
@@ -426,6 +440,7 @@ fn broken(alloc: Global, trace: Trace, fault: Option<FormFault>) -> UnitForm
     ensures definitions { result.trace.definitions ≡ trace.definitions }
     ensures keywords { result.trace.keywords ≡ [] }
     ensures uses { result.trace.uses ≡ [] }
+    ensures notes { result.trace.notes ≡ trace.notes }
     ensures fault { result.fault ≡ fault }
 {
     let Trace {
@@ -461,6 +476,10 @@ fn expand<L: Ledger>(
     ensures expanded { (known : Known) (ls : List Frames) (s : ScopedState) (notes : List (Note FramedIdent)) (i : ModelItem Identifier) → Knows bench.old.scope.libraries known →
         UnitStands bench.old.work bench.old.scope ls s notes → CountsFor bench.old.work s number budget.old trace.old → ItemFor bench.old.work bench.old.region bench.old.scope.unit number item.now i →
         Expands bench.old.work bench.new.work bench.old.region bench.old.scope bench.new.scope budget.old budget.new ls number trace.new notes result (expanded known number i s) }
+    ensures noted { (known : Known) (ls : List Frames) (s : ScopedState) (notes : List (Note FramedIdent)) (i : ModelItem Identifier) (editions : Editions) (ms : List Noted) → Knows bench.old.scope.libraries known →
+        UnitStands bench.old.work bench.old.scope ls s notes → CountsFor bench.old.work s number budget.old trace.old → ItemFor bench.old.work bench.old.region bench.old.scope.unit number item.now i →
+        CanNote bench.old.work bench.old.scope trace.old trace.old.notes.begun editions ms (turned number s) →
+        OnEnded result (HasNoted bench.new.work bench.new.scope.macros trace.new (expand_noting known i (part_begun trace.old.notes.begun notes editions ms (turned number s))).1) }
     ensures space { OnOk result (HasSpace (2 ^ 43) budget.new) }
     ensures steps { steps.new + budget.old.uses ≡ steps.old + budget.new.uses }
     ensures keeps { KeepsTrees bench.old.work bench.new.work }

@@ -83,7 +83,7 @@ module _ (p : Renumbering) (old new : Names) (move : NamesMove p old new) (r s :
         },
       )
 
-  note_there : (x : Note) (m : Noted) → IsNote old r x m → IsNote new s (note_as p x) (noted_as p m)
+  pub note_there : (x : Note) (m : Noted) → IsNote old r x m → IsNote new s (note_as p x) (noted_as p m)
   note_there x m h = (h.0, question_there x.question m.question m.answer h.1)
 
   pub notes_there : (xs : List Note) (ms : List Noted) → HaveNotes old r xs ms → HaveNotes new s (map (note_as p) xs) (map (noted_as p) ms)

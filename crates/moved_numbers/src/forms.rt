@@ -22,7 +22,7 @@ use std::alloc::Global;
 use std::mem;
 
 /// Takes the items of a list out of it.
-pub(crate) fn take<T: Drop>(alloc: Global, items: &mut Items<T>) -> Vec<T>
+pub fn take<T: Drop>(alloc: Global, items: &mut Items<T>) -> Vec<T>
     ensures { result.items ≡ items.old }
 {
     mem::replace(items, Items::new(alloc)).into_vec()
@@ -65,7 +65,7 @@ fn all_uses(moves: &Moves, all: &mut Vec<MacroUse>)
 }
 
 /// Macro uses, as a list.
-fn uses(alloc: Global, moves: &Moves, items: &mut Items<MacroUse>)
+pub fn uses(alloc: Global, moves: &Moves, items: &mut Items<MacroUse>)
     ensures length { length items.new ≡ length items.old }
     ensures stands { StandsOn (numbers_of moves.now) (λ work unit form. AllMatch (UseStands work unit form)) (map (macro_use_as (numbers_of moves.now))) items.old items.new }
 {

@@ -12,7 +12,7 @@ use Rattle.scheme_model.specs.UnitExpansion.{max_depth, one_form}
 use Rattle.scheme_model.specs.ScopedExpansion.{Frames, FramedIdent, macro_at, body_around}
 use Rattle.scheme_model.specs.OwnAnswers.{own_macro}
 use Rattle.scheme_model.specs.Questions.{Moment, Around, at_moment, own_at, found, asking}
-use Rattle.scheme_model.specs.FormsAlike.{start, finish_by, no_questions, questions_of_pass, questions_of_left}
+use Rattle.scheme_model.specs.FormsAlike.{start, Leaves, finish_by, no_questions, set_aside_asking, questions_of_pass, questions_of_left}
 use Rattle.model_laws.proofs.FrameAsks.{AllOf}
 use Rattle.model_laws.proofs.FrameHeld.{NoteAll}
 use Rattle.model_laws.proofs.EntryLaws.{NoLocal}
@@ -27,7 +27,7 @@ use Rattle.question_laws.specs.Noted.{is_defined_in, all_noted, IsClosed}
 use Rattle.question_laws.proofs.OwnRuns.{pass_known, left_known}
 use Rattle.forgotten_locals.specs.Outside.{IsOutside}
 use Rattle.noted_steps.specs.Noting.{noting, begun}
-use Rattle.note_laws.specs.Told.{bare_noted, told, since_of, ImportsOthers}
+use Rattle.note_laws.specs.Told.{bare_noted, told, since_of, goes_noting, ImportsOthers}
 use Rattle.note_laws.proofs.ToldNotes.{since_at, all_noted_told}
 use Rattle.note_laws.proofs.MeansHere.{Here, Good}
 use Rattle.note_laws.proofs.NotedAsked.{Part, Near}
@@ -107,15 +107,23 @@ module _ (w : Around) (e0 : ℕ → Option (Transformer Frames Ident)) where
         go (LookedUp l head keyword) q = place l q.0
         go (Compared l j held) q = (place l q.0.0, place j q.1.0)
 
-    pub pass_noted : (turns : ℕ) (t : Tree Ident) → Each (NoteStands w.state) w.notes
-        → map bare_noted (run (noting w.known) turns [] (one_form t w.notes) (begun (length w.notes) (since_of w e0) w.state)).1.noted ≡ map (told w) (all_noted w (questions_of_pass w turns t))
-    pass_noted turns t ns =
+    goes_near : (turns : ℕ) (t : Tree Ident) → Each (NoteStands w.state) w.notes
+        → Near w e0 out begins first (set_aside_asking w turns t).1 (run (noting w.known) turns [] (one_form t w.notes) (begun (length w.notes) (since_of w e0) w.state)).1
+    goes_near turns t ns =
         let k = sides w e0 out begins others first in
         let law = run_runs (asking w) (noting w.known) (fits w e0 out begins others first) k [] [] tt turns (one_form t []) (one_form t w.notes) (no_questions w) (refl, ((starts, tt), tt))
         (record { todo = refl; aside = tt; uses = refl; notes = (refl, notes_here w.notes ns) }) in
-        let x = (law.same (begun (length w.notes) (since_of w e0) w.state) (begin_near first tt (length w.notes) (λ u. refl)) tt).1 in
+        (law.same (begun (length w.notes) (since_of w e0) w.state) (begin_near first tt (length w.notes) (λ u. refl)) tt).1
+
+    pub pass_noted : (turns : ℕ) (t : Tree Ident) → Each (NoteStands w.state) w.notes
+        → map bare_noted (run (noting w.known) turns [] (one_form t w.notes) (begun (length w.notes) (since_of w e0) w.state)).1.noted ≡ map (told w) (all_noted w (questions_of_pass w turns t))
+    pass_noted turns t ns =
+        let x = goes_near turns t ns in
         let made = pass_known w (no_locals w begins) turns t in
         x.noted ∙ all_noted_told w e0 begins (no_locals w begins) closed (questions_of_pass w turns t) (questions_of_pass w turns t) made.1 x.ruled
+
+    pub pass_leaves : (turns : ℕ) (t : Tree Ident) → Each (NoteStands w.state) w.notes → Leaves w (set_aside_asking w turns t).1.moment (goes_noting w turns t e0).0
+    pass_leaves turns t ns = (goes_near turns t ns).leaves
 
     -- ---- the second part
 

@@ -8,7 +8,7 @@ ghost use Rattle.scheme_model.specs.Expression.{expand, item_part};
 ghost use Rattle.scheme_model.specs.UnitExpansion.{max_depth, one_form};
 ghost use Rattle.scheme_model.specs.ScopedExpansion.{Frames, ScopedState};
 ghost use Rattle.scheme_model.specs.Questions.{Moment, Around, at_moment, Question, answer, SameAnswer};
-ghost use Rattle.scheme_model.specs.FormsAlike.{start, again, bare_kept, set_aside_asking, bound_moved, left_with, finish_by, questions_of_pass, questions_of_left};
+ghost use Rattle.scheme_model.specs.FormsAlike.{start, again, Leaves, bare_kept, set_aside_asking, bound_moved, left_with, finish_by, questions_of_pass, questions_of_left};
 ghost use Rattle.form_laws.specs.Begins.{Each, Begins, FormBegins, SameForm};
 ghost use Rattle.question_laws.specs.Noted.{all_noted, IsClosed, SameUnit};
 ghost use Rattle.scheme_model.specs.Requirements.{Known};
@@ -23,7 +23,7 @@ ghost use Rattle.form_notes.specs.Noted.{Noted, Since};
 ghost use Rattle.form_notes.specs.Standing.{HaveNotes};
 ghost use Rattle.form_notes.specs.declared.notes.Note.{Note as AnyNote};
 ghost use Rattle.noted_steps.specs.Noting.{Noting, noting, begun};
-ghost use Rattle.note_laws.specs.Told.{bare_noted, told, since_of, ImportsOthers};
+ghost use Rattle.note_laws.specs.Told.{bare_noted, told, since_of, goes_noting, ImportsOthers};
 ghost use Rattle.note_laws.specs.Moments.{IsBefore};
 ghost use Rattle.note_laws.specs.SameRoots.{SameRoot, NoLocalEntry, IsOfRoot, IsBehind, SameBehind, RootsBehind};
 ghost use Rattle.note_laws.specs.SameParts.{SamePart};
@@ -32,10 +32,12 @@ ghost use Rattle.note_laws.specs.Searching.{searching, forms_anew};
 
 /// What an expansion notes is what is to be noted of the form's questions, each with its answer, latest first (R7RS 4.3, 5.3): so of its first
 /// part and of its second, where nothing local is left of other forms and the unit imports nothing of its own. Only the times at which bodies
-/// were entered, which no look-up reads, are others.
+/// were entered, which no look-up reads, are others. And the form leaves what it has made and found by them.
 pub fn notes_are_questions()
     ensures pass { (w : Around) (turns : ℕ) (t : Tree Identifier) (e : ℕ → Option (Transformer Frames Identifier)) → IsOutside w.state → FormBegins w t → IsClosed w.state → ImportsOthers w.state →
         map bare_noted (run (noting w.known) turns [] (one_form t w.notes) (begun (length w.notes) (since_of w e) w.state)).1.noted ≡ map (told w) (all_noted w (questions_of_pass w turns t)) }
+    ensures leaves { (w : Around) (turns : ℕ) (t : Tree Identifier) (e : ℕ → Option (Transformer Frames Identifier)) → IsOutside w.state → FormBegins w t → IsClosed w.state → ImportsOthers w.state →
+        Leaves w (set_aside_asking w turns t).1.moment (goes_noting w turns t e).0 }
     ensures left { (w : Around) (turns before : ℕ) (l : Left Identifier) (e : ℕ → Option (Transformer Frames Identifier)) → IsOutside w.state → Begins w.state → IsClosed w.state → ImportsOthers w.state →
         map bare_noted (finish_by (noting w.known) turns [] (Ok l) (begun before (since_of w e) w.state)).1.noted ≡ map (told w) (all_noted w (questions_of_left w turns (Ok l))) }
 {}

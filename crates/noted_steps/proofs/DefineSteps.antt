@@ -223,7 +223,7 @@ spot_on work v w ls t spot fs rest h =
 
 same_on : (u v w : UnitScope) → w ≡ with_notes v w.form.trace.notes → SameForm u v → SameForm u w
 same_on u v w rest h =
-    subst (λ (x : UnitScope). SameForm u x) (sym rest) (record { unit = h.unit; number = h.number; root = h.root; libraries = h.libraries; roots = h.roots; uses = h.uses; nodes = h.nodes })
+    subst (λ (x : UnitScope). SameForm u x) (sym rest) (record { unit = h.unit; number = h.number; root = h.root; libraries = h.libraries; roots = h.roots; uses = h.uses; nodes = h.nodes; numbers = record { defined = h.numbers.defined; numbers = h.numbers.numbers } })
 
 module _ (work : Work) (u v w : UnitScope) (ls : List Frames) (s : Noting) (spot : Spot) (fs : Frames) (here : Here) (name : NamePart) (n : Named Identifier) (r : Option (Rules Identifier)) (p : Pending Identifier FramedIdent)
     (e : Stands work u ls s) (placed : SpotFor work u ls s spot fs) (is : IsName work name n) (rest : w ≡ with_notes v w.form.trace.notes) (inside : spot.in_body ≡ true → w ≡ v) (start : SameStart v.form.trace.notes w.form.trace.notes) where

@@ -21,7 +21,7 @@ use Rattle.noted_steps.specs.Outcomes.{Stays, Moves, Ends, EndsHere}
 use Rattle.feature_requirements.specs.declared.fault.ExpandFault.{ExpandFault}
 use Rattle.unit_scopes.specs.declared.scope.UnitScope.{UnitScope}
 use Rattle.unit_scopes.proofs.NodeLaws.{plain_is}
-use Rattle.unit_scopes.proofs.OutcomeLaws.{grows_itself}
+use Rattle.unit_scopes.proofs.OutcomeLaws.{grows_itself, numbers_stay}
 use Rattle.noted_steps.proofs.CountingStands.{nodes_stand}
 use Rattle.noted_steps.proofs.OutcomeLaws.{stays_itself, ends_after, bound_goes, moves_here}
 use Rattle.std.specs.Result.{IsErrAnd}
@@ -39,7 +39,7 @@ spends work region u ls s n within e = record {
   stands = nodes_stand work u ls s n within e;
   work = grows_itself work region;
   counted = omega arith;
-  same = record { unit = refl; number = refl; root = refl; libraries = refl; roots = refl; uses = omega arith; nodes = omega arith };
+  same = record { unit = refl; number = refl; root = refl; libraries = refl; roots = refl; uses = omega arith; nodes = omega arith; numbers = numbers_stay u (with_nodes u n) refl refl };
 }
 
 module _ (known : Known) (work : Work) (region : Region) (u : UnitScope) (ls : List Frames) (s : Noting) (here : Option Occ) (n : ℕ) (e : Stands work u ls s) where

@@ -8,7 +8,7 @@ use Rattle.feature_requirements.specs.declared.fault.ExpandFault.{ExpandFault}
 use Rattle.feature_requirements.specs.declared.fault.ExpandFault.TheVariants as fault
 use Rattle.unit_scopes.specs.Outcomes.{Leaves, MayFill}
 use Rattle.unit_scopes.specs.declared.scope.UnitScope.{UnitScope}
-use Rattle.unit_scopes.proofs.OutcomeLaws.{grows_itself, grows_on, same_itself, same_on}
+use Rattle.unit_scopes.proofs.OutcomeLaws.{grows_itself, grows_on, numbers_stay, same_itself, same_on}
 use Rattle.noted_steps.specs.Noting.{Noting}
 use Rattle.noted_steps.specs.Standing.{Stands, with_notes}
 use Rattle.noted_steps.specs.Outcomes.{Stays, Moves, Ends, EndsHere}
@@ -23,7 +23,7 @@ noted_stays a region u v ls s t e same h =
       stands = subst (λ (x : UnitScope). Stands a x ls t) same h;
       work = grows_itself a region;
       counted = omega arith;
-      same = record { unit = refl; number = refl; root = refl; libraries = refl; roots = refl; uses = omega arith; nodes = omega arith };
+      same = record { unit = refl; number = refl; root = refl; libraries = refl; roots = refl; uses = omega arith; nodes = omega arith; numbers = numbers_stay u (with_notes u v.form.trace.notes) refl refl };
     })
 
 pub stays_on : (a b c : Work) (region : Region) (u w v : UnitScope) (ls : List Frames) (s t : Noting) → Stays a b region u w ls s → Stays b c region w v ls t → Stays a c region u v ls t

@@ -57,7 +57,7 @@ met_stays old new region u v w ls t r h e same =
       stands = subst (λ (x : UnitScope). Stands new x ls r) same e;
       work = h.work;
       counted = h.counted;
-      same = record { unit = h.same.unit; number = h.same.number; root = h.same.root; libraries = h.same.libraries; roots = h.same.roots; uses = h.same.uses; nodes = h.same.nodes };
+      same = record { unit = h.same.unit; number = h.same.number; root = h.same.root; libraries = h.same.libraries; roots = h.same.roots; uses = h.same.uses; nodes = h.same.nodes; numbers = record { defined = h.same.numbers.defined; numbers = h.same.numbers.numbers } };
     })
 
 -- want of memory behind a step

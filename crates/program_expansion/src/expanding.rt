@@ -55,7 +55,7 @@ use syntax_tree::trees::Work;
 use syntax_tree::units::{Entry, UnitKind};
 use unit_imports::entries::{Given, Libraries, given_to};
 use unit_imports::expanded::Expanded;
-use unit_results::results::{blank_forms, finished};
+use unit_results::results::{blank_forms, finished, references};
 use unit_sources::{UnitForm as SourceForm, UnitSource};
 
 /// Expands the units that aren't broken, in an order in which each comes after what it imports. One that counts too many nodes
@@ -227,18 +227,21 @@ fn expand_unit<L: Ledger>(
         None => Ok(None),
         Some(forms) => {
             let forms = all_forms(alloc, unit, source, forms)?;
-            let came = finished(
-                alloc,
-                &mut bench.work,
-                places,
-                libraries,
-                unit,
-                source,
-                given,
-                forms,
-            )?;
+            let rest = {
+                let referred = references(alloc, forms.as_slice())?;
+                finished(
+                    alloc,
+                    &mut bench.work,
+                    places,
+                    libraries,
+                    unit,
+                    source,
+                    given,
+                    referred.as_slice(),
+                )?
+            };
             bench.work.symbols.told_apart();
-            Ok(Some(came))
+            Ok(Some(rest.with(forms)))
         }
     }
 }

@@ -1,3 +1,4 @@
+pub mod ReferredForms  -- Forms that are referred to, one after another
 mod HomeLaws  -- The form with a number of a unit holds what the form at that place does
 pub mod FirstLaws  -- The first Error among findings, one after another
 pub mod StandInLaws  -- The identifiers of forms are among the names

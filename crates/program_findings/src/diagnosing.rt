@@ -52,14 +52,14 @@ pub fn add_faults(
     places: Places<'_>,
     unit: u32,
     sources: &[SourceForm],
-    forms: &[UnitForm],
+    forms: &[&UnitForm],
     findings: &mut Vec<Finding>,
 ) -> Mem<()>
-    requires forms { StandIn symbols.now forms.now }
+    requires forms { StandIn symbols.now (map (λ form. form.now) forms.now) }
     requires documents { 0 < length places.documents.now }
     requires places { CanPlace places }
     ensures inside { AreFoundIn (length places.entry.documents.now) findings.old.items → OnOk result (AreFoundIn (length places.entry.documents.now) findings.new.items) }
-    ensures exact { (rs : List Read) (us : List UnitResult) (work : Work) (fs : List Formed) → ArePlaces places.entry rs us → KeepsNames work.symbols symbols.now → FormsStand work unit 0 forms.now fs →
+    ensures exact { (rs : List Read) (us : List UnitResult) (work : Work) (fs : List Formed) → ArePlaces places.entry rs us → KeepsNames work.symbols symbols.now → FormsStand work unit 0 (map (λ form. form.now) forms.now) fs →
         OnOk result (Adds findings.old.items findings.new.items (form_diagnostics (bytes_of (spans_of rs) us) (forms_hold unit (forms_of sources.now)) unit fs) (form_errors fs)) }
 {
     for (place, form) in forms.iter().enumerate() {
@@ -145,14 +145,14 @@ pub fn add_unbound(
     alloc: Global,
     symbols: &Symbols,
     places: Places<'_>,
-    forms: &[UnitForm],
+    forms: &[&UnitForm],
     findings: &mut Vec<Finding>,
 ) -> Mem<()>
-    requires forms { StandIn symbols.now forms.now }
+    requires forms { StandIn symbols.now (map (λ form. form.now) forms.now) }
     requires documents { 0 < length places.documents.now }
     requires places { CanPlace places }
     ensures inside { AreFoundIn (length places.entry.documents.now) findings.old.items → OnOk result (AreFoundIn (length places.entry.documents.now) findings.new.items) }
-    ensures exact { (rs : List Read) (us : List UnitResult) (work : Work) (unit : ℕ) (fs : List Formed) → ArePlaces places.entry rs us → KeepsNames work.symbols symbols.now → FormsStand work unit 0 forms.now fs →
+    ensures exact { (rs : List Read) (us : List UnitResult) (work : Work) (unit : ℕ) (fs : List Formed) → ArePlaces places.entry rs us → KeepsNames work.symbols symbols.now → FormsStand work unit 0 (map (λ form. form.now) forms.now) fs →
         OnOk result (Adds findings.old.items findings.new.items (unbound_diagnostics (bytes_of (spans_of rs) us) (unit_leaves fs)) []) }
 {
     for target in unbound(alloc, forms)? {

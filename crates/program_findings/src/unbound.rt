@@ -17,16 +17,16 @@ use std::alloc::Global;
 use syntax_tree::meaning::Meaning;
 
 /// The unbound references and assignments of forms that stand in a text. A broken form has none.
-pub fn unbound(alloc: Global, forms: &[UnitForm]) -> Mem<Vec<Target>>
-    ensures { (work : Work) (unit : ℕ) (rs : List Formed) → FormsStand work unit 0 forms.now rs →
+pub fn unbound(alloc: Global, forms: &[&UnitForm]) -> Mem<Vec<Target>>
+    ensures { (work : Work) (unit : ℕ) (rs : List Formed) → FormsStand work unit 0 (map (λ form. form.now) forms.now) rs →
         IfOk result (λ found. AllMatch (IsUnbound work.symbols) found.items (unbound_in (unit_leaves rs))) }
 {
     Ok(in_forms(alloc, forms)?)
 }
 
 /// Those of forms, in order.
-fn in_forms(alloc: Global, forms: &[UnitForm]) -> Mem<Vec<Target>>
-    ensures { IfOk result (λ found. found.items ≡ flat_map form_unbound forms.now) }
+fn in_forms(alloc: Global, forms: &[&UnitForm]) -> Mem<Vec<Target>>
+    ensures { IfOk result (λ found. found.items ≡ flat_map form_unbound (map (λ form. form.now) forms.now)) }
 {
     let mut found = Vec::new(alloc);
     for form in forms {

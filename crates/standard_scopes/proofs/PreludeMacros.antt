@@ -1,5 +1,7 @@
 -- The macros of the prelude, added from the last to the first.
-use Rattle.std.proofs.Common.{◌≡◌, ℕ, List, [], ◌∷◌, ◌++◌, map, slice_get, Bool, true, false, not, Option, Some, None, Result, Ok, Err, refl, sym, ap, ◌∙◌, subst, append_assoc, append-nil}
+use Rattle.std.proofs.Common.{◌≡◌, ◌==◌, ℕ, ◌+◌, ◌<◌, List, [], ◌∷◌, ◌++◌, map, length, take, get_or, slice_get, Bool, true, false, cond, not, Option, Some, None, Result, Ok, Err, refl, sym, ap, ◌∙◌, subst, append_assoc, append-nil, length-append, add-one, eq-eqb, arith}
+use Rattle.std.proofs.lemmas.Bool.{ne_eqb}
+use Rattle.std.proofs.Math.Seq.{take-suc}
 use Rattle.std.specs.Prelude.{◌&&◌}
 use Rattle.std.specs.List.{list_any}
 use Rattle.std.specs.Str.{bytes_eq}
@@ -9,24 +11,29 @@ use Rattle.scheme_model.specs.Ident.{Ident, Written}
 use Rattle.scheme_model.specs.Prelude as model
 use Rattle.scheme_model.specs.Prelude.{prelude}
 use Rattle.scheme_model.specs.Program.{prelude_unit}
-use Rattle.scheme_model.specs.RulesShape.{Rules, rules_parts, check_rules}
+use Rattle.scheme_model.specs.Order.{Transformer}
+use Rattle.scheme_model.specs.RulesShape.{Rule, Rules, rules_parts, check_rules}
 use Rattle.scheme_model.specs.Substitution.{defined_in}
-use Rattle.scheme_model.specs.ScopedExpansion.{ScopedState}
+use Rattle.scheme_model.specs.ScopedExpansion.{Frames, ScopedState}
 use Rattle.scheme_model.specs.ScopedProgram.{prelude_rules}
 use Rattle.scheme_model.specs.Trees.{proper}
 use Rattle.syntax_tree.specs.Macros.{identifiers, RulesFor}
 use Rattle.syntax_tree.specs.Names.{AreToldApart, KeepsNames}
-use Rattle.syntax_tree.specs.Works.{KeepsTrees}
+use Rattle.syntax_tree.specs.Works.{StandsFor, KeepsTrees}
+use Rattle.syntax_tree.specs.declared.rules.Rule as code_rule
+use Rattle.syntax_tree.specs.declared.rules.Rules as code_rules
 use Rattle.syntax_tree.specs.declared.trees.Work.{Work}
 use Rattle.rules_check.specs.Gathered.{AreUnplaced}
-use Rattle.base_library.specs.Macros.{Each, AreMacros, written}
+use Rattle.base_library.specs.Macros.{Each, AreMacros, pattern_of, written}
 use Rattle.base_library.specs.declared.macros.PreludeMacro.{PreludeMacro}
 use Rattle.syntax_tree.specs.Meant.{IsSymbol}
+use Rattle.unit_scopes.specs.Editions.{EditionsTell}
 use Rattle.unit_scopes.specs.Preluded.{prelude_state, prelude_with, prelude_begun, CanAdd, IsPrelude}
 use Rattle.unit_scopes.specs.Units.{UnitStands}
 use Rattle.unit_scopes.specs.declared.scope.UnitScope.{UnitScope}
 use Rattle.unit_scopes.proofs.GrowthStands.{rules_on}
 use Rattle.unit_scopes.proofs.PreludeLaws.{prelude_is, not_named}
+use Rattle.standard_scopes.specs.Begun.{rules_by_edition, BeginsWith}
 
 -- ---- what holds of each macro by itself
 
@@ -128,22 +135,48 @@ no_more work [] h = refl
 no_more work (p ∷ ps) h = absurd h
 
 -- these are still to be added, and the others were
-pub record Adding (work : Work) (scope : UnitScope) (ms : List PreludeMacro) : Type 0 where
+pub record Adding (begun : Work) (first : UnitScope) (work : Work) (scope : UnitScope) (ms : List PreludeMacro) : Type 0 where
   pub front : List model.PreludeMacro
   pub back : List model.PreludeMacro
   pub whole : prelude ≡ front ++ back
   pub are : Each (HasRules work) ms front
   pub stands : UnitStands work scope ([] ∷ []) (prelude_state back) []
+  pub count : scope.macros.editions ≡ first.macros.editions + length back
+  pub tells : (e : ℕ → Option (Transformer Frames Ident)) → BeginsWith e → first.macros.editions ≡ 0 → EditionsTell begun.symbols first.macros prelude_begun e → EditionsTell work.symbols scope.macros (prelude_state back) e
 
-pub adding_begins : (work : Work) (scope : UnitScope) (ms : List PreludeMacro) → AreMacros work ms prelude → UnitStands work scope ([] ∷ []) prelude_begun [] → Adding work scope ms
-adding_begins work scope ms are stands = record { front = prelude; back = []; whole = sym (append-nil prelude); are = have_rules work ms prelude are; stands = stands }
+pub adding_begins : (work : Work) (scope : UnitScope) (ms : List PreludeMacro) → AreMacros work ms prelude → UnitStands work scope ([] ∷ []) prelude_begun [] → Adding work scope work scope ms
+adding_begins work scope ms are stands = record {
+  front = prelude;
+  back = [];
+  whole = sym (append-nil prelude);
+  are = have_rules work ms prelude are;
+  stands = stands;
+  count = omega arith;
+  tells = λ e begins none h. h;
+}
 
-pub all_added : (work : Work) (scope : UnitScope) → Adding work scope [] → UnitStands work scope ([] ∷ []) (prelude_state prelude) []
-all_added work scope h =
-    let whole : h.back ≡ prelude = sym (h.whole ∙ ap (λ (ps : List model.PreludeMacro). ps ++ h.back) (no_more work h.front h.are)) in
-    subst (λ (ps : List model.PreludeMacro). UnitStands work scope ([] ∷ []) (prelude_state ps) []) whole h.stands
+module _ (begun : Work) (first : UnitScope) (work : Work) (scope : UnitScope) (h : Adding begun first work scope []) where
+  all_back : h.back ≡ prelude
+  all_back = sym (h.whole ∙ ap (λ (ps : List model.PreludeMacro). ps ++ h.back) (no_more work h.front h.are))
 
-module _ (work : Work) (scope : UnitScope) (ms : List PreludeMacro) (m : PreludeMacro) (h : Adding work scope (ms ++ m ∷ [])) where
+  pub all_added : UnitStands work scope ([] ∷ []) (prelude_state prelude) []
+  all_added = subst (λ (ps : List model.PreludeMacro). UnitStands work scope ([] ∷ []) (prelude_state ps) []) all_back h.stands
+
+  pub all_counted : first.macros.editions ≡ 0 → scope.macros.editions ≡ length prelude
+  all_counted none = let count = h.count in let same : length h.back ≡ length prelude = ap (λ (ps : List model.PreludeMacro). length ps) all_back in omega (arith, count, none, same)
+
+  pub all_told : (e : ℕ → Option (Transformer Frames Ident)) → BeginsWith e → first.macros.editions ≡ 0 → EditionsTell begun.symbols first.macros prelude_begun e → EditionsTell work.symbols scope.macros (prelude_state prelude) e
+  all_told e begins none tells = subst (λ (ps : List model.PreludeMacro). EditionsTell work.symbols scope.macros (prelude_state ps) e) all_back (h.tells e begins none tells)
+
+-- the edition of one of them
+edition_at : (front : List model.PreludeMacro) (m : model.PreludeMacro) (back : List model.PreludeMacro) → rules_by_edition (front ++ m ∷ back) (length back + 1) ≡ Some (record { env = []; rules = prelude_rules (rules_parts m.parts proper) })
+edition_at [] m back = ap (λ (b : Bool). cond b (Some (record { env = []; rules = prelude_rules (rules_parts m.parts proper) })) (rules_by_edition back (length back + 1))) (eq-eqb (length back + 1) (length back + 1) refl)
+edition_at (k ∷ front) m back =
+    let longer : length (front ++ m ∷ back) ≡ length front + (length back + 1) = omega (arith, length-append front (m ∷ back)) in
+    let other : ((length back + 1) == (length (front ++ m ∷ back) + 1)) ≡ false = ne_eqb (length back + 1) (length (front ++ m ∷ back) + 1) (λ (e : length back + 1 ≡ length (front ++ m ∷ back) + 1). omega (arith, e, longer)) in
+    ap (λ (b : Bool). cond b (Some (record { env = []; rules = prelude_rules (rules_parts k.parts proper) })) (rules_by_edition (front ++ m ∷ back) (length back + 1))) other ∙ edition_at front m back
+
+module _ (begun : Work) (first : UnitScope) (work : Work) (scope : UnitScope) (ms : List PreludeMacro) (m : PreludeMacro) (h : Adding begun first work scope (ms ++ m ∷ [])) where
   pub next : Last work ms m h.front
   next = last_of work ms m h.front h.are
 
@@ -167,14 +200,28 @@ module _ (work : Work) (scope : UnitScope) (ms : List PreludeMacro) (m : Prelude
   pub can_add : (x : Last work ms m h.front) → CanAdd work scope m.name
   can_add x = record { state = prelude_state h.back; text = x.last.name; stands = h.stands; is = prelude_is h.back; spelt = x.is.name; undefined = not_named h.back x.last.name (unnamed x) }
 
+  -- it has the next edition
+  edition : (x : Last work ms m h.front) (e : ℕ → Option (Transformer Frames Ident)) → BeginsWith e → first.macros.editions ≡ 0 → e (scope.macros.editions + 1) ≡ Some (record { env = []; rules = written x.is.read })
+  edition x e begins none =
+      let count = h.count in
+      let place : scope.macros.editions + 1 ≡ length h.back + 1 = omega (arith, count, none) in
+      let whole : length prelude ≡ length x.front + (length h.back + 1) = ap (λ (ps : List model.PreludeMacro). length ps) (behind x) ∙ omega (arith, length-append x.front (x.last ∷ h.back)) in
+      ap e place ∙ (begins (length h.back + 1) (omega (arith, whole)) ∙ (ap (λ (ps : List model.PreludeMacro). rules_by_edition ps (length h.back + 1)) (behind x)
+      ∙ (edition_at x.front x.last h.back ∙ ap (λ r. Some (record { env = []; rules = prelude_rules r })) x.is.shape)))
+
   pub one_added : (x : Last work ms m h.front) (new : Work) (after : UnitScope) → KeepsTrees work new → KeepsNames work.symbols new.symbols → AreToldApart new.symbols.idents → AreToldApart new.symbols.symbols →
-      UnitStands new after ([] ∷ []) (prelude_with x.last.name (written x.is.read) (prelude_state h.back)) [] → Adding new after ms
-  one_added x new after trees names apart told stands = record {
+      UnitStands new after ([] ∷ []) (prelude_with x.last.name (written x.is.read) (prelude_state h.back)) [] → after.macros.editions ≡ scope.macros.editions + 1 →
+      ((e : ℕ → Option (Transformer Frames Ident)) → EditionsTell work.symbols scope.macros (prelude_state h.back) e → e (scope.macros.editions + 1) ≡ Some (record { env = []; rules = written x.is.read }) →
+      EditionsTell new.symbols after.macros (prelude_with x.last.name (written x.is.read) (prelude_state h.back)) e) → Adding begun first new after ms
+  one_added x new after trees names apart told stands next_edition tells = record {
     front = x.front;
     back = x.last ∷ h.back;
     whole = behind x;
     are = all_on work new trees names apart told ms x.front x.fronts;
     stands = subst (λ r. UnitStands new after ([] ∷ []) (prelude_with x.last.name (prelude_rules r) (prelude_state h.back)) []) (sym x.is.shape) stands;
+    count = let count = h.count in omega (arith, next_edition, count);
+    tells = λ e begins none before.
+        subst (λ r. EditionsTell new.symbols after.macros (prelude_with x.last.name (prelude_rules r) (prelude_state h.back)) e) (sym x.is.shape) (tells e (h.tells e begins none before) (edition x e begins none));
   }
 
   pub can_add_last : CanAdd work scope m.name
@@ -187,11 +234,56 @@ module _ (work : Work) (scope : UnitScope) (ms : List PreludeMacro) (m : Prelude
   pub last_added : (new : Work) (after : UnitScope) → KeepsTrees work new → KeepsNames work.symbols new.symbols → AreToldApart new.symbols.idents → AreToldApart new.symbols.symbols →
       ((s : ScopedState) (x : List ℕ) (r : Rules Ident) → UnitStands work scope ([] ∷ []) s [] → IsPrelude s → IsSymbol work.symbols m.name x → defined_in s.table prelude_unit (Written prelude_unit x) ≡ None →
       RulesFor work m.rules r → check_rules identifiers r r.rules ≡ Ok tt → AreUnplaced r.literals → UnitStands new after ([] ∷ []) (prelude_with x r s) []) →
-      Adding new after ms
-  last_added new after trees names apart told added =
+      after.macros.editions ≡ scope.macros.editions + 1 →
+      ((s : ScopedState) (x : List ℕ) (r : Rules Ident) (e : ℕ → Option (Transformer Frames Ident)) → UnitStands work scope ([] ∷ []) s [] → IsPrelude s → IsSymbol work.symbols m.name x → defined_in s.table prelude_unit (Written prelude_unit x) ≡ None →
+      EditionsTell work.symbols scope.macros s e → e (scope.macros.editions + 1) ≡ Some (record { env = []; rules = r }) → EditionsTell new.symbols after.macros (prelude_with x r s) e) →
+      Adding begun first new after ms
+  last_added new after trees names apart told added next_edition tells =
       let x = next in
-      one_added x new after trees names apart told
-      (added (prelude_state h.back) x.last.name (written x.is.read) h.stands (prelude_is h.back) x.is.name (not_named h.back x.last.name (unnamed x)) x.is.rules x.is.checked (literals x))
+      let none = not_named h.back x.last.name (unnamed x) in
+      one_added x new after trees names apart told (added (prelude_state h.back) x.last.name (written x.is.read) h.stands (prelude_is h.back) x.is.name none x.is.rules x.is.checked (literals x)) next_edition
+      (λ e before edition. tells (prelude_state h.back) x.last.name (written x.is.read) e h.stands (prelude_is h.back) x.is.name none before edition)
 
-pub adding_same : (work : Work) (scope : UnitScope) (xs ys : List PreludeMacro) → xs ≡ ys → Adding work scope xs → Adding work scope ys
-adding_same work scope xs ys same h = subst (λ (ms : List PreludeMacro). Adding work scope ms) same h
+pub adding_same : (begun : Work) (first : UnitScope) (work : Work) (scope : UnitScope) (xs ys : List PreludeMacro) → xs ≡ ys → Adding begun first work scope xs → Adding begun first work scope ys
+adding_same begun first work scope xs ys same h = subst (λ (ms : List PreludeMacro). Adding begun first work scope ms) same h
+
+-- no macro has the edition 0
+nothing_first : (ms : List model.PreludeMacro) → rules_by_edition ms 0 ≡ None
+nothing_first [] = refl
+nothing_first (m ∷ ms) =
+    ap (λ (b : Bool). cond b (Some (record { env = []; rules = prelude_rules (rules_parts m.parts proper) })) (rules_by_edition ms 0)) (ne_eqb 0 (length ms + 1) (λ (e : 0 ≡ length ms + 1). omega (arith, e))) ∙ nothing_first ms
+
+pub none_told : (e : ℕ → Option (Transformer Frames Ident)) → BeginsWith e → e 0 ≡ None
+none_told e begins = begins 0 (omega arith) ∙ nothing_first prelude
+
+-- ---- in a work that has grown
+
+module _ (old new : Work) (trees : KeepsTrees old new) (names : KeepsNames old.symbols new.symbols) (apart : AreToldApart new.symbols.idents) (told : AreToldApart new.symbols.symbols) where
+  patterns_on : (cs : List code_rule.Rule) (rs : List (Rule Ident)) → Each (λ c r. StandsFor old c.pattern (pattern_of r)) cs rs → Each (λ c r. StandsFor new c.pattern (pattern_of r)) cs rs
+  patterns_on [] [] h = h
+  patterns_on [] (r ∷ rs) h = h
+  patterns_on (c ∷ cs) [] h = h
+  patterns_on (c ∷ cs) (r ∷ rs) h = (trees.trees c.pattern (pattern_of r) h.0, patterns_on cs rs h.1)
+
+  pub macros_on : (ms : List PreludeMacro) (ps : List model.PreludeMacro) → AreMacros old ms ps → AreMacros new ms ps
+  macros_on [] [] h = h
+  macros_on [] (p ∷ ps) h = h
+  macros_on (m ∷ ms) [] h = h
+  macros_on (m ∷ ms) (p ∷ ps) h =
+      let x = h.0 in (
+        record {
+          name = names.symbols m.name p.name x.name;
+          read = x.read;
+          shape = x.shape;
+          checked = x.checked;
+          rules = rules_on old new trees names apart told m.rules (written x.read) x.rules;
+          patterns = patterns_on m.rules.rules (written x.read).rules x.patterns;
+        },
+        macros_on ms ps h.1,
+      )
+
+-- ---- copies
+
+pub more_copied : (xs ys zs : List PreludeMacro) (k : ℕ) (x : PreludeMacro) (rules : code_rules.Rules) → k < length xs → x ≡ get_or xs k x → rules ≡ x.rules → ys ≡ take k xs → zs ≡ ys ++ record x { rules = rules } ∷ [] → zs ≡ take (k + 1) xs
+more_copied xs ys zs k x rules low is same before more =
+    more ∙ (λ j. before j ++ record x { rules = same j } ∷ []) ∙ ap (λ (y : PreludeMacro). take k xs ++ y ∷ []) is ∙ sym (take-suc xs k x low) ∙ ap (λ (n : ℕ). take n xs) (sym (add-one k))

@@ -1,5 +1,12 @@
--- Where each expansion begins: what the prelude's unit imports (R7RS Appendix A).
-use Rattle.std.specs.Prelude.{◌≡◌, List, ◌++◌, ℕ}
+-- Where each expansion begins: what the prelude's unit imports (R7RS Appendix A), and the editions of its macros.
+use Rattle.std.specs.Prelude.{◌≡◌, ◌==◌, ◌+◌, ◌≤◌, List, [], ◌∷◌, ◌++◌, length, ℕ, Option, Some, None, if◌then◌else◌}
+use Rattle.scheme_model.specs.Ident.{Ident as Identifier}
+use Rattle.scheme_model.specs.Order.{Transformer}
+use Rattle.scheme_model.specs.Prelude.{PreludeMacro, prelude}
+use Rattle.scheme_model.specs.RulesShape.{rules_parts}
+use Rattle.scheme_model.specs.ScopedExpansion.{Frames}
+use Rattle.scheme_model.specs.ScopedProgram.{prelude_rules}
+use Rattle.scheme_model.specs.Trees.{proper}
 use Rattle.syntax_tree.specs.Names.{Names}
 use Rattle.syntax_tree.specs.Meant.{IsSymbol}
 use Rattle.syntax_tree.specs.declared.meaning.Meaning.TheVariants.{Standard}
@@ -29,3 +36,14 @@ pub record AreStandard (names : Names) (xs : List Imported) : Type 0 where
 pub record IsImport (names : Names) (x : Imported) (e : Entry) : Type 0 where
   pub symbol : IsSymbol names x.symbol e.name
   pub meaning : x.meaning ≡ e.meaning
+
+-- ---- the editions of its macros
+
+-- the rules by their editions: the last macro has the first edition, and 0 tells that there are none
+abbrev pub rules_by_edition : List PreludeMacro → ℕ → Option (Transformer Frames Identifier)
+rules_by_edition [] n = None
+rules_by_edition (m ∷ ms) n = if n == length ms + 1 then Some (record { env = []; rules = prelude_rules (rules_parts m.parts proper) }) else rules_by_edition ms n
+
+-- editions of the session that begin with those of the prelude
+abbrev pub BeginsWith : (ℕ → Option (Transformer Frames Identifier)) → Type 0
+BeginsWith editions = (n : ℕ) → n ≤ length prelude → editions n ≡ rules_by_edition prelude n

@@ -1,6 +1,6 @@
 -- What forms define, one form more.
-use Rattle.std.proofs.Common.{◌≡◌, ℕ, zero, suc, ◌+◌, ◌<◌, List, [], ◌∷◌, ◌++◌, append_assoc, length, map, drop, get_or, slice_get, reverse, Some, sym, ap, ◌∙◌, subst, arith}
-use Rattle.std.proofs.lemmas.List.{drop_more, reverse-append, reverse-reverse}
+use Rattle.std.proofs.Common.{◌≡◌, ℕ, zero, suc, ◌+◌, ◌<◌, List, [], ◌∷◌, ◌++◌, append_assoc, length, map, drop, get_or, slice_get, reverse, Bor, Some, sym, ap, ◌∙◌, subst, arith}
+use Rattle.std.proofs.lemmas.List.{drop_more, get_or-map, reverse-append, reverse-reverse}
 use Rattle.std.proofs.lemmas.Option.{same_Some, slice_get_within}
 use Rattle.syntax_tree.proofs.Places.{get_front, get_next}
 use Rattle.scheme_model.specs.Substitution.{Defined}
@@ -9,6 +9,13 @@ use Rattle.core_tree.specs.Units.{AreDefinitions, definitions_from}
 use Rattle.core_tree.specs.declared.cores.Binder.{Binder}
 use Rattle.core_tree.specs.declared.units.UnitForm.{UnitForm}
 use Rattle.unit_imports.specs.Defined.{AreKnown}
+
+abbrev pub referred : Bor UnitForm → UnitForm
+referred form = form.now
+
+-- the one at a place
+pub form_at : (forms : List (Bor UnitForm)) (i : ℕ) (form : Bor UnitForm) → i < length forms → form ≡ get_or forms i form → form.now ≡ get_or (map referred forms) i form.now
+form_at forms i form below is = ap referred is ∙ sym (get_or-map referred forms i form form.now below)
 
 pub definitions_more : (fs : List UnitForm) (i : ℕ) (f : UnitForm) (old new : List (ℕ × Binder)) (all : List (ℕ × Binder)) → i < length fs → f ≡ get_or fs i f → new ≡ old ++ map (λ (b : Binder). (i, b)) f.trace.definitions →
     old ++ definitions_from i (drop i fs) ≡ all → new ++ definitions_from (i + 1) (drop (i + 1) fs) ≡ all

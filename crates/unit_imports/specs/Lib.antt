@@ -6,3 +6,4 @@ pub mod Collected  -- The units of a program as they are put together, each by i
 pub mod EntriesMeant  -- Entries of the code that stand for some, and each name once (R7RS 5.2, 5.6.1)
 pub mod Imports  -- What an import set of a unit comes to, as the code keeps it
 pub mod Hiding  -- What is found of a definition that hides an import (R7RS 5.2)
+pub mod Whole  -- What a unit came to, put together of its forms and the rest

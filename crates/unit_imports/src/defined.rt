@@ -59,8 +59,8 @@ fn written_in(symbols: &Symbols, home: u32, ident: IdNo) -> Option<&str>
 }
 
 /// What forms define, in order, each with its form.
-pub fn definitions(alloc: Global, forms: &[UnitForm]) -> Mem<Vec<(u32, Binder)>>
-    ensures { IfOk result (λ all. all.items ≡ definitions_from 0 forms.now) }
+pub fn definitions(alloc: Global, forms: &[&UnitForm]) -> Mem<Vec<(u32, Binder)>>
+    ensures { IfOk result (λ all. all.items ≡ definitions_from 0 (map (λ form. form.now) forms.now)) }
 {
     let mut all = Vec::new(alloc);
     for (place, form) in forms.iter().enumerate() {
@@ -149,7 +149,7 @@ pub fn add_hiding(
     symbols: &Symbols,
     places: Places<'_>,
     unit: u32,
-    forms: &[UnitForm],
+    forms: &[&UnitForm],
     defined: &[(u32, Binder)],
     joined: &Joined,
     findings: &mut Vec<Finding>,
@@ -159,7 +159,7 @@ pub fn add_hiding(
     requires places { CanPlace places }
     ensures inside { AreFoundIn (length places.entry.documents.now) findings.old.items → OnOk result (AreFoundIn (length places.entry.documents.now) findings.new.items) }
     ensures exact { (rs : List Read) (us : List UnitResult) (table : Table) (es : List model.Entry) → ArePlaces places.entry rs us → AreDefinitions symbols.now (reverse defined.now) (defined_by unit table) →
-        AreEntries symbols.now joined.now.entries.items es → (work : TreeWork) (fs : List Formed) → FormsStand work unit 0 forms.now fs →
+        AreEntries symbols.now joined.now.entries.items es → (work : TreeWork) (fs : List Formed) → FormsStand work unit 0 (map (λ form. form.now) forms.now) fs →
         OnOk result (Adds findings.old.items findings.new.items (hiding_diagnostics (bytes_of (spans_of rs) us) unit fs es table) []) }
 {
     for (form, binder) in defined.iter().rev() {
@@ -174,8 +174,8 @@ pub fn add_hiding(
 }
 
 /// Whether the form with a number has a fault.
-fn is_broken(forms: &[UnitForm], number: u32) -> bool
-    ensures { result ≡ has_fault (slice_get forms.now number) }
+fn is_broken(forms: &[&UnitForm], number: u32) -> bool
+    ensures { result ≡ has_fault (slice_get (map (λ form. form.now) forms.now) number) }
 {
     match forms.get(number as usize) {
         None => false,

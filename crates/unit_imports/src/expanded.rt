@@ -1,4 +1,6 @@
 //! What units come to.
+ghost use Rattle.std.specs.Prelude.{◌≡◌};
+ghost use Rattle.unit_imports.specs.Whole.{with_forms};
 
 use core_tree::units::{NameUse, UnitForm};
 use ls_base::Items;
@@ -16,4 +18,37 @@ pub struct Expanded {
     pub seconds: Items<Occ>,
     pub exports: Items<Entry>,
     pub findings: Vec<Finding>,
+}
+
+/// What a unit came to, but for its forms.
+#[derive(Drop)]
+pub struct Rest {
+    pub entries: Vec<Entry>,
+    pub names: Items<NameUse>,
+    pub seconds: Items<Occ>,
+    pub exports: Items<Entry>,
+    pub findings: Vec<Finding>,
+}
+
+impl Rest {
+    /// The whole, with these forms.
+    pub fn with(self, forms: Items<UnitForm>) -> Expanded
+        ensures { result ≡ with_forms self forms }
+    {
+        let Rest {
+            entries,
+            names,
+            seconds,
+            exports,
+            findings,
+        } = self;
+        Expanded {
+            entries,
+            forms,
+            names,
+            seconds,
+            exports,
+            findings,
+        }
+    }
 }

@@ -1,5 +1,5 @@
 //! What a unit comes to, by what it is given and what its forms came to; and what a unit comes to that is broken as a whole.
-ghost use Rattle.std.specs.Prelude.{◌≡◌, ℕ, ◌<◌, List, [], All, length, reverse, Some, None, IfOk, OnOk, ◌&&◌, ◌==◌, if◌then◌else◌};
+ghost use Rattle.std.specs.Prelude.{◌≡◌, ℕ, ◌<◌, List, [], All, length, map, reverse, Some, None, IfOk, OnOk, ◌&&◌, ◌==◌, if◌then◌else◌};
 ghost use Rattle.scheme_model.specs.Entries.{Entry as ModelEntry};
 ghost use Rattle.scheme_model.specs.Diagnostics.{bytes_of, unbound_diagnostics};
 ghost use Rattle.scheme_model.specs.Live.{unit_leaves};
@@ -17,6 +17,7 @@ ghost use Rattle.read_documents.specs.UnitSources.{IsSourceOf};
 ghost use Rattle.program_leaves.specs.Formed.{IsFormed};
 ghost use Rattle.program_leaves.specs.Formed.{AreFormed};
 ghost use Rattle.unit_imports.specs.EntriesMeant.{HaveMeaning, ExportsMean};
+ghost use Rattle.unit_imports.specs.Whole.{with_forms};
 ghost use Rattle.read_documents.specs.Findings.{Adds};
 ghost use Rattle.read_documents.specs.Places.{AreFoundIn, ArePlaces as ArePlacesOf, CanPlace, spans_of};
 ghost use Rattle.read_documents.specs.Readings.{Read};
@@ -37,14 +38,14 @@ use syntax_tree::symbols::Symbols;
 use syntax_tree::trees::Work;
 use unit_imports::defined::{add_hiding, definitions, names_of};
 use unit_imports::entries::{Given, Libraries, imports_nothing};
-use unit_imports::expanded::Expanded;
+use unit_imports::expanded::{Expanded, Rest};
 use unit_imports::exported::exports_given;
 use unit_imports::names::names_used;
 use unit_imports::seconds::seconds_in;
 use unit_sources::{LostString, UnitSource};
 
-/// What a unit came to, by what it imports and what its forms expanded to. What is found wrong stands in this order: sets, strings that
-/// mean no text, exports, forms, definitions that hide, unbound names, no import.
+/// What a unit came to but for its forms, by what it imports and what these expanded to. What is found wrong stands in this order:
+/// sets, strings that mean no text, exports, forms, definitions that hide, unbound names, no import.
 pub fn finished(
     alloc: Global,
     work: &mut Work,
@@ -53,9 +54,9 @@ pub fn finished(
     unit: u32,
     source: &UnitSource,
     given: Given,
-    forms: Items<UnitForm>,
-) -> Mem<Expanded>
-    requires forms { AreFormed work.old unit forms }
+    forms: &[&UnitForm],
+) -> Mem<Rest>
+    requires forms { AreFormed work.old unit (map (λ form. form.now) forms.now) }
     requires documents { 0 < length places.documents.now }
     requires places { CanPlace places }
     requires exports { ExportsMean work.old.symbols libraries.expanded.now }
@@ -63,28 +64,26 @@ pub fn finished(
     requires findings { AreFoundIn (length places.documents.now) given.findings.items }
     ensures trees { work.new.trees ≡ work.old.trees }
     ensures names { KeepsNames work.old.symbols work.new.symbols }
-    ensures forms { IfOk result (λ came. came.forms ≡ forms) }
-    ensures findings { IfOk result (λ came. AreFoundIn (length places.entry.documents.now) came.findings.items) }
-    ensures exports { IfOk result (λ came. HaveMeaning work.new.symbols came.exports) }
+    ensures findings { IfOk result (λ rest. AreFoundIn (length places.entry.documents.now) rest.findings.items) }
+    ensures exports { IfOk result (λ rest. HaveMeaning work.new.symbols rest.exports) }
     // They are what the definition has of the unit, where forms stand for what it has of them.
     ensures came { (spelled : LibraryName → List ℕ) (us : List Placed) (q : Program) (p : Prepared) (given_entries : List ModelEntry × List SetResult) (fs : List Formed) → p.number ≡ unit → IsSourceOf spelled p None source.now →
         AreLibraries work.old.symbols libraries.entry spelled us q.units → AreEntries work.old.symbols given.joined.entries.items given_entries.0 →
-        length forms ≡ length p.forms → FormsStand work.old unit 0 forms (with_refused p.number 0 (forms_at_work p) fs) → AreDefinitions work.old.symbols (reverse (definitions_from 0 forms)) (defined_by unit q.table) →
-        IfOk result (λ came. CameTo us q work.new came (unit_result p given_entries q.table (Some fs))) }
+        length forms.now ≡ length p.forms → FormsStand work.old unit 0 (map (λ form. form.now) forms.now) (with_refused p.number 0 (forms_at_work p) fs) → AreDefinitions work.old.symbols (reverse (definitions_from 0 (map (λ form. form.now) forms.now))) (defined_by unit q.table) →
+        IfOk result (λ rest. CameTo us q work.new (with_forms rest (map (λ form. form.now) forms.now)) (unit_result p given_entries q.table (Some fs))) }
     // What is found is what the definition has of the unit, where the program comes to have these units.
     ensures finds { (spelled : LibraryName → List ℕ) (q : Program) (p : Prepared) (given_entries : List ModelEntry × List SetResult) (fs : List Formed) → p.number ≡ unit → IsSourceOf spelled p None source.now →
-        AreEntries work.old.symbols given.joined.entries.items given_entries.0 → FormsStand work.old unit 0 forms (with_refused p.number 0 (forms_at_work p) fs) → AreDefinitions work.old.symbols (reverse (definitions_from 0 forms)) (defined_by unit q.table) →
+        AreEntries work.old.symbols given.joined.entries.items given_entries.0 → FormsStand work.old unit 0 (map (λ form. form.now) forms.now) (with_refused p.number 0 (forms_at_work p) fs) → AreDefinitions work.old.symbols (reverse (definitions_from 0 (map (λ form. form.now) forms.now))) (defined_by unit q.table) →
         (reads : List Read) (ends : List UnitResult) (r : UnitResult) → ArePlacesOf places.entry reads ends → result_at ends unit ≡ Some r → r.unit ≡ p → AreSetsFound reads ends p given_entries.1 given.findings.items →
         LostIn (length places.entry.documents.now) p.placed.source.lost →
-        IfOk result (λ came. IsFoundOf reads (in_the_end ends q) (unit_result p given_entries q.table (Some fs)) came.findings.items) }
+        IfOk result (λ rest. IsFoundOf reads (in_the_end ends q) (unit_result p given_entries q.table (Some fs)) rest.findings.items) }
 {
     let Given {
         joined,
         mut findings,
     } = given;
-    let slice = forms.as_slice();
     let sets_are_good = none_placed(findings.as_slice());
-    let defined = definitions(alloc, slice)?;
+    let defined = definitions(alloc, forms)?;
     let names = names_of(alloc, &work.symbols, unit, defined.as_slice(), &joined)?;
     let used = names_used(alloc, work, libraries, unit, source, names.as_slice())?;
     let seconds = seconds_in(alloc, source.imports.as_slice())?;
@@ -97,7 +96,7 @@ pub fn finished(
         places,
         unit,
         source.forms.as_slice(),
-        slice,
+        forms,
         &mut findings,
     )?;
     add_hiding(
@@ -105,22 +104,32 @@ pub fn finished(
         symbols,
         places,
         unit,
-        slice,
+        forms,
         defined.as_slice(),
         &joined,
         &mut findings,
     )?;
     let are_found = are_told(sets_are_good, source.lost.as_slice());
-    add_unbound_if(alloc, symbols, places, slice, are_found, &mut findings)?;
+    add_unbound_if(alloc, symbols, places, forms, are_found, &mut findings)?;
     add_no_import(alloc, places, unit, source, &mut findings)?;
-    Ok(Expanded {
+    Ok(Rest {
         entries: joined.entries,
-        forms,
         names: used,
         seconds,
         exports,
         findings,
     })
+}
+
+/// References to forms, in order.
+pub fn references(alloc: Global, forms: &[UnitForm]) -> Mem<Vec<&UnitForm>>
+    ensures { IfOk result (λ all. map (λ form. form.now) all.items ≡ forms.now) }
+{
+    let mut all = Vec::new(alloc);
+    for form in forms {
+        all.push(form)?;
+    }
+    Ok(all)
 }
 
 /// Whether unbound names are told: only where no set of the unit is wrong, and each string that includes means a text.
@@ -135,15 +144,15 @@ fn add_unbound_if(
     alloc: Global,
     symbols: &Symbols,
     places: Places<'_>,
-    forms: &[UnitForm],
+    forms: &[&UnitForm],
     are_found: bool,
     findings: &mut Vec<Finding>,
 ) -> Mem<()>
-    requires forms { StandIn symbols.now forms.now }
+    requires forms { StandIn symbols.now (map (λ form. form.now) forms.now) }
     requires documents { 0 < length places.documents.now }
     requires places { CanPlace places }
     ensures inside { AreFoundIn (length places.entry.documents.now) findings.old.items → OnOk result (AreFoundIn (length places.entry.documents.now) findings.new.items) }
-    ensures exact { (rs : List Read) (us : List UnitResult) (work : AnyWork) (unit : ℕ) (fs : List Formed) → ArePlacesOf places.entry rs us → KeepsNames work.symbols symbols.now → FormsStand work unit 0 forms.now fs →
+    ensures exact { (rs : List Read) (us : List UnitResult) (work : AnyWork) (unit : ℕ) (fs : List Formed) → ArePlacesOf places.entry rs us → KeepsNames work.symbols symbols.now → FormsStand work unit 0 (map (λ form. form.now) forms.now) fs →
         OnOk result (Adds findings.old.items findings.new.items (if are_found then unbound_diagnostics (bytes_of (spans_of rs) us) (unit_leaves fs) else []) []) }
 {
     if are_found {

@@ -19,7 +19,7 @@ use Rattle.core_tree.specs.declared.traces.FormFault.{FormFault}
 use Rattle.core_tree.specs.declared.traces.Trace.{Trace}
 use Rattle.feature_requirements.specs.Judged.{Knows, library_text}
 use Rattle.unit_scopes.specs.Kept.{NotesFor}
-use Rattle.unit_scopes.specs.Outcomes.{At, Leaves, SameForm, Stays, Moves, MayFill, Ends}
+use Rattle.unit_scopes.specs.Outcomes.{At, KeepsNumbers, Leaves, SameForm, Stays, Moves, MayFill, Ends}
 use Rattle.unit_scopes.specs.State.{FormStands, Rests, Stands}
 use Rattle.unit_scopes.specs.Stepped.{turned, with_uses}
 use Rattle.unit_scopes.specs.Units.{UnitStands, form_at, CountsFor, LeftFor, CanDeclare, CanSet, Goes, Adds, Counts, Sets, Declares, Expands}
@@ -31,6 +31,7 @@ use Rattle.unit_scopes.specs.declared.scope.Budget.{Budget}
 use Rattle.unit_scopes.specs.declared.scope.FormAtWork.{FormAtWork}
 use Rattle.unit_scopes.specs.declared.scope.UnitScope.{UnitScope}
 use Rattle.unit_scopes.proofs.NotesStand.{notes_on}
+use Rattle.unit_scopes.proofs.OutcomeLaws.{numbers_from}
 
 -- ---- between two calls
 
@@ -151,6 +152,12 @@ module _ (old new : Work) (region : Region) (u u1 v w : UnitScope) (number : ℕ
   unit_is : w.unit ≡ v.unit
   unit_is = ap (λ (x : UnitScope). x.unit) rest
 
+  numbers_left : SameForm u1 v → KeepsNumbers u (record v { form = record v.form { trace = back } })
+  numbers_left same =
+      let after : UnitScope = record v { form = record v.form { trace = back } } in
+      numbers_from u u1 after (ap (λ (x : UnitScope). x.unit) turn) (ap (λ (x : UnitScope). x.macros) turn) (ap (λ (x : UnitScope). x.defined) turn)
+      (record { defined = same.numbers.defined; numbers = same.numbers.numbers })
+
   goes : (ls layout : List Frames) (ns : List (Note FramedIdent)) (t : ScopedState) → ((n : ℕ) (fs : Frames) → At ls n fs → At layout n fs) → Stays old new region u1 v layout t → NotesFor new layout v.asked ns → Goes old new region u w budget after ls number traced ns t
   goes ls layout ns t kept m notes =
       subst (λ (x : UnitScope). Goes old new region u x budget after ls number traced ns t) (sym rest)
@@ -163,6 +170,7 @@ module _ (old new : Work) (region : Region) (u u1 v w : UnitScope) (number : ℕ
         counted = subst (λ (n : ℕ). live_count new + n ≤ live_count old + v.form.budget.nodes) (ap (λ (x : UnitScope). x.form.budget.nodes) turn) m.counted;
         units = m.same.roots ∙ ap (λ (x : UnitScope). x.env.roots) turn;
         libraries = m.same.libraries ∙ ap (λ (x : UnitScope). x.libraries) turn;
+        numbers = numbers_left m.same;
       })))
 
   -- ---- what is left of a form

@@ -1,9 +1,10 @@
 -- A definition where forms are gone through: what the next one binds and means, what it comes to, and that all stands with it.
 use Rattle.std.proofs.Common.{◌≡◌, ℕ, ◌+◌, ◌<◌, ◌≤◌, List, [], ◌∷◌, Bool, true, false, not, Option, Some, None, Result, Ok, Err, refl, sym, ap, ◌∙◌, subst, arith}
-use Rattle.std.specs.Prelude.{◌&&◌, if◌then◌else◌}
+use Rattle.std.specs.Prelude.{◌&&◌, nat_eq, if◌then◌else◌}
+use Rattle.std.proofs.Common.{eqb-true}
 use Rattle.std.specs.Prelude.{is_some as is_kept}
 use Rattle.std.specs.BTreeMap.{BTreeMap, get, btree_map_len}
-use Rattle.std.specs.Ordering.{nat_cmp}
+use Rattle.std.specs.Ordering.{nat_cmp, is_eq}
 use Rattle.std.proofs.lemmas.Option.{slice_get_within}
 use Rattle.scheme_model.specs.Identifiers.{Number}
 use Rattle.scheme_model.specs.Ident.{Ident as Identifier}
@@ -11,7 +12,7 @@ use Rattle.scheme_model.specs.ExpansionFaults.{Named, KeywordRedefined, Duplicat
 use Rattle.scheme_model.specs.Meaning as model
 use Rattle.scheme_model.specs.RulesShape.{Rules}
 use Rattle.scheme_model.specs.Steps.{Broken}
-use Rattle.scheme_model.specs.Order.{Here, Note, Pending, Renamed, is_some, told}
+use Rattle.scheme_model.specs.Order.{Here, Note, Pending, is_some, told}
 use Rattle.std.specs.Option.{option_map}
 use Rattle.scheme_model.specs.Substitution.{Defined, defined_in, is_variable, any, unchanged}
 use Rattle.scheme_model.specs.CountedExpansion.{refused_here}
@@ -21,7 +22,7 @@ use Rattle.syntax_tree.specs.Names.{AreToldApart}
 use Rattle.syntax_tree.specs.Macros.{IsIdent}
 use Rattle.syntax_tree.specs.Meant.{IsMeaning}
 use Rattle.syntax_tree.specs.declared.meaning.Meaning.{Meaning}
-use Rattle.syntax_tree.specs.declared.meaning.Meaning.TheVariants.{Local, Global}
+use Rattle.syntax_tree.specs.declared.meaning.Meaning.TheVariants.{Local, Global, Standard, Free}
 use Rattle.syntax_tree.specs.declared.trees.Work.{Work}
 use Rattle.syntax_tree.proofs.Places.{get_within}
 use Rattle.scope_env.specs.Environment.{Environment, IsSound, with_bound}
@@ -33,12 +34,12 @@ use Rattle.core_tree.specs.Names.{IsBound}
 use Rattle.unit_scopes.specs.Binds.{with_locals}
 use Rattle.unit_scopes.specs.Chains.{body_chain}
 use Rattle.unit_scopes.specs.Counts.{named_fault}
-use Rattle.unit_scopes.specs.Macros.{macro_in, same_key, IsBound as IsBound_meaning, Keeps}
+use Rattle.unit_scopes.specs.Macros.{macro_in, edition_of, edition_in, same_key, IsBound as IsBound_meaning, Keeps}
 use Rattle.unit_scopes.specs.State.{IsMacro, EnvStands, Stands, is_program, most_locals}
 use Rattle.unit_scopes.specs.Stepped.{BindsBody, with_told, with_definition, with_macros}
 use Rattle.unit_scopes.specs.Searched.{speaks_of, define_searched}
 use Rattle.unit_scopes.specs.Kept.{IsInBody, IsIn, SpotFor}
-use Rattle.unit_scopes.specs.Outcomes.{At, SameForm}
+use Rattle.unit_scopes.specs.Outcomes.{At, IsSettled, KeepsNumbers, SameForm}
 use Rattle.unit_scopes.specs.Defining.{ComesTo, next_here, Places, IsKept, Takes, EndsIn}
 use Rattle.unit_scopes.specs.declared.definitions.Coming.{Coming}
 use Rattle.form_parts.specs.declared.items.Spot.{Spot}
@@ -48,7 +49,7 @@ use Rattle.unit_scopes.specs.declared.scope.UnitScope.{UnitScope}
 use Rattle.unit_scopes.proofs.BodiesStand.{definition_stands}
 use Rattle.unit_scopes.proofs.BodyScopes.{binds_more, body_binds}
 use Rattle.unit_scopes.proofs.ComingDefinitions.{coming_in_body, coming_in_unit}
-use Rattle.unit_scopes.proofs.OutcomeLaws.{same_itself}
+use Rattle.unit_scopes.proofs.OutcomeLaws.{same_itself, numbers_stay}
 use Rattle.unit_scopes.proofs.DefinedMacros.{macro_definition_stands, own_variable_stands, own_macro_stands}
 
 -- ---- where forms are gone through
@@ -211,26 +212,35 @@ pub record SamePlace (u w : UnitScope) : Type 0 where
   pub same : SameForm u w
   pub takes : Takes 1 u w
 
-same_but : (u w : UnitScope) → w.unit ≡ u.unit → w.root ≡ u.root → w.libraries ≡ u.libraries → w.env.roots ≡ u.env.roots → w.form.number ≡ u.form.number → w.form.budget.locals ≤ u.form.budget.locals + 1 → w.form.budget.uses ≡ u.form.budget.uses → w.form.budget.nodes ≡ u.form.budget.nodes → SamePlace u w
-same_but u w unit root libraries roots number locals uses nodes = record {
-  same = record { unit = unit; number = number; root = root; libraries = libraries; roots = roots; uses = omega (arith, uses); nodes = omega (arith, nodes) };
+same_but : (u w : UnitScope) → KeepsNumbers u w → w.unit ≡ u.unit → w.root ≡ u.root → w.libraries ≡ u.libraries → w.env.roots ≡ u.env.roots → w.form.number ≡ u.form.number → w.form.budget.locals ≤ u.form.budget.locals + 1 → w.form.budget.uses ≡ u.form.budget.uses → w.form.budget.nodes ≡ u.form.budget.nodes → SamePlace u w
+same_but u w numbers unit root libraries roots number locals uses nodes = record {
+  same = record { unit = unit; number = number; root = root; libraries = libraries; roots = roots; uses = omega (arith, uses); nodes = omega (arith, nodes); numbers = numbers };
   takes = record { locals = locals; uses = uses; nodes = nodes };
 }
 
+-- a definition more
+some_more : (b k : Bool) (o : Option Bool) → is_kept o ≡ true → is_kept (if b then Some k else o) ≡ true
+some_more true k o there = refl
+some_more false k o there = there
+
 pub same_placed : (u w : UnitScope) (b k : Bool) (scope : ℕ) (name : NamePart) (m : Meaning) → Places u w b scope name m k → SamePlace u w
 same_placed u w true k scope name m p =
-    same_but u w (λ j. (p j).unit) (λ j. (p j).root) (λ j. (p j).libraries) (λ j. (p j).env.roots) (λ j. (p j).form.number)
+    same_but u w (numbers_stay u w (λ j. (p j).macros) (λ j. (p j).defined)) (λ j. (p j).unit) (λ j. (p j).root) (λ j. (p j).libraries) (λ j. (p j).env.roots) (λ j. (p j).form.number)
     (let e : w.form.budget.locals ≡ u.form.budget.locals + 1 = λ j. (p j).form.budget.locals in omega arith) (λ j. (p j).form.budget.uses) (λ j. (p j).form.budget.nodes)
 same_placed u w false k scope name m p =
     let q = p.1 in
-    same_but u w (λ j. (q j).unit) (λ j. (q j).root) (λ j. (q j).libraries) (λ j. (q j).env.roots) (λ j. (q j).form.number)
+    let numbers : KeepsNumbers u w = record {
+      defined = λ i there. (λ j. is_kept (get nat_cmp (q j).defined i)) ∙ (ap is_kept (p.2 i) ∙ some_more (is_eq (nat_cmp name.ident i)) k (get nat_cmp u.defined i) there);
+      numbers = λ form c settled. λ j. edition_in (q j).macros form c;
+    } in
+    same_but u w numbers (λ j. (q j).unit) (λ j. (q j).root) (λ j. (q j).libraries) (λ j. (q j).env.roots) (λ j. (q j).form.number)
     (let e : w.form.budget.locals ≡ u.form.budget.locals = λ j. (q j).form.budget.locals in omega arith) (λ j. (q j).form.budget.uses) (λ j. (q j).form.budget.nodes)
 
-pub same_kept : (u w : UnitScope) (ms : Macros) → SamePlace u w → SamePlace u (with_macros w ms)
-same_kept u w ms h =
+pub same_kept : (u w : UnitScope) (ms : Macros) → KeepsNumbers u (with_macros w ms) → SamePlace u w → SamePlace u (with_macros w ms)
+same_kept u w ms numbers h =
     let a = h.same in
     let b = h.takes in
-    same_but u (with_macros w ms) a.unit a.root a.libraries a.roots a.number b.locals b.uses b.nodes
+    same_but u (with_macros w ms) numbers a.unit a.root a.libraries a.roots a.number b.locals b.uses b.nodes
 
 -- ---- it ends well
 
@@ -250,6 +260,29 @@ kept_beside u w ms b ident k f m number macros keeps apart =
     keeps f m
     ∙ ((λ j. if same_key (number j) (next_here u b ident) f m then Some k else macro_in (macros j) f m)
     ∙ ap (λ (q : Bool). if q then Some k else macro_in u.macros f m) apart)
+
+-- what stood means something else than what is defined
+apart_here : (u : UnitScope) (b : Bool) (ident form : ℕ) (c : Meaning) → (b ≡ false → get nat_cmp u.defined ident ≡ None) → IsSettled u c → same_key u.form.number (next_here u b ident) form c ≡ false
+apart_here u b ident form (Local n) new settled = absurd settled
+apart_here u true ident form (Global x i) new settled = refl
+apart_here u true ident form (Standard x) new settled = refl
+apart_here u true ident form (Free x) new settled = refl
+apart_here u false ident form (Standard x) new settled = refl
+apart_here u false ident form (Free x) new settled = refl
+apart_here u false ident form (Global x i) new settled = by (nat_eq x u.unit) (nat_eq i ident) refl refl
+  where
+    no_true : {P : Type 0} → true ≡ false → P
+    no_true h = absurd cc
+
+    by : (p q : Bool) → nat_eq x u.unit ≡ p → nat_eq i ident ≡ q → (nat_eq x u.unit && nat_eq i ident) ≡ false
+    by true true same_unit same = no_true (sym (settled (eqb-true x u.unit same_unit)) ∙ (ap (λ (n : ℕ). is_kept (get nat_cmp u.defined n)) (eqb-true i ident same) ∙ ap is_kept (new refl)))
+    by true false same_unit other = λ j. same_unit j && other j
+    by false q other same = ap (λ (r : Bool). r && nat_eq i ident) other
+
+pub numbers_kept : (u w : UnitScope) (ms : Macros) (b : Bool) (ident : ℕ) (k : Macro) → w.form.number ≡ u.form.number → w.macros ≡ u.macros → (b ≡ false → get nat_cmp u.defined ident ≡ None) → Keeps w.macros ms w.form.number (next_here u b ident) k →
+    KeepsNumbers u w → KeepsNumbers u (with_macros w ms)
+numbers_kept u w ms b ident k number macros new keeps h =
+    record { defined = h.defined; numbers = λ form c settled. ap edition_of (kept_beside u w ms b ident k form c number macros keeps (apart_here u b ident form c new settled)) }
 
 -- what is kept is a macro exactly where there are rules
 pub kept_tells : (work : Work) (ls : List Frames) (fs : Frames) (k : Option Macro) (r : Option (Rules Identifier)) → IsKept work ls fs k r → is_kept k ≡ is_some r

@@ -1,7 +1,7 @@
 -- Units stand for the same once what is local to their forms is forgotten, without what was local.
 use Rattle.std.proofs.Common.{◌≡◌, ◌⊎◌, ℕ, zero, suc, ◌+◌, ◌<◌, ◌≤◌, List, [], ◌∷◌, ◌++◌, map, reverse, length, take, min, slice_get, Bool, true, false, cond, Option, Some, None, inl, inr, refl, sym, ap, ◌∙◌, subst, arith}
 use Rattle.std.specs.Option.{option_map, option_and_then}
-use Rattle.std.specs.Prelude.{Vec}
+use Rattle.std.specs.Prelude.{Vec, is_some as kept_some}
 use Rattle.std.specs.declared.alloc.Global.{Global}
 use Rattle.std.specs.BTreeMap.{BTreeMap, get}
 use Rattle.std.specs.Ordering.{nat_cmp, eq_by_cmp}
@@ -39,6 +39,7 @@ use Rattle.unit_scopes.specs.Forgotten.{ForgetsLocals, MacrosAtRoot, IsAtRoot, A
 use Rattle.unit_scopes.specs.Kept.{PlaceFor, NoteFor}
 use Rattle.unit_scopes.specs.Editions.{EditionsTell}
 use Rattle.unit_scopes.specs.Macros.{macro_in, edition_of, edition_in}
+use Rattle.unit_scopes.specs.Outcomes.{IsSettled, KeepsNumbers}
 use Rattle.unit_scopes.specs.State.{AreBegun, BodiesBegun, AreEntered, AreDefined, EnvStands, IsMacroIfAny, MacrosStand}
 use Rattle.unit_scopes.specs.Units.{UnitStands}
 use Rattle.unit_scopes.specs.Within.{place_within, note_within, macro_within}
@@ -329,22 +330,39 @@ root_there u sound own =
 
 -- ---- the editions of macros
 
-module _ (names : Names) (last : ℕ) (ms ns : Macros) (globals : (f u i : ℕ) → macro_in ns f (GlobalOf u i) ≡ option_map (macro_within last) (macro_in ms f (GlobalOf u i)))
+module _ (last : ℕ) (ms ns : Macros) (globals : (f u i : ℕ) → macro_in ns f (GlobalOf u i) ≡ option_map (macro_within last) (macro_in ms f (GlobalOf u i)))
     (standards : (f x : ℕ) → macro_in ns f (Standard x) ≡ option_map (macro_within last) (macro_in ms f (Standard x))) where
   edition_within : (o : Option Macro) → edition_of (option_map (macro_within last) o) ≡ edition_of o
   edition_within None = refl
   edition_within (Some k) = refl
 
-  same_edition : (form : ℕ) (c : Meaning) (unit : ℕ) (m : model.Meaning) → is_local m ≡ false → IsMeaning names unit form c m → edition_in ns form c ≡ edition_in ms form c
-  same_edition form (Local n) unit m lasts is = absurd (false_true (sym lasts ∙ ap is_local is))
-  same_edition form (GlobalOf u n) unit m lasts is = ap edition_of (globals form u n) ∙ edition_within (macro_in ms form (GlobalOf u n))
-  same_edition form (Standard n) unit m lasts is = ap edition_of (standards form n) ∙ edition_within (macro_in ms form (Standard n))
-  same_edition form (Free n) unit m lasts is = refl
+  global_edition : (form u i : ℕ) → edition_in ns form (GlobalOf u i) ≡ edition_in ms form (GlobalOf u i)
+  global_edition form u i = ap edition_of (globals form u i) ∙ edition_within (macro_in ms form (GlobalOf u i))
 
-  pub editions_forgotten : (s t : ScopedState) (editions : ℕ → Option (Transformer Frames Identifier)) → ForgetsLocals s t → EditionsTell names ms s editions → EditionsTell names ns t editions
-  editions_forgotten s t editions forgets h = record {
+  standard_edition : (form x : ℕ) → edition_in ns form (Standard x) ≡ edition_in ms form (Standard x)
+  standard_edition form x = ap edition_of (standards form x) ∙ edition_within (macro_in ms form (Standard x))
+
+  same_edition : (names : Names) (form : ℕ) (c : Meaning) (unit : ℕ) (m : model.Meaning) → is_local m ≡ false → IsMeaning names unit form c m → edition_in ns form c ≡ edition_in ms form c
+  same_edition names form (Local n) unit m lasts is = absurd (false_true (sym lasts ∙ ap is_local is))
+  same_edition names form (GlobalOf u n) unit m lasts is = global_edition form u n
+  same_edition names form (Standard n) unit m lasts is = standard_edition form n
+  same_edition names form (Free n) unit m lasts is = refl
+
+  pub editions_forgotten : (names : Names) (s t : ScopedState) (editions : ℕ → Option (Transformer Frames Identifier)) → ForgetsLocals s t → EditionsTell names ms s editions → EditionsTell names ns t editions
+  editions_forgotten names s t editions forgets h = record {
     none = h.none;
     tells = λ form c m is lasts.
-        ap editions (same_edition form c t.unit m lasts is)
+        ap editions (same_edition names form c t.unit m lasts is)
         ∙ (h.tells form c m (subst (λ (u : ℕ). IsMeaning names u form c m) forgets.unit is) lasts ∙ ap (shapes.option_map bare_macro) (sym (forgets.macros m lasts)));
   }
+
+-- each macro that isn't local keeps its edition
+pub numbers_forgotten : (u v : UnitScope) → v.defined ≡ u.defined → (last : ℕ) → ((f w i : ℕ) → macro_in v.macros f (GlobalOf w i) ≡ option_map (macro_within last) (macro_in u.macros f (GlobalOf w i))) →
+    ((f x : ℕ) → macro_in v.macros f (Standard x) ≡ option_map (macro_within last) (macro_in u.macros f (Standard x))) → KeepsNumbers u v
+numbers_forgotten u v defined last globals standards = record { defined = λ i there. (λ j. kept_some (get nat_cmp (defined j) i)) ∙ there; numbers = by }
+  where
+    by : (form : ℕ) (c : Meaning) → IsSettled u c → edition_in v.macros form c ≡ edition_in u.macros form c
+    by form (Local n) settled = absurd settled
+    by form (GlobalOf w i) settled = global_edition last u.macros v.macros globals standards form w i
+    by form (Standard x) settled = standard_edition last u.macros v.macros globals standards form x
+    by form (Free x) settled = refl

@@ -40,4 +40,6 @@ pub mod SyntaxLaws  -- The rules of macros where they are defined, by what the c
 pub mod CoreStandLaws  -- What stood for a core, a part, a clause or what was set aside in a work still does in one that grew
 pub mod FreshLaws  -- A unit that was begun just now
 pub mod WithinLaws  -- Notes and macros are in scopes that are no newer than one
+pub mod EditionStands  -- The editions of macros tell their rules where names are added and another unit begins, and where one macro more is kept
+pub mod PreludeEditions  -- A macro of the prelude's unit that is added has the next edition, which tells its rules
 pub mod ForgottenLaws  -- Units stand for the same once what is local to their forms is forgotten, without what was local

@@ -1,11 +1,13 @@
 -- A definition that stands: what is made of the scopes and macros, and that all stands with it.
 use Rattle.std.proofs.Common.{◌≡◌, ℕ, ◌+◌, ◌≤◌, List, [], Bool, true, false, Option, Some, None, refl, sym, ap, ◌∙◌, subst}
 use Rattle.std.specs.Prelude.{is_some as is_kept}
+use Rattle.std.specs.BTreeMap.{get}
+use Rattle.std.specs.Ordering.{nat_cmp}
 use Rattle.scheme_model.specs.Ident.{Ident as Identifier}
 use Rattle.scheme_model.specs.ExpansionFaults.{Named}
 use Rattle.scheme_model.specs.RulesShape.{Rules}
 use Rattle.scheme_model.specs.Order.{is_some}
-use Rattle.scheme_model.specs.Questions.{Outcome, Stands as stands_outcome, Redefines, StoodBefore, outcome_by}
+use Rattle.scheme_model.specs.Questions.{Stands as stands_outcome, Redefines, StoodBefore, outcome_by}
 use Rattle.scheme_model.specs.ScopedExpansion.{Frames, ScopedState, body_around, definition_added}
 use Rattle.syntax_tree.specs.Names.{AreToldApart}
 use Rattle.syntax_tree.specs.declared.meaning.Meaning.{Meaning}
@@ -22,7 +24,7 @@ use Rattle.unit_scopes.specs.Stepped.{with_macros}
 use Rattle.unit_scopes.specs.declared.macros.Macro.{Macro}
 use Rattle.unit_scopes.specs.declared.macros.Macros.{Macros}
 use Rattle.unit_scopes.specs.declared.scope.UnitScope.{UnitScope}
-use Rattle.unit_scopes.proofs.DefineLaws.{variable_stands, macro_stands, in_after, is_in_on, same_placed, same_kept, placed_notes, kept_beside}
+use Rattle.unit_scopes.proofs.DefineLaws.{variable_stands, macro_stands, in_after, is_in_on, same_placed, same_kept, placed_notes, placed_macros, kept_beside, numbers_kept}
 use Rattle.unit_scopes.proofs.KeptStands.{numbered_stands}
 
 -- ---- how a definition ends tells whether it is refused, and whether it is the second
@@ -50,7 +52,8 @@ any_rules false = (None, refl)
 -- ---- the scopes and macros that it leaves
 
 module _ (work : Work) (u : UnitScope) (ls : List Frames) (s : ScopedState) (spot : Spot) (fs : Frames) (e : Stands work u ls s) (name : NamePart) (n : Named Identifier) (apart : AreToldApart work.symbols.idents) (told : AreToldApart work.symbols.symbols) (sound : IsSound u.env)
-    (is : IsName work name n) (placed : SpotFor work u ls s spot fs) (room : u.form.budget.locals + 1 ≤ most_locals u.form.budget.nodes) (w : UnitScope) (ms : Macros) where
+    (is : IsName work name n) (placed : SpotFor work u ls s spot fs) (room : u.form.budget.locals + 1 ≤ most_locals u.form.budget.nodes) (w : UnitScope) (ms : Macros)
+    (new : spot.in_body ≡ false → get nat_cmp u.defined name.ident ≡ None) where
   abbrev here : Meaning
   here = next_here u spot.in_body name.ident
 
@@ -67,11 +70,12 @@ module _ (work : Work) (u : UnitScope) (ls : List Frames) (s : ScopedState) (spo
   macro : (k : Macro) (r : Rules Identifier) → Places u w spot.in_body spot.scope name here true → Keeps w.macros ms w.form.number here k → IsMacro work ls k (record { env = fs; rules = r }) → Goes (with_macros w ms) (Some r)
   macro k r put keeps kept =
       let t = definition_added (body_around fs) n (Some r) fs s in
+      let first = same_placed u w spot.in_body true spot.scope name here put in
       let inside = in_after work u ls s spot.scope fs e name n apart sound is placed.at room w spot.in_body true (Some r) placed.inside put in
       record {
         stands = macro_stands work u ls s spot.scope fs e name n apart sound is placed.at room w spot.in_body ms k r told placed.inside put keeps kept;
         placed = record { at = placed.at; inside = is_in_on work ls spot.scope fs w (with_macros w ms) t t spot.in_body refl refl refl inside };
-        same = (same_kept u w ms (same_placed u w spot.in_body true spot.scope name here put)).same;
+        same = (same_kept u w ms (numbers_kept u w ms spot.in_body name.ident k first.same.number (placed_macros u w spot.in_body true spot.scope name here put) new keeps first.same.numbers) first).same;
       }
 
   pub made_goes : (kept : Option Macro) (again : Bool) (r : Option (Rules Identifier)) → Places u w spot.in_body spot.scope name here (is_kept kept) → KeepsAny w.macros ms w.form.number here kept again → IsKept work ls fs kept r → Goes (with_macros w ms) r

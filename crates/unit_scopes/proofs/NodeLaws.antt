@@ -24,7 +24,7 @@ use Rattle.unit_scopes.specs.Searched.{searched}
 use Rattle.feature_requirements.specs.declared.fault.ExpandFault.{ExpandFault}
 use Rattle.unit_scopes.specs.declared.scope.UnitScope.{UnitScope}
 use Rattle.unit_scopes.proofs.CountingStands.{nodes_stand}
-use Rattle.unit_scopes.proofs.OutcomeLaws.{grows_itself, stays_itself, ends_after, bound_goes, moves_here}
+use Rattle.unit_scopes.proofs.OutcomeLaws.{grows_itself, numbers_stay, stays_itself, ends_after, bound_goes, moves_here}
 use Rattle.std.specs.Result.{IsErrAnd}
 
 -- ---- faults that name nothing
@@ -52,7 +52,7 @@ spends work region u ls s n within e = record {
   stands = nodes_stand work u ls s n within e;
   work = grows_itself work region;
   counted = omega arith;
-  same = record { unit = refl; number = refl; root = refl; libraries = refl; roots = refl; uses = omega arith; nodes = omega arith };
+  same = record { unit = refl; number = refl; root = refl; libraries = refl; roots = refl; uses = omega arith; nodes = omega arith; numbers = numbers_stay u (with_nodes u n) refl refl };
 }
 
 module _ (known : Known) (work : Work) (region : Region) (u : UnitScope) (ls : List Frames) (s : ScopedState) (here : Option Occ) (n : ℕ) (e : Stands work u ls s) where

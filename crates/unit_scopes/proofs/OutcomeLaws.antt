@@ -1,20 +1,26 @@
 -- How steps follow one another: what each leaves adds up, and a fault ends what comes behind it.
-use Rattle.std.proofs.Common.{◌≡◌, ℕ, ◌≤◌, List, [], ◌∷◌, Option, Some, None, Result, Ok, Err, refl, sym, ap, ◌∙◌, subst, inl, inr, arith}
+use Rattle.std.proofs.Common.{◌≡◌, ℕ, ◌≤◌, List, [], ◌∷◌, true, Option, Some, None, Result, Ok, Err, refl, sym, ap, ◌∙◌, subst, inl, inr, arith}
+use Rattle.std.specs.Prelude.{is_some}
 use Rattle.std.specs.Option.{option_map}
 use Rattle.std.specs.FinMap as map
+use Rattle.std.specs.BTreeMap.{get}
+use Rattle.std.specs.Ordering.{nat_cmp}
 use Rattle.scheme_model.specs.Trees.{Tree, Trees, no_trees, tree}
 use Rattle.scheme_model.specs.Ident.{Ident as Identifier}
 use Rattle.scheme_model.specs.Steps.{Broken, Step, ◌>>=◌}
 use Rattle.scheme_model.specs.ScopedExpansion.{Frames, ScopedState}
 use Rattle.syntax_tree.specs.Names.{Names, KeepsNames}
 use Rattle.syntax_tree.specs.Nodes.{Lived}
+use Rattle.syntax_tree.specs.declared.meaning.Meaning.{Meaning}
+use Rattle.syntax_tree.specs.declared.meaning.Meaning.TheVariants.{Local, Global, Standard, Free}
 use Rattle.syntax_tree.specs.Looks.{PartsStand, AllNamed}
 use Rattle.syntax_tree.specs.Works.{CanName, KeepsTrees, AddsIn}
 use Rattle.syntax_tree.specs.declared.trees.Work.{Work}
 use Rattle.syntax_tree.specs.declared.trees.nodes.Tree as number
 use Rattle.syntax_tree.specs.declared.trees.table.Region.{Region}
+use Rattle.unit_scopes.specs.Macros.{edition_in}
 use Rattle.unit_scopes.specs.State.{Stands}
-use Rattle.unit_scopes.specs.Outcomes.{Grows, Leaves, SameForm, Stays, Moves, MayFill, Ends, EndsHere, WorksOn}
+use Rattle.unit_scopes.specs.Outcomes.{Grows, IsSettled, KeepsNumbers, Leaves, SameForm, Stays, Moves, MayFill, Ends, EndsHere, WorksOn}
 use Rattle.feature_requirements.specs.declared.fault.ExpandFault.{ExpandFault}
 use Rattle.feature_requirements.specs.declared.fault.ExpandFault.TheVariants as fault
 use Rattle.unit_scopes.specs.declared.scope.UnitScope.{UnitScope}
@@ -89,10 +95,35 @@ parts_on a b [] (tree t ts) keeps h = h
 parts_on a b (n ∷ ns) no_trees keeps h = h
 parts_on a b (n ∷ ns) (tree t ts) keeps h = (keeps.trees n t h.0, parts_on a b ns ts keeps h.1)
 
+-- ---- the editions of macros
+
+-- the macros and what is defined stay
+pub numbers_stay : (u v : UnitScope) → v.macros ≡ u.macros → v.defined ≡ u.defined → KeepsNumbers u v
+numbers_stay u v macros defined = record {
+  defined = λ i there. (λ j. is_some (get nat_cmp (defined j) i)) ∙ there;
+  numbers = λ form c settled. λ j. edition_in (macros j) form c;
+}
+
+settled_on : (u w : UnitScope) (c : Meaning) → w.unit ≡ u.unit → KeepsNumbers u w → IsSettled u c → IsSettled w c
+settled_on u w (Local n) unit p settled = absurd settled
+settled_on u w (Global x i) unit p settled = λ same. p.defined i (settled (same ∙ unit))
+settled_on u w (Standard x) unit p settled = tt
+settled_on u w (Free x) unit p settled = tt
+
+pub numbers_on : (u w v : UnitScope) → w.unit ≡ u.unit → KeepsNumbers u w → KeepsNumbers w v → KeepsNumbers u v
+numbers_on u w v unit p q = record {
+  defined = λ i there. q.defined i (p.defined i there);
+  numbers = λ form c settled. q.numbers form c (settled_on u w c unit p settled) ∙ p.numbers form c settled;
+}
+
+-- the same unit began
+pub numbers_from : (u w v : UnitScope) → w.unit ≡ u.unit → w.macros ≡ u.macros → w.defined ≡ u.defined → KeepsNumbers w v → KeepsNumbers u v
+numbers_from u w v unit macros defined q = numbers_on u w v unit (numbers_stay u w macros defined) q
+
 -- ---- steps that follow one another
 
 pub same_itself : (u : UnitScope) → SameForm u u
-same_itself u = record { unit = refl; number = refl; root = refl; libraries = refl; roots = refl; uses = omega arith; nodes = omega arith }
+same_itself u = record { unit = refl; number = refl; root = refl; libraries = refl; roots = refl; uses = omega arith; nodes = omega arith; numbers = numbers_stay u u refl refl }
 
 pub same_on : (u w v : UnitScope) → SameForm u w → SameForm w v → SameForm u v
 same_on u w v p q = record {
@@ -103,6 +134,7 @@ same_on u w v p q = record {
   roots = q.roots ∙ p.roots;
   uses = omega (arith, p.uses, q.uses);
   nodes = omega (arith, p.nodes, q.nodes);
+  numbers = numbers_on u w v p.unit p.numbers q.numbers;
 }
 
 pub stays_itself : (a : Work) (region : Region) (u : UnitScope) (ls : List Frames) (s : ScopedState) → Stands a u ls s → Stays a a region u u ls s

@@ -58,7 +58,7 @@ use Rattle.unit_scopes.specs.declared.uses.Use as code
 use Rattle.unit_scopes.proofs.CountingStands.{nodes_stand}
 use Rattle.unit_scopes.proofs.GrowthStands.{growth_stands, target_on}
 use Rattle.scheme_model.proofs.MatchedLaws.{Agree, first_match_same}
-use Rattle.unit_scopes.proofs.OutcomeLaws.{grows_itself, stays_itself}
+use Rattle.unit_scopes.proofs.OutcomeLaws.{grows_itself, numbers_stay, stays_itself}
 use Rattle.unit_scopes.proofs.UsesStand.{use_begins}
 
 -- ---- the macro that the keyword means
@@ -215,7 +215,7 @@ module _ (known : Known) (here : Option Occ) (fs : Frames) (keyword : Target) (m
       begun_stands = use_begins work u ls s scope m.env there (omega (arith, few)) e
 
       begun_stays : Stays work work region u (with_use_begun u scope) ls begun
-      begun_stays = record { stands = begun_stands; work = grows_itself work region; counted = omega arith; same = record { unit = refl; number = refl; root = refl; libraries = refl; roots = refl; uses = omega arith; nodes = omega arith } }
+      begun_stays = record { stands = begun_stands; work = grows_itself work region; counted = omega arith; same = record { unit = refl; number = refl; root = refl; libraries = refl; roots = refl; uses = omega arith; nodes = omega arith; numbers = numbers_stay u (with_use_begun u scope) refl refl } }
 
       pub unmatched_ends : (x : code_target.Target) (n : NamePart) → IsTarget work.symbols s.unit s.form x keyword → n.ident ≡ x.ident → n.occ ≡ x.occ → match_of_use s fs m ts tail ≡ None →
           EndsHere P work work region u (with_use_begun u scope) ls (Err (named_fault here 26 n)) step
@@ -294,7 +294,7 @@ module _ (known : Known) (here : Option Occ) (fs : Frames) (keyword : Target) (m
                 stands = grown_stands;
                 work = grows;
                 counted = omega (arith, few);
-                same = record { unit = refl; number = refl; root = refl; libraries = refl; roots = refl; uses = omega arith; nodes = omega arith };
+                same = record { unit = refl; number = refl; root = refl; libraries = refl; roots = refl; uses = omega arith; nodes = omega arith; numbers = numbers_stay u grown refl refl };
               },
               refl,
               (

@@ -1,17 +1,22 @@
 -- How a call of the expander ends: as a step of the expansion does, with what the code has after it.
-use Rattle.std.specs.Prelude.{◌≡◌, ℕ, ◌+◌, ◌-◌, ◌*◌, ◌^◌, ◌<◌, ◌≤◌, List, slice_get, Some, Result, Ok, Err}
+use Rattle.std.specs.Prelude.{◌≡◌, ℕ, ◌+◌, ◌-◌, ◌*◌, ◌^◌, ◌<◌, ◌≤◌, List, slice_get, true, is_some, Some, Result, Ok, Err}
+use Rattle.std.specs.BTreeMap.{get}
+use Rattle.std.specs.Ordering.{nat_cmp}
 use Rattle.scheme_model.specs.Trees.{Tree}
 use Rattle.scheme_model.specs.Ident.{Ident as Identifier}
 use Rattle.scheme_model.specs.Requirements.{Known}
 use Rattle.scheme_model.specs.Steps.{Broken, Step}
 use Rattle.scheme_model.specs.ScopedExpansion.{Frames, ScopedState}
 use Rattle.syntax_tree.specs.Names.{KeepsNames}
+use Rattle.syntax_tree.specs.declared.meaning.Meaning.{Meaning}
+use Rattle.syntax_tree.specs.declared.meaning.Meaning.TheVariants.{Local, Global, Standard, Free}
 use Rattle.syntax_tree.specs.Works.{StandsFor, IsStanding, CanName, KeepsTrees, SameRegions, AddsIn, live_count}
 use Rattle.syntax_tree.specs.declared.trees.Work.{Work}
 use Rattle.syntax_tree.specs.declared.trees.nodes.Tree as number
 use Rattle.syntax_tree.specs.declared.trees.table.Region.{Region}
 use Rattle.core_tree.specs.Traces.{IsFault}
 use Rattle.feature_requirements.specs.Judged.{Knows}
+use Rattle.unit_scopes.specs.Macros.{edition_in}
 use Rattle.unit_scopes.specs.State.{Stands, most_locals}
 use Rattle.feature_requirements.specs.declared.fault.ExpandFault.{ExpandFault}
 use Rattle.feature_requirements.specs.declared.fault.ExpandFault.TheVariants as fault
@@ -36,7 +41,19 @@ pub record Leaves (old new : Work) (region : Region) (u : code.UnitScope) : Type
   pub work : Grows old new region
   pub few : live_count new + u.form.budget.nodes ≤ live_count old + 200000
 
--- the same form of the same unit is at work, no unit was begun, and the form has counted no less
+-- what isn't local and has its meaning already: all but what the unit hasn't defined yet
+abbrev pub IsSettled : code.UnitScope → Meaning → Type 0
+IsSettled u (Local n) = ⊥
+IsSettled u (Global w i) = w ≡ u.unit → is_some (get nat_cmp u.defined i) ≡ true
+IsSettled u (Standard x) = Unit {0}
+IsSettled u (Free x) = Unit {0}
+
+-- what the unit has defined stays defined, and a macro that stood has the edition that it had
+pub record KeepsNumbers (u v : code.UnitScope) : Type 0 where
+  pub defined : (i : ℕ) → is_some (get nat_cmp u.defined i) ≡ true → is_some (get nat_cmp v.defined i) ≡ true
+  pub numbers : (form : ℕ) (c : Meaning) → IsSettled u c → edition_in v.macros form c ≡ edition_in u.macros form c
+
+-- the same form of the same unit is at work, no unit was begun, and the form has counted no less; macros that stood keep their editions
 pub record SameForm (u v : code.UnitScope) : Type 0 where
   pub unit : v.unit ≡ u.unit
   pub number : v.form.number ≡ u.form.number
@@ -45,6 +62,7 @@ pub record SameForm (u v : code.UnitScope) : Type 0 where
   pub roots : v.env.roots ≡ u.env.roots
   pub uses : u.form.budget.uses ≤ v.form.budget.uses
   pub nodes : u.form.budget.nodes ≤ v.form.budget.nodes
+  pub numbers : KeepsNumbers u v
 
 -- what the code has after a step that comes to this state and opens no scope: no more nodes were added than were counted
 pub record Stays (old new : Work) (region : Region) (u v : code.UnitScope) (ls : List Frames) (t : ScopedState) : Type 0 where

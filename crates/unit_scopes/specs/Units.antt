@@ -20,7 +20,7 @@ use Rattle.core_tree.specs.Traces.{IsFault}
 use Rattle.core_tree.specs.declared.traces.Trace.{Trace}
 use Rattle.core_tree.specs.declared.units.ExpandedItem.{ExpandedItem}
 use Rattle.unit_scopes.specs.Kept.{KeptFor, NotesFor, WaitsFor}
-use Rattle.unit_scopes.specs.Outcomes.{At, SameForm, Stays, Leaves, MayFill}
+use Rattle.unit_scopes.specs.Outcomes.{At, KeepsNumbers, SameForm, Stays, Leaves, MayFill}
 use Rattle.unit_scopes.specs.Searched.{searched}
 use Rattle.unit_scopes.specs.State.{FormStands, Rests, Stands, most_locals}
 use Rattle.unit_scopes.specs.Stepped.{turned}
@@ -62,7 +62,8 @@ pub record LeftFor (work : Work) (region : Region) (unit form : ℕ) (x : code_l
 
 -- ---- what calls leave
 
--- the unit after a call: scopes keep their frames, no more nodes were added than were counted, and no unit was begun
+-- the unit after a call: scopes keep their frames, and macros that stood their editions; no more nodes were added than were counted, and no unit
+-- was begun
 pub record Goes (old new : Work) (region : Region) (u v : UnitScope) (before after : Budget) (ls : List Frames) (number : ℕ) (trace : Trace) (notes : List (Note FramedIdent)) (t : ScopedState) : Type 0 where
   pub layout : List Frames
   pub stands : UnitStands new v layout t notes
@@ -71,6 +72,7 @@ pub record Goes (old new : Work) (region : Region) (u v : UnitScope) (before aft
   pub counted : live_count new + before.nodes ≤ live_count old + after.nodes
   pub units : v.env.roots ≡ u.env.roots
   pub libraries : v.libraries ≡ u.libraries
+  pub numbers : KeepsNumbers u v
 
 -- trees, names and nodes after a call: no more nodes were added than the form had left to count
 pub record Adds (old new : Work) (region : Region) (before : Budget) : Type 0 where

@@ -11,6 +11,7 @@ ghost use Rattle.syntax_tree.specs.declared.trees.Work.{Work as AnyWork};
 ghost use Rattle.unit_scopes.specs.Editions.{EditionsTell};
 ghost use Rattle.unit_scopes.specs.Forgotten.{ForgetsLocals, MacrosAtRoot, AreAtRoot, AllOwn, OwnFirst, without_local_scopes};
 ghost use Rattle.unit_scopes.specs.Macros.{macro_in};
+ghost use Rattle.unit_scopes.specs.Outcomes.{KeepsNumbers};
 ghost use Rattle.unit_scopes.specs.Units.{UnitStands};
 ghost use Rattle.unit_scopes.specs.Within.{macro_within};
 
@@ -46,6 +47,7 @@ impl UnitScope {
         ensures rests { (work : AnyWork) (ls : List Frames) (s t : ScopedState) (notes : List (Note FramedIdent)) → UnitStands work self.old ls s notes →
             ForgetsLocals s t → MacrosAtRoot s → AreAtRoot notes → UnitStands work self.new (take (self.old.root + 1) ls) t notes }
         ensures editions { (names : Names) (s t : ScopedState) (editions : ℕ → Option (Transformer Frames Identifier)) → ForgetsLocals s t → EditionsTell names self.old.macros s editions → EditionsTell names self.new.macros t editions }
+        ensures numbers { KeepsNumbers self.old self.new }
     {
         self.env.sound();
         let _scopes = self.env.count();

@@ -1,9 +1,17 @@
 //! The macros of all units, by what means them.
-ghost use Rattle.std.specs.Prelude.{◌≡◌, ℕ, ◌+◌, None, IfOk, OnOk, OnErr, if◌then◌else◌};
+ghost use Rattle.std.specs.Prelude.{◌≡◌, ℕ, ◌+◌, max, List, Option, None, IfOk, OnOk, OnErr, if◌then◌else◌};
 ghost use Rattle.std.specs.Option.{option_copied};
+ghost use Rattle.scheme_model.specs.Ident.{Ident as Identifier};
+ghost use Rattle.scheme_model.specs.Order.{Note, Transformer};
+ghost use Rattle.scheme_model.specs.ScopedExpansion.{Frames, FramedIdent, ScopedState};
+ghost use Rattle.syntax_tree.specs.Names.{Names};
 ghost use Rattle.syntax_tree.specs.declared.meaning.Meaning.{Meaning as AnyMeaning};
 ghost use Rattle.syntax_tree.specs.declared.meaning.Meaning.TheVariants.{Global as GlobalOf};
+ghost use Rattle.syntax_tree.specs.declared.trees.Work.{Work as AnyWork};
+ghost use Rattle.unit_scopes.specs.Editions.{EditionsTell};
 ghost use Rattle.unit_scopes.specs.Macros.{macro_in, edition_in, numbered, same_key, IsBound, Keeps};
+ghost use Rattle.unit_scopes.specs.Units.{UnitStands};
+ghost use Rattle.unit_scopes.specs.declared.scope.UnitScope.{UnitScope as AnyUnits};
 
 use crate::unit_macros::UnitMacros;
 use ls_base::{Items, Mem, Memory};
@@ -38,7 +46,8 @@ pub struct Macros {
 impl Macros {
     /// No macros, which takes no memory.
     pub fn new(alloc: Global) -> Macros
-        ensures { (f : ℕ) (m : AnyMeaning) → macro_in result f m ≡ None }
+        ensures none { (f : ℕ) (m : AnyMeaning) → macro_in result f m ≡ None }
+        ensures editions { result.editions ≡ 0 }
     {
         Macros {
             locals: BTreeMap::new(alloc),
@@ -106,6 +115,16 @@ impl Macros {
             Meaning::Free(_) => {}
         }
         Ok(())
+    }
+
+    /// From now on editions that are given are behind this one too. The macros stay, with their editions.
+    pub fn go_on_from(&mut self, last: u64)
+        ensures editions { self.new.editions ≡ max self.old.editions last }
+        ensures macros { (f : ℕ) (m : AnyMeaning) → macro_in self.new f m ≡ macro_in self.old f m }
+        ensures rests { (work : AnyWork) (u : AnyUnits) (ls : List Frames) (s : ScopedState) (notes : List (Note FramedIdent)) → u.macros ≡ self.old → UnitStands work u ls s notes → UnitStands work (record u { macros = self.new }) ls s notes }
+        ensures tells { (names : Names) (s : ScopedState) (editions : ℕ → Option (Transformer Frames Identifier)) → EditionsTell names self.old s editions → EditionsTell names self.new s editions }
+    {
+        self.editions = self.editions.max(last);
     }
 
     /// Takes out the macro that a unit defines as this identifier, where it does.

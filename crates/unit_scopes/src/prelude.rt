@@ -1,5 +1,5 @@
 //! The prelude's unit, before all others (R7RS 4.2, 7.3): its macros are what the derived forms are.
-ghost use Rattle.std.specs.Prelude.{◌≡◌, ◌<◌, ℕ, List, [], ◌∷◌, length, false, None, Ok, OnOk};
+ghost use Rattle.std.specs.Prelude.{◌≡◌, ◌<◌, ◌+◌, ℕ, List, [], ◌∷◌, length, false, Option, Some, None, Ok, OnOk};
 ghost use Rattle.std.specs.BTreeMap.{get as get_defined};
 ghost use Rattle.std.specs.List.{list_any};
 ghost use Rattle.std.specs.Ordering.{nat_cmp};
@@ -8,13 +8,15 @@ ghost use Rattle.scheme_model.specs.Ident.{Ident as Identifier, Written};
 ghost use Rattle.scheme_model.specs.Prelude.{PreludeMacro, prelude};
 ghost use Rattle.scheme_model.specs.Program.{Prepared, is_program, prelude_unit};
 ghost use Rattle.scheme_model.specs.RulesShape.{Rules as ModelRules, check_rules};
-ghost use Rattle.scheme_model.specs.ScopedExpansion.{ScopedState};
+ghost use Rattle.scheme_model.specs.Order.{Transformer};
+ghost use Rattle.scheme_model.specs.ScopedExpansion.{Frames, ScopedState};
 ghost use Rattle.scheme_model.specs.ScopedProgram.{ScopedProgress, scoped_before, scoped_start_of};
 ghost use Rattle.scheme_model.specs.Substitution.{Entries, defined_in};
 ghost use Rattle.syntax_tree.specs.Macros.{identifiers, RulesFor};
 ghost use Rattle.syntax_tree.specs.Meant.{IsSymbol};
 ghost use Rattle.syntax_tree.specs.Names.{KeepsNames};
 ghost use Rattle.rules_check.specs.Gathered.{AreUnplaced};
+ghost use Rattle.unit_scopes.specs.Editions.{EditionsTell};
 ghost use Rattle.unit_scopes.specs.Forgotten.{AllOwn, OwnFirst};
 ghost use Rattle.unit_scopes.specs.Opened.{IsNew, AreNumbered, ImportsFor, HasUnits, nothing_yet, started};
 ghost use Rattle.unit_scopes.specs.Preluded.{standard_names, prelude_begun, prelude_with, prelude_state, IsPrelude, CanAdd, Continues, AddsMacro};
@@ -42,6 +44,9 @@ impl UnitScope {
             OnOk result (UnitStands work.new self.new ([] ∷ []) prelude_begun []) }
         ensures others { (v : ℕ) → (v ≡ prelude_unit → ⊥) → IsNew self.old v → OnOk result (IsNew self.new v) }
         ensures own { AllOwn self.old → OnOk result (OwnFirst self.new × AllOwn self.new) }
+        ensures editions { (editions : ℕ → Option (Transformer Frames Identifier)) → HasUnits work.old self.old [] nothing_yet → ImportsFor work.old.symbols imports.now standard_names →
+            EditionsTell work.old.symbols self.old.macros nothing_yet editions → OnOk result (EditionsTell work.new.symbols self.new.macros prelude_begun editions) }
+        ensures last { OnOk result (self.new.macros.editions ≡ self.old.macros.editions) }
         ensures trees { work.new.trees ≡ work.old.trees }
         ensures symbols { work.new.symbols.symbols ≡ work.old.symbols.symbols }
         ensures names { KeepsNames work.old.symbols work.new.symbols }
@@ -57,6 +62,11 @@ impl UnitScope {
         ensures added { (s : ScopedState) (x : List ℕ) (r : ModelRules Identifier) → UnitStands work.old self.old ([] ∷ []) s [] → IsPrelude s → IsSymbol work.old.symbols name x →
             defined_in s.table prelude_unit (Written prelude_unit x) ≡ None → RulesFor work.old rules r → check_rules identifiers r r.rules ≡ Ok tt → AreUnplaced r.literals →
             OnOk result (UnitStands work.new self.new ([] ∷ []) (prelude_with x r s) []) }
+        // It has the next edition, which tells its rules.
+        ensures editions { (s : ScopedState) (x : List ℕ) (r : ModelRules Identifier) (editions : ℕ → Option (Transformer Frames Identifier)) → UnitStands work.old self.old ([] ∷ []) s [] → IsPrelude s → IsSymbol work.old.symbols name x →
+            defined_in s.table prelude_unit (Written prelude_unit x) ≡ None → EditionsTell work.old.symbols self.old.macros s editions → editions (self.old.macros.editions + 1) ≡ Some (record { env = []; rules = r }) →
+            OnOk result (EditionsTell work.new.symbols self.new.macros (prelude_with x r s) editions) }
+        ensures last { OnOk result (self.new.macros.editions ≡ self.old.macros.editions + 1) }
         ensures roots { self.new.env.roots ≡ self.old.env.roots }
         ensures trees { work.new.trees ≡ work.old.trees }
         ensures symbols { work.new.symbols.symbols ≡ work.old.symbols.symbols }
@@ -88,6 +98,7 @@ impl UnitScope {
         requires root { self.old.root < length self.old.env.scopes }
         requires new { get_defined nat_cmp self.old.defined ident ≡ None }
         ensures added { OnOk result (AddsMacro self.old self.new ident kept) }
+        ensures last { OnOk result (self.new.macros.editions ≡ self.old.macros.editions + 1) }
         ensures roots { self.new.env.roots ≡ self.old.env.roots }
     {
         let meaning = Meaning::Global {

@@ -1,10 +1,12 @@
 //! Units, one after another: what each imports, and the macros and definitions that stay (R7RS 5.1, 5.6).
-ghost use Rattle.std.specs.Prelude.{◌≡◌, ℕ, List, [], ◌∷◌, ◌++◌, length, Option, IfOk, ◌+◌, ◌-◌, ◌<◌, OnOk};
+ghost use Rattle.std.specs.Prelude.{◌≡◌, ℕ, List, [], ◌∷◌, ◌++◌, length, Option, None, IfOk, ◌+◌, ◌-◌, ◌<◌, OnOk};
+ghost use Rattle.scheme_model.specs.Ident.{Ident as Identifier};
 ghost use Rattle.scheme_model.specs.Requirements.{Known};
-ghost use Rattle.scheme_model.specs.Order.{Note};
+ghost use Rattle.scheme_model.specs.Order.{Note, Transformer};
 ghost use Rattle.scheme_model.specs.ScopedExpansion.{Frames, FramedIdent, ScopedState};
-ghost use Rattle.syntax_tree.specs.Names.{KeepsNames};
+ghost use Rattle.syntax_tree.specs.Names.{Names, KeepsNames};
 ghost use Rattle.feature_requirements.specs.Judged.{Knows};
+ghost use Rattle.unit_scopes.specs.Editions.{EditionsTell};
 ghost use Rattle.unit_scopes.specs.Forgotten.{AllOwn, OwnFirst};
 ghost use Rattle.unit_scopes.specs.Opened.{IsNew, AreNumbered, ImportsFor, HasUnits, BindsImport, nothing_yet, started, with_imports};
 ghost use Rattle.syntax_tree.specs.declared.trees.Work.{Work as AnyWork};
@@ -34,6 +36,8 @@ impl UnitScope {
         ensures units { (work : AnyWork) → HasUnits work result [] nothing_yet }
         ensures all_new { (unit : ℕ) → IsNew result unit }
         ensures own { AllOwn result }
+        ensures editions { (names : Names) (editions : ℕ → Option (Transformer Frames Identifier)) → editions 0 ≡ None → EditionsTell names result.macros nothing_yet editions }
+        ensures last { result.macros.editions ≡ 0 }
     {
         UnitScope {
             alloc,
@@ -75,6 +79,10 @@ impl UnitScope {
             OnOk result (UnitStands work.new self.new (ls ++ [] ∷ []) (started unit (is_program kind) (with_imports unit imported s.entry) s) []) }
         ensures fresh { (ls : List Frames) (s : ScopedState) (notes : List (Note FramedIdent)) (imported : List ℕ → Option ModelMeaning) → UnitStands work.old self.old ls s notes →
             OnOk result ((m : ℕ) → IsFresh (started unit (is_program kind) (with_imports unit imported s.entry) s) m) }
+        ensures editions { (ls : List Frames) (s : ScopedState) (notes : List (Note FramedIdent)) (imported : List ℕ → Option ModelMeaning) (editions : ℕ → Option (Transformer Frames Identifier)) →
+            UnitStands work.old self.old ls s notes → ImportsFor work.old.symbols imports.now imported → EditionsTell work.old.symbols self.old.macros s editions →
+            OnOk result (EditionsTell work.new.symbols self.new.macros (started unit (is_program kind) (with_imports unit imported s.entry) s) editions) }
+        ensures last { OnOk result (self.new.macros.editions ≡ self.old.macros.editions) }
         ensures knows { (known : Known) → Knows self.old.libraries known → Knows self.new.libraries known }
         ensures others { (v : ℕ) → (v ≡ unit → ⊥) → IsNew self.old v → OnOk result (IsNew self.new v) }
         ensures own { AllOwn self.old → OnOk result (OwnFirst self.new × AllOwn self.new) }
@@ -100,6 +108,10 @@ impl UnitScope {
             OnOk result (UnitStands work.new self.new (ls ++ [] ∷ []) (started unit (is_program kind) (with_imports unit imported s.entry) s) []) }
         ensures fresh { (ls : List Frames) (s : ScopedState) (imported : List ℕ → Option ModelMeaning) → HasUnits work.old self.old ls s →
             OnOk result ((m : ℕ) → IsFresh (started unit (is_program kind) (with_imports unit imported s.entry) s) m) }
+        ensures editions { (ls : List Frames) (s : ScopedState) (imported : List ℕ → Option ModelMeaning) (editions : ℕ → Option (Transformer Frames Identifier)) → HasUnits work.old self.old ls s →
+            ImportsFor work.old.symbols imports.now imported → EditionsTell work.old.symbols self.old.macros s editions →
+            OnOk result (EditionsTell work.new.symbols self.new.macros (started unit (is_program kind) (with_imports unit imported s.entry) s) editions) }
+        ensures last { OnOk result (self.new.macros.editions ≡ self.old.macros.editions) }
         ensures others { (v : ℕ) → (v ≡ unit → ⊥) → IsNew self.old v → OnOk result (IsNew self.new v) }
         ensures own { AllOwn self.old → OnOk result (OwnFirst self.new × AllOwn self.new) }
         ensures libraries { self.new.libraries ≡ self.old.libraries }

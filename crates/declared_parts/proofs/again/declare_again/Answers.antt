@@ -1,15 +1,8 @@
-use Rattle.std.proofs.Common.{◌≡◌, ℕ, List, [], ◌++◌, reverse, true, false, Bool, Ok, refl, sym, ap, ◌∙◌, subst}
-use Rattle.scheme_model.specs.Order.{Note}
-use Rattle.scheme_model.specs.ScopedExpansion.{FramedIdent}
-use Rattle.syntax_tree.specs.declared.trees.Work.{Work}
+use Rattle.std.proofs.Common.{List, reverse, true, false, Bool, Ok, refl, sym, subst}
 use Rattle.core_tree.specs.Names.{AllMatch}
-use Rattle.unit_scopes.specs.Kept.{NotesFor}
-use Rattle.unit_scopes.specs.declared.scope.UnitScope.{UnitScope}
 use Rattle.declared_parts.specs.Again.{own_notes, CanDeclare}
-use Rattle.declared_parts.specs.Going.{GoesOn, HasGone}
+use Rattle.declared_parts.specs.Going.{HasGone}
 use Rattle.declared_parts.specs.Parts.{OwnNoteFor}
-use Rattle.declared_parts.specs.declared.again.Going.{Going}
-use Rattle.declared_parts.specs.declared.parts.DeclaredPart.{DeclaredPart}
 use Rattle.declared_parts.specs.declared.parts.OwnNote.{OwnNote}
 use Rattle.declared_parts.proofs.DoneLaws.{declared_so, refused_so}
 use Rattle.declared_parts.proofs.StartGoing.{begins}
@@ -46,6 +39,7 @@ returns-then-branch c =
           let h = (gone can).1 in
           let asked = subst (λ (l : List OwnNote). AllMatch (OwnNoteFor work.symbols) l (reverse (own_notes can.again))) (sym c.as_slice.ensures) can.kept.part.asked in
           declared_so work old n part can u g h c.own_in.new.asked (λ ns notes. c.in_ok-own_in.ensures can.layout (reverse (own_notes can.again)) ns h.stands.root asked notes);
+      editions = λ is. (gone c.requires).2;
       refused = λ can is. absurd cc;
     }
 
@@ -59,5 +53,6 @@ returns c =
     record {
       good = λ can. (λ t. absurd cc, λ s. absurd ((gone can).0 s));
       declared = λ can is. absurd cc;
+      editions = λ is. absurd cc;
       refused = λ can is. refused_so work old n part can c.take_back.new.units (c.take_back.ensures old (gone can).1.1.back);
     }

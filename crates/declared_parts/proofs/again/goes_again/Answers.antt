@@ -1,8 +1,7 @@
-use Rattle.std.proofs.Common.{◌≡◌, ℕ, ◌∷◌, List, Result, Bool, Ok, refl, sym, subst}
-use Rattle.ls_base.specs.declared.Memory.{Memory}
+use Rattle.std.proofs.Common.{◌∷◌, refl, sym, subst}
 use Rattle.form_notes.specs.declared.notes.Note.{Note}
 use Rattle.note_laws.specs.Told.{told}
-use Rattle.declared_parts.specs.Going.{note_of, HasGoneBy, KeptFrom, Tells}
+use Rattle.declared_parts.specs.Going.{HasGoneBy, KeptFrom, Tells}
 use Rattle.declared_parts.proofs.LaterGoing.{can_ask, gone_later, note_is}
 use Rattle.declared_parts.proofs.again.goes_again.Goals as goal
 

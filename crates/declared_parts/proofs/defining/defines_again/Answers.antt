@@ -1,4 +1,4 @@
-use Rattle.std.proofs.Common.{◌≡◌, ℕ, ◌+◌, List, [], ◌∷◌, ◌++◌, Option, None, slice_get, refl, sym, ap, ◌∙◌, subst}
+use Rattle.std.proofs.Common.{◌≡◌, ℕ, ◌+◌, List, [], ◌++◌, Option, None, slice_get, sym, ap, ◌∙◌, subst}
 use Rattle.scheme_model.specs.Ident.{Ident as Identifier}
 use Rattle.scheme_model.specs.ExpansionFaults.{Named}
 use Rattle.scheme_model.specs.RulesShape.{Rules}
@@ -11,7 +11,6 @@ use Rattle.std.specs.Prelude.{if◌then◌else◌}
 use Rattle.form_notes.specs.Standing.{outcome_as, made_by}
 use Rattle.form_notes.specs.declared.notes.Definition.{Definition}
 use Rattle.form_notes.specs.declared.notes.Outcome as code_outcome
-use Rattle.form_notes.specs.declared.notes.Outcome.TheVariants as outcomes
 use Rattle.unit_scopes.specs.Defining.{outcome_here}
 use Rattle.unit_scopes.specs.declared.scope.UnitScope.{UnitScope}
 use Rattle.declared_parts.specs.Again.{own_notes, CanDeclare}
@@ -51,7 +50,7 @@ ended work old n part can u g made h d own so ends told o q t =
 abbrev own_then : (work : Work) (old : UnitScope) (n : ℕ) (part : DeclaredPart) (can : CanDeclare work old n part) (u : UnitScope) (g g2 : Going) (made : ℕ) (h : GoesOn work old n part can u g made) (d : Definition) (o : code_outcome.Outcome) →
     g2 ≡ record g { own = g2.own; asked = d.asked } → OwnSoFar work can.layout (own_notes can.again) g2.own d.asked → GoesOn work old n part can u g2 made
 own_then work old n part can u g g2 made h d o rest own =
-    with_own work old n part can u g made h d o g2 (λ j. (rest j).made) (subst (OwnSoFar work can.layout (own_notes can.again) g2.own) (sym (λ j. (rest j).asked)) own)
+    with_own work old n part can u g made h d o g2 (λ j. (rest j).made) (λ j. (rest j).macros) (subst (OwnSoFar work can.layout (own_notes can.again) g2.own) (sym (λ j. (rest j).asked)) own)
 
 pub make_again-requires : goal.make_again-requires
 make_again-requires c =

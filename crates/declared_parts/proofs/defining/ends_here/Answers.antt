@@ -3,7 +3,7 @@ use Rattle.std.specs.Prelude.{◌&&◌, ◌||◌}
 use Rattle.scheme_model.specs.Ident.{Ident as Identifier}
 use Rattle.scheme_model.specs.ExpansionFaults.{Named}
 use Rattle.scheme_model.specs.Order.{Note, is_some}
-use Rattle.scheme_model.specs.Questions.{Outcome, Redefines, StoodBefore, Stands as stands_outcome, outcome_by}
+use Rattle.scheme_model.specs.Questions.{Outcome, Redefines, outcome_by}
 use Rattle.scheme_model.specs.RulesShape.{Rules}
 use Rattle.scheme_model.specs.CountedExpansion.{refused_here}
 use Rattle.scheme_model.specs.ScopedExpansion.{Frames, FramedIdent, ScopedState, definition_added, meaning_next, is_defined}
@@ -12,14 +12,14 @@ use Rattle.syntax_tree.specs.declared.trees.Work.{Work}
 use Rattle.core_forms.specs.Parts.{IsName}
 use Rattle.core_forms.specs.declared.shape.NamePart.{NamePart}
 use Rattle.form_parts.specs.declared.items.Spot.{Spot}
-use Rattle.unit_scopes.specs.Defining.{CanGo, HasNumber}
+use Rattle.unit_scopes.specs.Defining.{CanGo}
 use Rattle.unit_scopes.specs.Kept.{NotesFor, SpotFor}
 use Rattle.unit_scopes.specs.Searched.{speaks_of}
 use Rattle.unit_scopes.specs.State.{Stands}
 use Rattle.unit_scopes.specs.declared.asked.Asked.{Asked}
 use Rattle.unit_scopes.specs.declared.scope.UnitScope.{UnitScope}
 use Rattle.form_notes.specs.declared.notes.Definition.{Definition}
-use Rattle.declared_parts.specs.Going.{own_spot, name_of, CanEnd}
+use Rattle.declared_parts.specs.Going.{own_spot, name_of}
 use Rattle.declared_parts.proofs.EndsLaws.{any_both, refused_first, stood_first, stands_first}
 use Rattle.declared_parts.proofs.defining.ends_here.Goals as goal
 

@@ -1,4 +1,4 @@
-use Rattle.std.proofs.Common.{ℕ, List, [], length, reverse, sym, subst, refl, arith}
+use Rattle.std.proofs.Common.{[], sym, subst, arith}
 use Rattle.core_tree.specs.Names.{AllMatch}
 use Rattle.unit_scopes.specs.Kept.{NoteFor}
 use Rattle.declared_parts.proofs.defining.go_back.Goals as goal

@@ -1,4 +1,4 @@
-use Rattle.std.proofs.Common.{◌≡◌, ℕ, ◌+◌, ◌<◌, ◌≤◌, ◌^◌, ◌*◌, List, [], ◌++◌, ◌∷◌, length, slice_get, true, Option, Some, None, refl, sym, ap, ◌∙◌, subst, arith}
+use Rattle.std.proofs.Common.{◌≡◌, ℕ, ◌<◌, List, [], slice_get, true, refl, sym, ◌∙◌, subst}
 use Rattle.std.proofs.lemmas.Option.{slice_get_within}
 use Rattle.scheme_model.specs.ScopedExpansion.{Frames, ScopedState}
 use Rattle.syntax_tree.specs.declared.trees.Work.{Work}
@@ -8,7 +8,6 @@ use Rattle.form_parts.specs.declared.items.Spot.{Spot}
 use Rattle.unit_scopes.specs.Defining.{IsPlaced}
 use Rattle.unit_scopes.specs.Kept.{SpotFor}
 use Rattle.unit_scopes.specs.State.{Stands}
-use Rattle.unit_scopes.specs.declared.asked.Asked.{Asked}
 use Rattle.unit_scopes.specs.declared.scope.UnitScope.{UnitScope}
 use Rattle.declared_parts.specs.Going.{own_spot, name_of, settled}
 use Rattle.declared_parts.proofs.GoOn.{goes_next, next_there, few_there}
@@ -56,6 +55,6 @@ returns c = record {
       let stands = (c.in_ok-make.ensures.made can.layout s [] next.name next.rules h.stands (here work u can.layout s c.root_of-spot.result spot h.stands) (subst (λ (x : NamePart). IsName work x next.name) (sym name) next.is) k.0).stands in
       let rest = c.in_ok-kept.ensures.rest in
       goes_next work c.told_apart.ensures.idents c.told_apart.ensures.symbols old n c.args.part.now can u v g g2 made h c.args.definition kept next is_macro placed stands
-      (λ j. (rest j).own) (λ j. (rest j).asked) c.bound-before.result c.bound-before.ensures ((λ j. (rest j).made.items) ∙ c.in_ok-push.ensures.items);
+      (λ j. (rest j).own) (λ j. (rest j).asked) (λ j. (rest j).macros) c.bound-before.result c.bound-before.ensures ((λ j. (rest j).made.items) ∙ c.in_ok-push.ensures.items);
   macros = λ j. (c.in_ok-kept.ensures.rest j).macros;
 }

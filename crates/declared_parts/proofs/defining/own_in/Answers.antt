@@ -1,7 +1,5 @@
-use Rattle.std.proofs.Common.{◌≡◌, ℕ, suc, ◌+◌, List, [], ◌∷◌, ◌++◌, length, reverse, take, get_or, false, append_assoc, append-nil, refl, sym, ap, ◌∙◌, subst, arith}
+use Rattle.std.proofs.Common.{◌≡◌, suc, ◌+◌, [], ◌∷◌, ◌++◌, reverse, take, false, append_assoc, append-nil, sym, ap, ◌∙◌, subst, arith}
 use Rattle.std.proofs.lemmas.List.{take_all, reverse-append, reverse-reverse}
-use Rattle.scheme_model.specs.Order.{Note}
-use Rattle.scheme_model.specs.ScopedExpansion.{FramedIdent}
 use Rattle.core_tree.specs.Names.{AllMatch}
 use Rattle.unit_scopes.specs.Asks.{AreWithin, idents_of}
 use Rattle.unit_scopes.specs.Kept.{NoteFor}

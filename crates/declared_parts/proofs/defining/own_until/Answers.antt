@@ -1,12 +1,9 @@
-use Rattle.std.proofs.Common.{◌≡◌, ℕ, ◌+◌, ◌-◌, ◌≤◌, List, ◌++◌, length, reverse, take, drop, refl, sym, ap, ◌∙◌, subst, arith}
-use Rattle.std.proofs.lemmas.List.{length-reverse}
-use Rattle.scheme_model.specs.Order.{Note}
-use Rattle.scheme_model.specs.ScopedExpansion.{Frames, FramedIdent}
+use Rattle.std.proofs.Common.{◌-◌, List, reverse, take, drop, sym, subst}
 use Rattle.core_tree.specs.Names.{AllMatch}
 use Rattle.unit_scopes.specs.Kept.{NotesFor}
 use Rattle.declared_parts.specs.Parts.{OwnNoteFor}
 use Rattle.declared_parts.specs.declared.parts.OwnNote.{OwnNote}
-use Rattle.declared_parts.proofs.OwnLaws.{matched_length, matched_take, matched_drop, first_on}
+use Rattle.declared_parts.proofs.OwnLaws.{matched_take, matched_drop, first_on}
 use Rattle.declared_parts.proofs.defining.own_until.Goals as goal
 
 pub own_in-requires : goal.own_in-requires

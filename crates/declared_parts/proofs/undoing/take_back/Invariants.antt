@@ -1,4 +1,4 @@
-use Rattle.std.proofs.Common.{ℕ, reverse, vec_len}
+use Rattle.std.proofs.Common.{reverse, vec_len}
 use Rattle.unit_scopes.specs.declared.scope.UnitScope.{UnitScope}
 use Rattle.declared_parts.specs.Undone.{AreDefined}
 use Rattle.declared_parts.proofs.undoing.take_back.Given as goal

@@ -41,11 +41,11 @@ loop-place-preserved g c =
           (next_form l.bench c.args.unit l.all.items i.holds d c.declare.new.bench c.in_ok-number.number (c.in_ok-number.ensures ∙ sym i.count) c.index-forms-place.result e.blank e.same e.passes);
       count = ap (λ (ds : List code.Declared). length ds) items ∙ (let at = i.count in omega (arith, long, at));
       within = let here = c.loop-place-test.true in omega (arith, here);
-      few = few_more l.total d.budget.nodes (sym c.is_large.ensures ∙ c.if-is_large.false) e.few;
+      few = few_more l.total d.so_far.budget.nodes (sym c.is_large.ensures ∙ c.if-is_large.false) e.few;
       stays = stays_on c.args.bench.now l.bench c.declare.new.bench i.stays e.stays;
       so =
-          subst (λ (n : ℕ). PassedFrom c.args.bench.now c.declare.new.bench c.args.unit (l.total + d.budget.nodes) n c.args.forms.now c.push.new.self.items) (let at : suc l.place ≡ l.place + 1 = omega arith in at)
-          (subst (λ (ds : List code.Declared). PassedFrom c.args.bench.now c.declare.new.bench c.args.unit (l.total + d.budget.nodes) (suc l.place) c.args.forms.now ds) (sym items)
+          subst (λ (n : ℕ). PassedFrom c.args.bench.now c.declare.new.bench c.args.unit (l.total + d.so_far.budget.nodes) n c.args.forms.now c.push.new.self.items) (let at : suc l.place ≡ l.place + 1 = omega arith in at)
+          (subst (λ (ds : List code.Declared). PassedFrom c.args.bench.now c.declare.new.bench c.args.unit (l.total + d.so_far.budget.nodes) (suc l.place) c.args.forms.now ds) (sym items)
           (next_from c.args.bench.now l.bench c.declare.new.bench c.args.unit l.total l.place c.args.forms.now l.all.items i.so i.stays (sym i.count) (sym c.is_large.ensures ∙ c.if-is_large.false) d
           c.in_ok-number.number c.in_ok-number.ensures c.index-forms-place.result c.loop-place-test.true c.index-forms-place.is e.blank e.same e.passes));
       steps =
@@ -58,7 +58,7 @@ declare-requires-clause-region g c = c.loop-place.invariant.stays.opened
 
 pub overflow_add-total : goal.overflow_add-total
 overflow_add-total g c =
-    let few : c.loop-place.total + c.in_ok-declared.declared.budget.nodes ≤ 700000 = few_more c.loop-place.total c.in_ok-declared.declared.budget.nodes (sym c.is_large.ensures ∙ c.if-is_large.false) c.in_ok-declared.ensures.few in
+    let few : c.loop-place.total + c.in_ok-declared.declared.so_far.budget.nodes ≤ 700000 = few_more c.loop-place.total c.in_ok-declared.declared.so_far.budget.nodes (sym c.is_large.ensures ∙ c.if-is_large.false) c.in_ok-declared.ensures.few in
     omega arith
 
 pub returns-clause-held : goal.returns-clause-held

@@ -7,7 +7,7 @@ use Rattle.core_tree.specs.declared.units.UnitForm.{UnitForm}
 use Rattle.form_expansion.proofs.BenchLaws.{grows_then, stays_itself, stays_on}
 use Rattle.read_documents.proofs.Enumerated.{next_placed, all_placed}
 use Rattle.form_expansion.proofs.FormsHold.{held_bench, is_few}
-use Rattle.form_expansion.proofs.FormsFinish.{Ended}
+use Rattle.form_expansion.proofs.FormLoop.{Ended}
 use Rattle.form_expansion.proofs.FormsFinished.{AreFinished, AllFrom, none_finished, can_finish_at, finished_at, all_finished_formed, none_from, next_from, all_from}
 use Rattle.form_expansion.proofs.forms.finish_all.Goals as goal
 use Rattle.form_expansion.proofs.forms.finish_all.Goals.{In-Some, in-None, in-Some+then-is_large}
@@ -40,11 +40,11 @@ finish_form-requires-clause-stands g c =
 
 pub loop-place-preserved : goal.loop-place-preserved
 loop-place-preserved g c =
-    let l = c.loop-place in let ds = c.args.declared.items in let e = c.in_ok-finish_form.ensures in let k = c.in_ok-finish_form.field-0 in
+    let l = c.loop-place in let ds = c.args.declared.items in let e = c.in_ok-form.ensures in let k = c.in_ok-form.form in let spent = c.in_ok-form.field-0-1 in
     let p = turn g (goal.at.loop-place-preserved g c).In-Some in
-    let done : Ended l.bench c.finish_form.new.bench c.args.unit (length l.yielded) c.in-Some.form l.total c.finish_form.new.total l.steps c.finish_form.new.steps k =
-    subst (λ (m : ℕ). Ended l.bench c.finish_form.new.bench c.args.unit m c.in-Some.form l.total c.finish_form.new.total l.steps c.finish_form.new.steps k) (c.in_ok-number.ensures ∙ p.0) e.ends in
-    let x = finished_at l.bench c.finish_form.new.bench c.args.unit (length l.yielded) ds l.forms k l.invariant.finished e.stays.trees e.stays.names c.in-Some.form p.1 l.total c.finish_form.new.total l.steps c.finish_form.new.steps done in
+    let done : Ended l.bench c.finish_form.new.bench c.args.unit (length l.yielded) c.in-Some.form l.total c.finish_form.new.total l.steps c.finish_form.new.steps spent k =
+    subst (λ (m : ℕ). Ended l.bench c.finish_form.new.bench c.args.unit m c.in-Some.form l.total c.finish_form.new.total l.steps c.finish_form.new.steps spent k) (c.in_ok-number.ensures ∙ p.0) e.ends in
+    let x = finished_at l.bench c.finish_form.new.bench c.args.unit (length l.yielded) ds l.forms k l.invariant.finished e.stays.trees e.stays.names c.in-Some.form p.1 l.total c.finish_form.new.total l.steps c.finish_form.new.steps spent done in
     let next : suc (length l.yielded) ≡ length (l.yielded ++ (c.in-Some.place, c.in-Some.form) ∷ []) = let long = length_push l.yielded (c.in-Some.place, c.in-Some.form) in omega (arith, long) in
     record {
       finished =
@@ -56,7 +56,7 @@ loop-place-preserved g c =
           subst (λ (cs : List UnitForm). AllFrom c.args.bench.now c.finish_form.new.bench c.args.unit ds c.args.total.now c.finish_form.new.total (length (l.yielded ++ (c.in-Some.place, c.in-Some.form) ∷ [])) c.args.steps.now c.finish_form.new.steps cs) (sym c.in_ok-push.ensures.ok)
           (subst (λ (n : ℕ). AllFrom c.args.bench.now c.finish_form.new.bench c.args.unit ds c.args.total.now c.finish_form.new.total n c.args.steps.now c.finish_form.new.steps (l.forms ++ k ∷ [])) next
           (next_from c.args.bench.now l.bench c.finish_form.new.bench c.args.unit ds c.args.total.now l.total (length l.yielded) c.args.steps.now l.steps l.forms l.invariant.so l.invariant.stays e.stays (sym c.is_large.ensures ∙ c.if-is_large.false)
-          c.in-Some.form p.1 k c.finish_form.new.total c.finish_form.new.steps e.blank e.same done));
+          c.in-Some.form p.1 k c.finish_form.new.total c.finish_form.new.steps spent e.blank e.same done));
     }
 
 pub finish_form-requires-clause-few : goal.finish_form-requires-clause-few
@@ -104,8 +104,8 @@ returns-clause-count g c = λ few.
       | in-Some+then-is_large w ↦ absurd (true≢false (sym w.if-is_large.true ∙ w.is_large.ensures ∙ few))
     ]
 
-pub returns-in_err-finish_form-clause-grows : goal.returns-in_err-finish_form-clause-grows
-returns-in_err-finish_form-clause-grows g c = grows_then c.args.bench.now c.loop-place.bench c.finish_form.new.bench.work c.loop-place.invariant.stays c.finish_form.ensures.grows
+pub returns-in_err-form-clause-grows : goal.returns-in_err-form-clause-grows
+returns-in_err-form-clause-grows g c = grows_then c.args.bench.now c.loop-place.bench c.finish_form.new.bench.work c.loop-place.invariant.stays c.finish_form.ensures.grows
 
 pub returns-in_err-push-clause-grows : goal.returns-in_err-push-clause-grows
 returns-in_err-push-clause-grows g c = grows_then c.args.bench.now c.loop-place.bench c.finish_form.new.bench.work c.loop-place.invariant.stays c.finish_form.ensures.grows

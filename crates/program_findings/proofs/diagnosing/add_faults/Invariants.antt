@@ -1,4 +1,4 @@
-use Rattle.std.proofs.Common.{List, length, drop}
+use Rattle.std.proofs.Common.{List, length, map, drop}
 use Rattle.scheme_model.specs.UnitExpansion.{Formed}
 use Rattle.scheme_model.specs.Program.{UnitResult}
 use Rattle.scheme_model.specs.Declarations.{forms_hold}
@@ -16,6 +16,6 @@ use Rattle.program_findings.proofs.diagnosing.add_faults.Given as goal
 abbrev pub invariant-loop-place : goal.invariant-loop-place
 invariant-loop-place l = record {
   inside : AreFoundIn (length l.places.documents.now) l.initial.findings.items → AreFoundIn (length l.places.documents.now) l.findings.items;
-  exact : (rs : List Read) (us : List UnitResult) (work : Work) (fs : List Formed) → ArePlaces l.places rs us → KeepsNames work.symbols l.symbols → FormsStand work l.unit 0 l.forms fs →
-      ToCome (bytes_of (spans_of rs) us) (forms_hold l.unit (forms_of l.sources)) work l.unit l.place (drop l.place l.forms) fs l.initial.findings.items l.findings.items;
+  exact : (rs : List Read) (us : List UnitResult) (work : Work) (fs : List Formed) → ArePlaces l.places rs us → KeepsNames work.symbols l.symbols → FormsStand work l.unit 0 (map (λ form. form.now) l.forms) fs →
+      ToCome (bytes_of (spans_of rs) us) (forms_hold l.unit (forms_of l.sources)) work l.unit l.place (drop l.place (map (λ form. form.now) l.forms)) fs l.initial.findings.items l.findings.items;
 }

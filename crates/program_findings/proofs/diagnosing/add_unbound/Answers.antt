@@ -1,5 +1,5 @@
 -- What means nothing is among the names.
-use Rattle.std.proofs.Common.{◌≡◌, List, refl, length, subst, sym, ◌∙◌, map-id}
+use Rattle.std.proofs.Common.{◌≡◌, List, refl, length, map, subst, sym, ◌∙◌, map-id}
 use Rattle.std.proofs.lemmas.Option.{slice_get_read}
 use Rattle.std.proofs.lemmas.Iterator.Adapters.{YieldsList-from_vec}
 use Rattle.std.proofs.lemmas.Iterator.Consumers.{YieldsList-turn, YieldsList-end}
@@ -9,6 +9,7 @@ use Rattle.core_tree.specs.Names.{AllMatch}
 use Rattle.core_tree.specs.declared.cores.Target.{Target}
 use Rattle.read_documents.specs.Places.{spans_of}
 use Rattle.program_findings.specs.Unbound.{IsUnbound, unbound_in}
+use Rattle.program_findings.proofs.ReferredForms.{referred}
 use Rattle.program_findings.proofs.StandInLaws.{free_is_named}
 use Rattle.program_findings.proofs.UnboundFound.{unbound_none, unbound_more, unbound_adds}
 use Rattle.program_findings.proofs.diagnosing.add_unbound.Goals as goal
@@ -17,7 +18,7 @@ pub add_target-requires-clause-named : goal.add_target-requires-clause-named
 add_target-requires-clause-named c = λ symbol is.
     let ts = c.in_ok-target-items.target-items.items in
     let t = YieldsList-turn (YieldsList-from_vec ts (cc) (cc)) c.loop-target.yielded c.loop-target.target-iterator c.loop-target.yielded_by c.next.result c.next.new.self c.in-Some.target c.in-Some.is c.next.ensures.steps in
-    free_is_named c.args.symbols.now c.args.forms.now ts c.requires.forms c.in_ok-target-items.ensures (length c.loop-target.yielded) c.in-Some.target symbol
+    free_is_named c.args.symbols.now (map referred c.args.forms.now) ts c.requires.forms c.in_ok-target-items.ensures (length c.loop-target.yielded) c.in-Some.target symbol
     (slice_get_read ts (length ts) (length c.loop-target.yielded) c.in-Some.target refl t.0 t.1) is
 
 pub loop-target-init : goal.loop-target-init

@@ -5,7 +5,7 @@ use Rattle.standard_scopes.proofs.prelude.add_macros.Given as goal
 
 abbrev pub invariant-loop-name : goal.invariant-loop-name
 invariant-loop-name l = record {
-  adding : Adding l.work l.scope l.rest.items;
+  adding : Adding l.fn.work l.fn.scope l.work l.scope l.rest.items;
   trees : l.work.trees ≡ l.fn.work.trees;
   names : KeepsNames l.fn.work.symbols l.work.symbols;
   roots : l.scope.env.roots ≡ l.fn.scope.env.roots;

@@ -5,7 +5,7 @@ use Rattle.std.proofs.lemmas.Iterator.Adapters.{YieldsList-from_rev_slice}
 use Rattle.std.proofs.lemmas.Iterator.Consumers.{YieldsList-turn, YieldsList-end}
 use Rattle.scheme_model.specs.Diagnostics.{bytes_of}
 use Rattle.read_documents.specs.Places.{spans_of}
-use Rattle.unit_imports.proofs.DefinedLaws.{known_reversed}
+use Rattle.unit_imports.proofs.DefinedLaws.{known_reversed, referred}
 use Rattle.unit_imports.proofs.GivenLaws.{item_at}
 use Rattle.unit_imports.specs.Defined.{hidden_at}
 use Rattle.unit_imports.specs.Hiding.{hidden_found, unless_broken}
@@ -31,7 +31,7 @@ loop-form-preserved-then-is_broken c = record {
   exact = λ rs us are.
       let bytes = bytes_of (spans_of rs) us in
       let names = c.args.symbols.now in
-      let forms = c.args.forms.now in
+      let forms = map referred c.args.forms.now in
       let es = c.args.joined.now.entries.items in
       let now = c.loop-form.findings.items in
       let b = c.in-Some.field-0.now in
@@ -46,7 +46,7 @@ loop-form-preserved c = record {
   exact = λ rs us are.
       let bytes = bytes_of (spans_of rs) us in
       let names = c.args.symbols.now in
-      let forms = c.args.forms.now in
+      let forms = map referred c.args.forms.now in
       let es = c.args.joined.now.entries.items in
       let now = c.loop-form.findings.items in
       let b = c.in-Some.field-0.now in
@@ -63,5 +63,5 @@ returns-clause-exact c = λ rs us table es are told entries work fs stand.
     let names = c.args.symbols.now in
     let js = c.args.joined.now.entries.items in
     let e = YieldsList-end (YieldsList-from_rev_slice xs cc) c.loop-form.yielded _ c.loop-form.yielded_by _ _ c.in-None.is c.next.ensures.steps in
-    hidden_adds bytes c.args.unit c.args.forms.now names js es entries work fs stand c.args.findings.now.items c.loop-form.findings.items (reverse xs) table told
-    (c.loop-form.invariant.exact rs us are ∙ ap (λ bs. c.args.findings.now.items ++ all_hidden bytes c.args.unit c.args.forms.now names js bs) e.0)
+    hidden_adds bytes c.args.unit (map referred c.args.forms.now) names js es entries work fs stand c.args.findings.now.items c.loop-form.findings.items (reverse xs) table told
+    (c.loop-form.invariant.exact rs us are ∙ ap (λ bs. c.args.findings.now.items ++ all_hidden bytes c.args.unit (map referred c.args.forms.now) names js bs) e.0)

@@ -11,5 +11,5 @@ abbrev pub invariant-loop-form : goal.invariant-loop-form
 invariant-loop-form l = record {
   inside : AreFoundIn (length l.places.documents.now) l.initial.findings.items → AreFoundIn (length l.places.documents.now) l.findings.items;
   exact : (rs : List Read) (us : List UnitResult) → ArePlaces l.places rs us →
-      l.findings.items ≡ l.initial.findings.items ++ all_hidden (bytes_of (spans_of rs) us) l.unit l.forms l.symbols l.joined.entries.items (map (λ b. b.now) l.yielded);
+      l.findings.items ≡ l.initial.findings.items ++ all_hidden (bytes_of (spans_of rs) us) l.unit (map (λ form. form.now) l.forms) l.symbols l.joined.entries.items (map (λ b. b.now) l.yielded);
 }

@@ -13,3 +13,6 @@ returns-clause-knows c = λ known h. subst (λ (l : BTreeSet (String Global)). K
 
 pub returns-clause-fresh : goal.returns-clause-fresh
 returns-clause-fresh c = λ ls s notes imported h. c.start_unit.ensures.fresh ls s imported (record { env = h.rests.env; macros = h.rests.macros; begun = h.rests.begun })
+
+pub returns-clause-editions : goal.returns-clause-editions
+returns-clause-editions c = λ ls s notes imported editions h is tells. c.start_unit.ensures.editions ls s imported editions (record { env = h.rests.env; macros = h.rests.macros; begun = h.rests.begun }) is tells

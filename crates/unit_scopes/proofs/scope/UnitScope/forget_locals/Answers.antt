@@ -1,8 +1,8 @@
-use Rattle.std.proofs.Common.{◌≡◌, ◌+◌, ◌<◌, length, take, sym, subst, arith}
+use Rattle.std.proofs.Common.{◌≡◌, ◌+◌, ◌<◌, length, take, refl, sym, subst, arith}
 use Rattle.unit_scopes.specs.Forgotten.{AllOwn, OwnFirst, without_local_scopes}
 use Rattle.unit_scopes.specs.Units.{UnitStands}
 use Rattle.unit_scopes.specs.declared.scope.UnitScope.{UnitScope}
-use Rattle.unit_scopes.proofs.ForgottenLaws.{units_forgotten, own_forgotten, all_forgotten, root_there, editions_forgotten}
+use Rattle.unit_scopes.proofs.ForgottenLaws.{units_forgotten, own_forgotten, all_forgotten, root_there, editions_forgotten, numbers_forgotten}
 use Rattle.unit_scopes.proofs.scope.UnitScope.forget_locals.Goals as goal
 use Rattle.unit_scopes.proofs.scope.UnitScope.forget_locals.Goals.{After-forget_from}
 
@@ -32,4 +32,8 @@ returns-clause-rests c = λ work ls s t notes h forgets none at.
     c.keep_within.ensures.notes c.keep_within.ensures.asking ls s t notes h forgets none at)
 
 pub returns-clause-editions : goal.returns-clause-editions
-returns-clause-editions c = λ names s t editions forgets h. editions_forgotten names c.args.self.now.root c.args.self.now.macros c.forget_locals.new.self c.forget_locals.ensures.globals c.forget_locals.ensures.standards s t editions forgets h
+returns-clause-editions c = λ names s t editions forgets h. editions_forgotten c.args.self.now.root c.args.self.now.macros c.forget_locals.new.self c.forget_locals.ensures.globals c.forget_locals.ensures.standards names s t editions forgets h
+
+pub returns-clause-numbers : goal.returns-clause-numbers
+returns-clause-numbers c =
+    numbers_forgotten c.args.self.now (record c.args.self.now { env = c.forget_from.new.self; macros = c.forget_locals.new.self; asked = c.keep_within.new.self }) refl c.args.self.now.root c.forget_locals.ensures.globals c.forget_locals.ensures.standards

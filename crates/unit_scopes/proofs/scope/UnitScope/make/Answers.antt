@@ -1,4 +1,4 @@
-use Rattle.std.proofs.Common.{◌≡◌, ℕ, ◌+◌, ◌<◌, Bool, sym, subst, arith}
+use Rattle.std.proofs.Common.{◌≡◌, ℕ, ◌<◌, Bool, sym, subst, arith}
 use Rattle.std.specs.Prelude.{is_some as is_kept}
 use Rattle.std.proofs.lemmas.Option.{slice_get_within}
 use Rattle.scheme_model.specs.ScopedExpansion.{body_around, definition_added}
@@ -39,9 +39,11 @@ returns c =
     let put : Places u w spot.in_body spot.scope name (next_here u spot.in_body name.ident) (is_kept kept) = subst (λ (m : Meaning). Places u w spot.in_body spot.scope name m (is_kept kept)) value (subst (λ (b : Bool). Places u w spot.in_body spot.scope name c.next_meaning-meaning.result b) c.is_some.ensures c.in_ok-place.ensures) in
     let keeps : KeepsAny w.macros v.macros w.form.number (next_here u spot.in_body name.ident) kept again = subst (λ (m : Meaning). KeepsAny w.macros v.macros w.form.number m kept again) value c.in_ok-keep.ensures.kept in
     let rest : v ≡ with_macros w v.macros = c.in_ok-keep.ensures.rest in
+    let can = c.requires.can in
+    let new = undefined_here c.args.work.now u can.layout can.state spot.scope can.frames spot.in_body name.ident can.named.name can.stands can.placed.inside can.is.0 can.new in
     record {
       made = λ ls s fs n r stands placed is h.
           subst (λ (x : UnitScope). GoesTo c.args.work.now u x ls spot fs (definition_added (body_around fs) n r fs s)) (sym rest)
-          (made_goes c.args.work.now u ls s spot fs stands name n c.told_apart.ensures.idents c.told_apart.ensures.symbols c.sound.ensures is placed c.requires.room w v.macros kept again r put keeps h);
+          (made_goes c.args.work.now u ls s spot fs stands name n c.told_apart.ensures.idents c.told_apart.ensures.symbols c.sound.ensures is placed c.requires.room w v.macros new kept again r put keeps h);
       placed = placed_whole u w v spot name kept again put rest keeps;
     }

@@ -1,0 +1,15 @@
+use Rattle.std.proofs.Common.{◌<◌, ◌≤◌, length, arith}
+use Rattle.moves.specs.Numbers.{numbers_of}
+use Rattle.moved_numbers.proofs.Fronts.{front_more, front_all}
+use Rattle.moved_entries.specs.Left.{UseMoves}
+use Rattle.moved_entries.proofs.left.uses.Goals as goal
+
+pub loop-i-preserved : goal.loop-i-preserved
+loop-i-preserved c =
+    let lt : c.loop-i.i < length c.loop-i.all.items = omega (arith, c.loop-i.invariant.length_is) in
+    front_more (UseMoves (numbers_of c.args.moves.now)) c.args.all.now.items c.loop-i.all.items c.loop-i.i c.index_mut.result.now c.waiting.new.it c.loop-i.invariant lt c.index_mut.ensures.value c.waiting.ensures
+
+pub returns : goal.returns
+returns c =
+    let end : length c.loop-i.all.items ≤ c.loop-i.i = omega (arith, c.loop-i.invariant.length_is) in
+    front_all (UseMoves (numbers_of c.args.moves.now)) c.args.all.now.items c.loop-i.all.items c.loop-i.i c.loop-i.invariant end
