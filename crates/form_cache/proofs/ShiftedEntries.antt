@@ -67,6 +67,27 @@ map_reverse f [] = refl
 map_reverse f (x ∷ xs) =
     ap (map f) (reverse-append (x ∷ []) xs) ∙ map-append f (reverse xs) (x ∷ []) ∙ ap (λ ys. ys ++ f x ∷ []) (map_reverse f xs) ∙ sym (reverse-append (f x ∷ []) (map f xs))
 
+-- ---- what is defined
+
+module _ (s : Shift) (names : Names) (form : ℕ) where
+  defined_at : (bs : List code_binder.Binder) (ds : Table) → s.to + length ds ≤ 2 ^ 64 → AllMatch (IsNumbered names form) bs (numbered_from s.before ds) → AllMatch (IsNumbered names form) (map (binder_shifted s) bs) (numbered_from s.to ds)
+  defined_at [] [] few h = tt
+  defined_at [] (d ∷ ds) few h = absurd h
+  defined_at (b ∷ bs) [] few h = absurd h
+  defined_at (b ∷ bs) (d ∷ ds) few h =
+      let is : b.number ≡ s.before + length ds = h.0.number_is in
+      let number : shifted s b.number ≡ s.to + length ds = omega (arith, is, few) in
+      (record { form = h.0.form; number_is = number; ident = h.0.ident; place = h.0.place }, defined_at bs ds (omega (arith, few)) h.1)
+
+  defined_count : (bs : List code_binder.Binder) (ds : Table) → AllMatch (IsNumbered names form) (reverse bs) (numbered_from s.before ds) → length bs ≡ length ds
+  defined_count bs ds h = sym (length-reverse bs) ∙ match_length (IsNumbered names form) (reverse bs) (numbered_from s.before ds) h ∙ numbered_length s.before ds
+
+  pub definitions_stand : (bs cs : List code_binder.Binder) (ds : Table) → cs ≡ map (binder_shifted s) bs → s.to + length bs ≤ 2 ^ 64 → AllMatch (IsNumbered names form) (reverse bs) (numbered_from s.before ds) →
+      AllMatch (IsNumbered names form) (reverse cs) (numbered_from s.to ds)
+  definitions_stand bs cs ds is few h =
+      let e = defined_count bs ds h in
+      subst (λ (l : List code_binder.Binder). AllMatch (IsNumbered names form) l (numbered_from s.to ds)) (map_reverse (binder_shifted s) bs ∙ ap reverse (sym is)) (defined_at (reverse bs) ds (omega (arith, few, e)) h)
+
 -- numbers from a on up to a + made, with b in the place of a
 module _ (s : Shift) (made : ℕ) (fits : s.before + made - s.before + s.to < 2 ^ 64) (a : ℕ) where
   abbrev In : Bound → Type 0
@@ -114,17 +135,6 @@ module _ (s : Shift) (made : ℕ) (fits : s.before + made - s.before + s.to < 2 
   left_within : (r : Result (Left Ident) Broken) (m : Left Ident) → LeftBinds (AtLeast a) r → LeftBinds (AtMost (a + made)) r → or_fault (left_with (bound_moved a s.before)) r ≡ Ok m → Each (BindsAll In) m.items
   left_within (Ok l) m low high e = let d : left_with (bound_moved a s.before) l ≡ m = cc in subst (λ (z : Left Ident). Each (BindsAll In) z.items) d (items_within l.items low high)
   left_within (Err x) m low high e = let q : Err x ≡ Ok m = e in absurd cc
-
-  -- ---- what is defined
-
-  defined_at : (names : Names) (form : ℕ) (bs : List code_binder.Binder) (ds : Table) → length ds ≤ made → AllMatch (IsNumbered names form) bs (numbered_from s.before ds) → AllMatch (IsNumbered names form) (map (binder_shifted s) bs) (numbered_from s.to ds)
-  defined_at names form [] [] few h = tt
-  defined_at names form [] (d ∷ ds) few h = absurd h
-  defined_at names form (b ∷ bs) [] few h = absurd h
-  defined_at names form (b ∷ bs) (d ∷ ds) few h =
-      let is : b.number ≡ s.before + length ds = h.0.number_is in
-      let number : shifted s b.number ≡ s.to + length ds = omega (arith, is, few, fits) in
-      (record { form = h.0.form; number_is = number; ident = h.0.ident; place = h.0.place }, defined_at names form bs ds (omega (arith, few)) h.1)
 
   -- ---- parts
 
@@ -242,7 +252,7 @@ module _ (work : Work) (region : Region) (e : Editions) (unit : ℕ) (n : ℕ ×
       (set_aside_within w enough_turns n.1 (a.before + length a.moment.table) (count_within a.moment.table w.state.table w.state.unit))
 
   made_is : length f.trace.definitions ≡ made
-  made_is = sym (length-reverse f.trace.definitions) ∙ match_length (IsNumbered work.symbols n.0) (reverse f.trace.definitions) (numbered_from x.before k.aside.moment.table) h.definitions ∙ numbered_length x.before k.aside.moment.table
+  made_is = defined_count s work.symbols n.0 f.trace.definitions k.aside.moment.table h.definitions
 
   module _ (few : to + length f.trace.definitions < 2 ^ 64) (left_shifts : LeftShifts s x.left left) (items_shift : AllMatch (ExpandedShifts s) f.items items) (defined_shifts : defined ≡ map (binder_shifted s) f.trace.definitions) where
     fits : s.before + made - s.before + s.to < 2 ^ 64
@@ -286,9 +296,7 @@ module _ (work : Work) (region : Region) (e : Editions) (unit : ℕ) (n : ℕ ×
     whole_now (Some c) d = tt
 
     definitions_now : AllMatch (IsNumbered work.symbols n.0) (reverse defined) (numbered_from to k.aside.moment.table)
-    definitions_now =
-        subst (λ (l : List code_binder.Binder). AllMatch (IsNumbered work.symbols n.0) l (numbered_from to k.aside.moment.table)) (map_reverse (binder_shifted s) f.trace.definitions ∙ ap reverse (sym defined_shifts))
-        (defined_at s made fits k.aside.before work.symbols n.0 (reverse f.trace.definitions) k.aside.moment.table (omega arith) h.definitions)
+    definitions_now = definitions_stand s work.symbols n.0 f.trace.definitions defined k.aside.moment.table defined_shifts (omega (arith, few)) h.definitions
 
     pub entry_shifted : IsEntry work region e unit n y g (kept_from to k) w u
     entry_shifted = record {
