@@ -40,11 +40,12 @@ use Rattle.form_parts.specs.declared.items.Left as code_left
 use Rattle.form_parts.specs.declared.items.WaitingUse.{WaitingUse}
 use Rattle.unit_scopes.specs.Kept.{WaitsFor}
 use Rattle.unit_scopes.specs.State.{IsNumbered}
+use Rattle.unit_scopes.specs.declared.scope.Budget.{Budget}
 use Rattle.note_laws.specs.Told.{told}
 use Rattle.question_laws.specs.Noted.{all_noted}
 use Rattle.form_cache.specs.declared.shift.Shift.{Shift}
 use Rattle.form_cache.specs.declared.entries.Entry.{Entry}
-use Rattle.form_cache.specs.Entries.{Editions, IsEntry, IsLeft, AsideFor, RestFor, RestClosed, CountsAt, counted_at, numbered_from}
+use Rattle.form_cache.specs.Entries.{Editions, IsEntry, IsLeft, HasSpaceLeft, AsideFor, RestFor, RestClosed, CountsAt, counted_at, numbered_from}
 use Rattle.form_cache.specs.Shifted.{shifted, binder_shifted, LeftShifts, ExpandedShifts}
 use Rattle.form_cache.proofs.MostNumbers.{AtMost, count_within, set_aside_within}
 use Rattle.form_cache.proofs.Shifts.{Within, PartWithin, PartsWithin, items_stand, items_still, parts_stand, parts_still}
@@ -65,6 +66,27 @@ map_reverse : {X Y : Type 0} (f : X → Y) (xs : List X) → map f (reverse xs) 
 map_reverse f [] = refl
 map_reverse f (x ∷ xs) =
     ap (map f) (reverse-append (x ∷ []) xs) ∙ map-append f (reverse xs) (x ∷ []) ∙ ap (λ ys. ys ++ f x ∷ []) (map_reverse f xs) ∙ sym (reverse-append (f x ∷ []) (map f xs))
+
+-- ---- what is defined
+
+module _ (s : Shift) (names : Names) (form : ℕ) where
+  defined_at : (bs : List code_binder.Binder) (ds : Table) → s.to + length ds ≤ 2 ^ 64 → AllMatch (IsNumbered names form) bs (numbered_from s.before ds) → AllMatch (IsNumbered names form) (map (binder_shifted s) bs) (numbered_from s.to ds)
+  defined_at [] [] few h = tt
+  defined_at [] (d ∷ ds) few h = absurd h
+  defined_at (b ∷ bs) [] few h = absurd h
+  defined_at (b ∷ bs) (d ∷ ds) few h =
+      let is : b.number ≡ s.before + length ds = h.0.number_is in
+      let number : shifted s b.number ≡ s.to + length ds = omega (arith, is, few) in
+      (record { form = h.0.form; number_is = number; ident = h.0.ident; place = h.0.place }, defined_at bs ds (omega (arith, few)) h.1)
+
+  defined_count : (bs : List code_binder.Binder) (ds : Table) → AllMatch (IsNumbered names form) (reverse bs) (numbered_from s.before ds) → length bs ≡ length ds
+  defined_count bs ds h = sym (length-reverse bs) ∙ match_length (IsNumbered names form) (reverse bs) (numbered_from s.before ds) h ∙ numbered_length s.before ds
+
+  pub definitions_stand : (bs cs : List code_binder.Binder) (ds : Table) → cs ≡ map (binder_shifted s) bs → s.to + length bs ≤ 2 ^ 64 → AllMatch (IsNumbered names form) (reverse bs) (numbered_from s.before ds) →
+      AllMatch (IsNumbered names form) (reverse cs) (numbered_from s.to ds)
+  definitions_stand bs cs ds is few h =
+      let e = defined_count bs ds h in
+      subst (λ (l : List code_binder.Binder). AllMatch (IsNumbered names form) l (numbered_from s.to ds)) (map_reverse (binder_shifted s) bs ∙ ap reverse (sym is)) (defined_at (reverse bs) ds (omega (arith, few, e)) h)
 
 -- numbers from a on up to a + made, with b in the place of a
 module _ (s : Shift) (made : ℕ) (fits : s.before + made - s.before + s.to < 2 ^ 64) (a : ℕ) where
@@ -113,17 +135,6 @@ module _ (s : Shift) (made : ℕ) (fits : s.before + made - s.before + s.to < 2 
   left_within : (r : Result (Left Ident) Broken) (m : Left Ident) → LeftBinds (AtLeast a) r → LeftBinds (AtMost (a + made)) r → or_fault (left_with (bound_moved a s.before)) r ≡ Ok m → Each (BindsAll In) m.items
   left_within (Ok l) m low high e = let d : left_with (bound_moved a s.before) l ≡ m = cc in subst (λ (z : Left Ident). Each (BindsAll In) z.items) d (items_within l.items low high)
   left_within (Err x) m low high e = let q : Err x ≡ Ok m = e in absurd cc
-
-  -- ---- what is defined
-
-  defined_at : (names : Names) (form : ℕ) (bs : List code_binder.Binder) (ds : Table) → length ds ≤ made → AllMatch (IsNumbered names form) bs (numbered_from s.before ds) → AllMatch (IsNumbered names form) (map (binder_shifted s) bs) (numbered_from s.to ds)
-  defined_at names form [] [] few h = tt
-  defined_at names form [] (d ∷ ds) few h = absurd h
-  defined_at names form (b ∷ bs) [] few h = absurd h
-  defined_at names form (b ∷ bs) (d ∷ ds) few h =
-      let is : b.number ≡ s.before + length ds = h.0.number_is in
-      let number : shifted s b.number ≡ s.to + length ds = omega (arith, is, few, fits) in
-      (record { form = h.0.form; number_is = number; ident = h.0.ident; place = h.0.place }, defined_at names form bs ds (omega (arith, few)) h.1)
 
   -- ---- parts
 
@@ -206,6 +217,10 @@ questions_stay u from to l h =
 
 -- ---- the entry
 
+space_stays : (s : Shift) (b : Budget) (o p : Option code_left.Left) → LeftShifts s o p → HasSpaceLeft b o → HasSpaceLeft b p
+space_stays s b None p shift h = subst (HasSpaceLeft b) (sym shift) tt
+space_stays s b (Some x) p shift h = subst (HasSpaceLeft b) (sym shift.1) h
+
 none_none : {X : Type 0} (R : X → X → Type 0) (xs ys : List X) → AllMatch R xs ys → xs ≡ [] → ys ≡ []
 none_none R xs [] h e = refl
 none_none R [] (y ∷ ys) h e = absurd h
@@ -237,7 +252,7 @@ module _ (work : Work) (region : Region) (e : Editions) (unit : ℕ) (n : ℕ ×
       (set_aside_within w enough_turns n.1 (a.before + length a.moment.table) (count_within a.moment.table w.state.table w.state.unit))
 
   made_is : length f.trace.definitions ≡ made
-  made_is = sym (length-reverse f.trace.definitions) ∙ match_length (IsNumbered work.symbols n.0) (reverse f.trace.definitions) (numbered_from x.before k.aside.moment.table) h.definitions ∙ numbered_length x.before k.aside.moment.table
+  made_is = defined_count s work.symbols n.0 f.trace.definitions k.aside.moment.table h.definitions
 
   module _ (few : to + length f.trace.definitions < 2 ^ 64) (left_shifts : LeftShifts s x.left left) (items_shift : AllMatch (ExpandedShifts s) f.items items) (defined_shifts : defined ≡ map (binder_shifted s) f.trace.definitions) where
     fits : s.before + made - s.before + s.to < 2 ^ 64
@@ -247,7 +262,7 @@ module _ (work : Work) (region : Region) (e : Editions) (unit : ℕ) (n : ℕ ×
     left_now = left_is s made fits k.aside.before work region unit n.0 x.left left k.aside.pass.left low high h.aside.left left_shifts
 
     aside_now : AsideFor work region e unit n.0 n.1 y k.aside w
-    aside_now = let a = h.aside in record { tree = a.tree; lies = a.lies; left = left_now; declared = a.declared; noted = a.noted; part = a.part; told = a.told }
+    aside_now = let a = h.aside in record { tree = a.tree; lies = a.lies; left = left_now; declared = a.declared; space = space_stays s x.declared.counts x.left left left_shifts a.space; noted = a.noted; part = a.part; told = a.told }
 
     rest_now : (o : Option KeptParts) → RestStands unit n.0 u o → RestFits k.aside o → RestFor work region e unit n.0 x f o u → RestFor work region e unit n.0 y g (option_map (parts_from to) o) u
     rest_now None stands fit r = (none_none (ExpandedShifts s) f.items items items_shift r.0, subst (λ (z : Option code_left.Left). LeftShifts s z left) r.1 left_shifts, r.2)
@@ -281,9 +296,7 @@ module _ (work : Work) (region : Region) (e : Editions) (unit : ℕ) (n : ℕ ×
     whole_now (Some c) d = tt
 
     definitions_now : AllMatch (IsNumbered work.symbols n.0) (reverse defined) (numbered_from to k.aside.moment.table)
-    definitions_now =
-        subst (λ (l : List code_binder.Binder). AllMatch (IsNumbered work.symbols n.0) l (numbered_from to k.aside.moment.table)) (map_reverse (binder_shifted s) f.trace.definitions ∙ ap reverse (sym defined_shifts))
-        (defined_at s made fits k.aside.before work.symbols n.0 (reverse f.trace.definitions) k.aside.moment.table (omega arith) h.definitions)
+    definitions_now = definitions_stand s work.symbols n.0 f.trace.definitions defined k.aside.moment.table defined_shifts (omega (arith, few)) h.definitions
 
     pub entry_shifted : IsEntry work region e unit n y g (kept_from to k) w u
     entry_shifted = record {

@@ -1,9 +1,9 @@
 -- What is kept of a form stands for what came of it in some surroundings (R7RS 5.1, 5.3).
-use Rattle.std.specs.Prelude.{◌≡◌, ℕ, ◌+◌, List, [], ◌∷◌, length, map, reverse, false, Option, Some, None, Result, Ok, Err}
+use Rattle.std.specs.Prelude.{◌≡◌, ℕ, ◌+◌, ◌^◌, ◌≤◌, List, [], ◌∷◌, length, map, reverse, false, Option, Some, None, Result, Ok, Err}
 use Rattle.scheme_model.specs.Ident.{Ident}
 use Rattle.scheme_model.specs.Trees.{Tree}
 use Rattle.scheme_model.specs.Steps.{Broken}
-use Rattle.scheme_model.specs.Order.{Counted, Left, Transformer}
+use Rattle.scheme_model.specs.Order.{Counted, Left, Transformer, max_nodes, max_uses}
 use Rattle.scheme_model.specs.Program.{enough_turns}
 use Rattle.scheme_model.specs.Questions.{Around, Moment}
 use Rattle.scheme_model.specs.ScopedExpansion.{Frames}
@@ -27,8 +27,8 @@ use Rattle.core_tree.specs.declared.units.UnitForm as code_form
 use Rattle.form_notes.specs.Noted.{Noted}
 use Rattle.form_notes.specs.Standing.{HaveNotes}
 use Rattle.form_parts.specs.declared.items.Left as code_left
-use Rattle.unit_scopes.specs.State.{IsNumbered}
-use Rattle.unit_scopes.specs.Units.{LeftFor}
+use Rattle.unit_scopes.specs.State.{IsNumbered, most_locals}
+use Rattle.unit_scopes.specs.Units.{HasSpace, LeftFor}
 use Rattle.unit_scopes.specs.declared.scope.Budget.{Budget}
 use Rattle.note_laws.specs.Told.{bare_noted, told, since_of}
 use Rattle.declared_parts.specs.Parts.{IsPart}
@@ -52,6 +52,9 @@ pub record DeclaredAt (names : Names) (unit form : ℕ) (d : Declared) (m : Mome
   pub counts : CountsAt d.counts m
   pub keywords : AllMatch (IsTarget names unit form) d.keywords (reverse m.keywords)
   pub met : AllMatch (IsUse names unit form) d.uses (reverse m.met)
+  pub few_uses : d.counts.uses ≤ max_uses
+  pub few_nodes : d.counts.nodes ≤ max_nodes
+  pub few_locals : d.counts.locals ≤ most_locals d.counts.nodes
 
 -- ---- its first part
 
@@ -62,12 +65,18 @@ IsLeft work region unit form None (Err b) = Unit {0}
 IsLeft work region unit form (Some x) (Ok l) = LeftFor work region unit form x l × ItemsBind false l.items
 IsLeft work region unit form (Some x) (Err b) = ⊥
 
+-- what it set aside has space for its locals
+abbrev pub HasSpaceLeft : Budget → Option code_left.Left → Type 0
+HasSpaceLeft b None = Unit {0}
+HasSpaceLeft b (Some x) = HasSpace (2 ^ 43) b
+
 -- it was gone through in w, where its unit had k.before definitions before it; by now they are as many as the entry has
 pub record AsideFor (work : Work) (region : Region) (e : Editions) (unit form : ℕ) (t : Tree Ident) (x : Entry) (k : KeptAside) (w : Around) : Type 0 where
   pub tree : StandsFor work x.tree t
   pub lies : LiesIn work region x.tree
   pub left : IsLeft work region unit form x.left (or_fault (left_with (bound_moved k.before x.before)) k.pass.left)
   pub declared : DeclaredAt work.symbols unit form x.declared k.moment
+  pub space : HasSpaceLeft x.declared.counts x.left
   pub noted : List Noted
   pub part : IsPart work (since_of w e) x.part k.pass.notes noted
   pub told : map bare_noted noted ≡ map (told w) (all_noted w (questions_of_pass w enough_turns t))

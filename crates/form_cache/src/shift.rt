@@ -1,14 +1,17 @@
 //! What is kept of a form, where its unit has another number of definitions before the form, changed in place without memory (R7RS 5.3).
-ghost use Rattle.std.specs.Prelude.{◌≡◌, ℕ, ◌+◌, ◌<◌, ◌^◌, length, map};
+ghost use Rattle.std.specs.Prelude.{◌≡◌, ℕ, ◌+◌, ◌<◌, ◌≤◌, ◌^◌, length, map, reverse};
 ghost use Rattle.scheme_model.specs.Ident.{Ident as Identifier};
 ghost use Rattle.scheme_model.specs.Trees.{Tree};
 ghost use Rattle.scheme_model.specs.Questions.{Around};
+ghost use Rattle.scheme_model.specs.Substitution.{Table};
+ghost use Rattle.syntax_tree.specs.Names.{Names};
 ghost use Rattle.syntax_tree.specs.declared.trees.Work.{Work};
 ghost use Rattle.syntax_tree.specs.declared.trees.table.Region.{Region};
 ghost use Rattle.core_tree.specs.Names.{AllMatch};
+ghost use Rattle.unit_scopes.specs.State.{IsNumbered};
 ghost use Rattle.kept_forms.specs.KeptForms.{KeptForm};
 ghost use Rattle.carried_laws.specs.Entries.{kept_from};
-ghost use Rattle.form_cache.specs.Entries.{Editions, IsEntry};
+ghost use Rattle.form_cache.specs.Entries.{Editions, IsEntry, numbered_from};
 ghost use Rattle.form_cache.specs.Shifted.{shifted, binder_shifted, BindersShift, KeptShifts, ItemShifts, LeftShifts, PartShifts, ExpandedShifts};
 
 use crate::entries::Entry;
@@ -56,9 +59,11 @@ fn binders(shift: Shift, all: &mut Vec<Binder>)
     }
 }
 
-/// Binders, as a list.
+/// The definitions of a form.
 pub fn definitions(alloc: Global, shift: Shift, items: &mut Items<Binder>)
-    ensures { items.new ≡ map (binder_shifted shift) items.old }
+    ensures shifted { items.new ≡ map (binder_shifted shift) items.old }
+    ensures stand { (names : Names) (form : ℕ) (made : Table) → shift.to + length items.old ≤ 2 ^ 64 →
+        AllMatch (IsNumbered names form) (reverse items.old) (numbered_from shift.before made) → AllMatch (IsNumbered names form) (reverse items.new) (numbered_from shift.to made) }
 {
     let mut all = take(alloc, items);
     binders(shift, &mut all);

@@ -1,7 +1,6 @@
 use Rattle.std.proofs.Common.{◌∷◌, ◌++◌, [], List, map, take, sym, ap, ◌∙◌}
 use Rattle.std.proofs.lemmas.List.{map_more, map_push}
 use Rattle.core_tree.specs.declared.cores.Target.{Target}
-use Rattle.core_tree.specs.declared.traces.MacroUse.{MacroUse}
 use Rattle.form_cache.specs.Copied.{use_told}
 use Rattle.form_cache.proofs.entries.copy_of_uses.Goals as goal
 
