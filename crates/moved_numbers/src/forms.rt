@@ -119,6 +119,7 @@ fn trace(alloc: Global, moves: &Moves, it: &mut Trace)
 /// A form of a unit: what it expands to and what that met, or its fault.
 pub fn unit_form(alloc: Global, moves: &Moves, form: &mut UnitForm)
     ensures result { StandsOn (numbers_of moves.now) ResultStands (result_as (numbers_of moves.now)) form.old form.new }
+    ensures items { length form.new.items ≡ length form.old.items }
     ensures blank { IsBlank form.old → IsBlank form.new }
     ensures definitions { form.new.trace.definitions ≡ map (binder_as (numbers_of moves.now)) form.old.trace.definitions }
     ensures notes { form.new.trace.notes.notes ≡ map (note_as (numbers_of moves.now)) form.old.trace.notes.notes }
