@@ -5,13 +5,11 @@ use Rattle.scheme_model.specs.Trees.{Tree}
 use Rattle.scheme_model.specs.Cores as model
 use Rattle.scheme_model.specs.RulesShape.{option_map}
 use Rattle.scheme_model.specs.Steps.{Broken}
-use Rattle.scheme_model.specs.Order.{Item, Expression, Value, Function, Assigned, AssignedFunction, ValuesOf, Record, Macro, Left, Note}
+use Rattle.scheme_model.specs.Order.{Item, Expression, Value, Function, Assigned, AssignedFunction, ValuesOf, Record, Macro, Left}
 use Rattle.scheme_model.specs.Program.{enough_turns}
 use Rattle.scheme_model.specs.Questions.{Around, Moment}
-use Rattle.scheme_model.specs.ScopedExpansion.{FramedIdent}
 use Rattle.scheme_model.specs.Substitution.{Table}
-use Rattle.scheme_model.specs.FormsAlike.{bound_moved, left_with, or_fault, set_aside_asking, questions_of_pass, questions_of_left}
-use Rattle.question_laws.specs.Noted.{all_noted, IsClosed}
+use Rattle.scheme_model.specs.FormsAlike.{bound_moved, left_with, or_fault, set_aside_asking}
 use Rattle.form_laws.specs.Begins.{Each}
 use Rattle.syntax_tree.specs.Works.{StandsFor, LiesIn}
 use Rattle.syntax_tree.specs.declared.trees.Work.{Work}
@@ -20,11 +18,7 @@ use Rattle.core_tree.specs.Levels.{BindsAs, AllBind}
 use Rattle.core_tree.specs.Names.{AllMatch, IsTarget, IsUse}
 use Rattle.core_tree.specs.Units.{IsResult}
 use Rattle.core_tree.specs.declared.cores.Target.{Target}
-use Rattle.core_tree.specs.declared.traces.FormFault.{FormFault}
-use Rattle.core_tree.specs.declared.traces.MacroUse.{MacroUse}
 use Rattle.core_tree.specs.declared.units.UnitForm.{UnitForm}
-use Rattle.core_tree.specs.Traces.{IsFault}
-use Rattle.form_notes.specs.Noted.{Noted}
 use Rattle.form_notes.specs.Standing.{HaveNotes}
 use Rattle.form_notes.specs.declared.notes.Note as code_note
 use Rattle.form_parts.specs.declared.items.Left as code_left
@@ -32,21 +26,21 @@ use Rattle.expansion_laws.specs.Tops.{ItemBinds, ItemsBind}
 use Rattle.renumbering_laws.specs.Moving.{move_tree}
 use Rattle.renumbering_laws.specs.Renumbering as new
 use Rattle.renumbering_laws.specs.Renumbering.{Renumbering, IsOneToOne, ident, change, result_as, part_as, parts_as, item_as, left_as, counted_as}
-use Rattle.renumbering_laws.specs.Asked.{new_moment, new_note}
+use Rattle.renumbering_laws.specs.Asked.{new_moment}
 use Rattle.renumbering_laws.specs.NewSurroundings.{HasOldNumbers, around_new}
 use Rattle.renumbering_laws.specs.States.{defined_as}
 use Rattle.renumbering_laws.proofs.NewSurroundings.{old_numbers_apart, turns_move}
 use Rattle.kept_forms.specs.KeptForms.{KeptAside, KeptItem, KeptParts, KeptForm}
 use Rattle.kept_forms.specs.Carried.{RestFits}
 use Rattle.kept_turns.specs.Turns.{last_of, part_before, result_in}
-use Rattle.carried_laws.specs.CarriedEntries.{IsWhole, IsKeptWhole}
+use Rattle.carried_laws.specs.CarriedEntries.{IsWhole}
 use Rattle.carried_laws.specs.Entries as carried
 use Rattle.carried_laws.specs.Entries.{aside_as, kept_item_as, kept_parts_as, kept_as}
 use Rattle.carried_laws.proofs.ClosedForms.{closed_new}
 use Rattle.carried_laws.proofs.Renumbered.{entry_moved}
 use Rattle.declared_again.specs.Endings.{endings, table_made}
 use Rattle.declared_again.proofs.EndingSides.{made_by_then}
-use Rattle.note_laws.specs.Told.{bare_noted, told, since_of}
+use Rattle.note_laws.specs.Told.{since_of}
 use Rattle.moves.specs.Works.{WorkMoves}
 use Rattle.moves.proofs.StandLaws.{stands_there, lies_there}
 use Rattle.moved_numbers.specs.Leaves.{binder_as, target_as}
@@ -62,7 +56,6 @@ use Rattle.unit_scopes.specs.declared.scope.Budget.{Budget}
 use Rattle.moved_entries.specs.Left.{IfLeftStands}
 use Rattle.moved_entries.specs.Part.{PartStands}
 use Rattle.form_cache.specs.Entries.{Editions, counted_at, CountsAt, DeclaredAt, IsLeft, AsideFor, RestFor, RestClosed, numbered_from, FaultFor, IsEntry}
-use Rattle.form_cache.specs.declared.entries.Declared.{Declared}
 use Rattle.form_cache.specs.declared.entries.Entry.{Entry}
 use Rattle.renumbered_entries.specs.Renumbered.{EditionsMove, IsEntryUnder}
 use Rattle.renumbered_entries.proofs.Definitions.{IsOf, made_of, reverse_map, definitions_on}
