@@ -4,3 +4,4 @@ pub mod LeafLaws  -- Leaves of cores stand under other numbers for what they sto
 pub mod CoreLaws  -- Cores stand under other numbers for what they stood for
 pub mod FormLaws  -- Forms of units stand under other numbers for what they stood for
 pub mod NoteLaws  -- Notes under other numbers stand for what they stood for
+pub mod BackLaws  -- By the way back all comes to be what it was
