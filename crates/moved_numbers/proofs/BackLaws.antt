@@ -26,11 +26,13 @@ use Rattle.core_tree.specs.declared.traces.Trace.{Trace}
 use Rattle.core_tree.specs.declared.traces.FormFault.{FormFault}
 use Rattle.core_tree.specs.declared.units.ExpandedItem.{ExpandedItem}
 use Rattle.core_tree.specs.declared.units.UnitForm.{UnitForm}
+use Rattle.core_tree.specs.declared.units.Unit as units
+use Rattle.core_tree.specs.declared.units.Program.{Program}
 use Rattle.renumbering_laws.specs.Renumbering.{Renumbering, place}
 use Rattle.moves.specs.Numbers.{meaning_as, IsBack}
 use Rattle.moved_numbers.specs.Leaves.{binder_as, target_as, leaf_as, field_as}
 use Rattle.moved_numbers.specs.Notes.{question_as, note_as}
-use Rattle.moved_numbers.specs.Values.{each, macro_as, core_step, part_step, clause_step, core_as, part_as, clause_as, item_as, use_as, fault_as, trace_as, form_as}
+use Rattle.moved_numbers.specs.Values.{each, macro_as, core_step, part_step, clause_step, core_as, part_as, clause_as, item_as, use_as, fault_as, trace_as, form_as, unit_as, program_as}
 
 -- ---- lists and what holds them
 
@@ -282,3 +284,9 @@ module _ (r s : Renumbering) (is_back : IsBack r s) where
     trace = trace_back f.trace i;
     fault = option_back (fault_as r) (fault_as s) fault_back f.fault i;
   }
+
+  unit_back : (u : units.Unit) → unit_as s (unit_as r u) ≡ u
+  unit_back u = λ i. record u { forms = map_back (form_as r) (form_as s) form_back u.forms i }
+
+  pub program_back : (p : Program) → program_as s (program_as r p) ≡ p
+  program_back p = λ i. record { units = map_back (unit_as r) (unit_as s) unit_back p.units i }

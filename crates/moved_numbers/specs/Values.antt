@@ -16,6 +16,8 @@ use Rattle.core_tree.specs.declared.traces.Trace.{Trace}
 use Rattle.core_tree.specs.declared.traces.FormFault.{FormFault}
 use Rattle.core_tree.specs.declared.units.ExpandedItem.{ExpandedItem}
 use Rattle.core_tree.specs.declared.units.UnitForm.{UnitForm}
+use Rattle.core_tree.specs.declared.units.Unit as units
+use Rattle.core_tree.specs.declared.units.Program.{Program}
 use Rattle.renumbering_laws.specs.Renumbering.{Renumbering, place}
 use Rattle.moved_numbers.specs.Leaves.{binder_as, target_as, leaf_as, field_as}
 use Rattle.moved_numbers.specs.Notes.{note_as}
@@ -83,3 +85,10 @@ trace_as r t = record {
 
 abbrev pub form_as : Renumbering → UnitForm → UnitForm
 form_as r f = record { items = map (item_as r) f.items; trace = trace_as r f.trace; fault = option_map (fault_as r) f.fault }
+
+-- of a unit its forms alone change
+abbrev pub unit_as : Renumbering → units.Unit → units.Unit
+unit_as r u = record u { forms = map (form_as r) u.forms }
+
+abbrev pub program_as : Renumbering → Program → Program
+program_as r p = record { units = map (unit_as r) p.units }

@@ -6,3 +6,4 @@ pub mod forms;
 pub mod laws;
 pub mod leaves;
 pub mod notes;
+pub mod program;
