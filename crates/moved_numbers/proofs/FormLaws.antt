@@ -12,12 +12,10 @@ use Rattle.scheme_model.specs.Order.{Counted}
 use Rattle.syntax_tree.specs.Names.{Names}
 use Rattle.syntax_tree.specs.declared.trees.Work.{Work}
 use Rattle.core_tree.specs.Names.{AllMatch, IsTarget, IsUse}
-use Rattle.core_tree.specs.Cores.{PartsStand}
-use Rattle.core_tree.specs.Levels.{BindsAs, AllBind, AllMacrosBind, BindsLocals, AllBindLocals, ClausesBindLocals, PartsBind, PartBinds, DefineOnTop}
+use Rattle.core_tree.specs.Levels.{BindsAs, AllBind, AllMacrosBind, BindsLocals, AllBindLocals, ClausesBindLocals, PartsBind, PartBinds}
 use Rattle.core_tree.specs.Traces.{IsNamedBy, IsFault}
 use Rattle.core_tree.specs.Units.{IsExpanded, IsBlank}
 use Rattle.core_tree.specs.declared.cores.Target.{Target}
-use Rattle.core_tree.specs.declared.cores.CorePart.{CorePart}
 use Rattle.core_tree.specs.declared.traces.FormFault.{FormFault}
 use Rattle.core_tree.specs.declared.traces.MacroUse.{MacroUse}
 use Rattle.core_tree.specs.declared.units.ExpandedItem.{ExpandedItem}

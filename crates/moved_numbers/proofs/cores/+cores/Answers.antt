@@ -7,7 +7,7 @@ use Rattle.core_tree.specs.declared.cores.Core.TheViews.{out-roll-Clause}
 use Rattle.moves.specs.Numbers.{numbers_of}
 use Rattle.renumbering_laws.specs.Renumbering.{Renumbering}
 use Rattle.moved_numbers.specs.Values.{core_as, part_as, clause_as}
-use Rattle.moved_numbers.proofs.Fronts.{IsFront, Becomes, front_more, front_all, unvisited, each_is, all_related, all_mapped}
+use Rattle.moved_numbers.proofs.Fronts.{Becomes, front_more, front_all, unvisited, each_is, all_related, all_mapped}
 use Rattle.moved_numbers.proofs.ValueLaws.{box_is, ref_is, const_is, quote_is, quasi_is, lambda_is, case_lambda_is, if_is, set_is, call_is, body_is, let_syntax_is, clause_is, expression_is, define_is, values_is, fields_is, syntax_is}
 use Rattle.moved_numbers.proofs.CoreLaws.{CoreOn, ClauseOn, PartOn, ref_on, const_on, quote_on, quasi_on, lambda_on, case_lambda_on, if_on, set_on, call_on, body_on, let_syntax_on, clause_on, expression_on, define_on, values_on, fields_on, syntax_on, cores_on, clauses_on, parts_on}
 use Rattle.moved_numbers.proofs.cores.+cores.Goals as goal
