@@ -2,5 +2,6 @@
 #![tactic(auto)]
 
 mod entries;
+pub mod laws;
 
 pub use entries::renumber_entry;
