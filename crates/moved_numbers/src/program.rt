@@ -12,9 +12,9 @@ use moves::Moves;
 use std::alloc::Global;
 
 /// Forms, one by one.
-pub fn unit_forms(alloc: Global, moves: &Moves, all: &mut Vec<UnitForm>)
-    ensures forms { AllMatch (FormMoves (numbers_of moves.now)) all.old.items all.new.items }
-    ensures value { all.new.items ≡ map (form_as (numbers_of moves.now)) all.old.items }
+pub fn unit_forms(alloc: Global, moves: &Moves, all: &mut [UnitForm])
+    ensures forms { AllMatch (FormMoves (numbers_of moves.now)) all.old all.new }
+    ensures value { all.new ≡ map (form_as (numbers_of moves.now)) all.old }
 {
     for i in 0..all.len() {
         unit_form(alloc, moves, &mut all[i]);
@@ -27,7 +27,7 @@ fn unit(alloc: Global, moves: &Moves, it: &mut Unit)
     ensures value { it.new ≡ unit_as (numbers_of moves.now) it.old }
 {
     let mut all = take(alloc, &mut it.forms);
-    unit_forms(alloc, moves, &mut all);
+    unit_forms(alloc, moves, all.as_mut_slice());
     it.forms = Items::from_vec(all);
 }
 

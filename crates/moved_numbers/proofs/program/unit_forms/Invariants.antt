@@ -4,4 +4,4 @@ use Rattle.moved_numbers.proofs.Fronts.{IsFront}
 use Rattle.moved_numbers.proofs.program.unit_forms.Given as goal
 
 abbrev pub invariant-loop-i : goal.invariant-loop-i
-invariant-loop-i l = IsFront (FormMoves (numbers_of l.moves)) l.initial.all.items l.all.items l.i
+invariant-loop-i l = IsFront (FormMoves (numbers_of l.moves)) l.fn.all l.all l.i
