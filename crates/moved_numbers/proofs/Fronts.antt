@@ -133,7 +133,3 @@ all_mapped R f (x ∷ xs) (y ∷ ys) h = ap₂ (λ z zs. z ∷ zs) h.0.1 (all_ma
 -- lists that are equal to those that are told of
 pub match_as : {X : Type 0} (R : X → X → Type 0) (xs xs' ys ys' : List X) → xs ≡ xs' → ys' ≡ ys → AllMatch R xs ys → AllMatch R xs' ys'
 match_as {X} R xs xs' ys ys' before after h = subst (λ (l : List X). AllMatch R xs' l) (sym after) (subst (λ (l : List X). AllMatch R l ys) before h)
-
-pub length_map : {X : Type 0} (f : X → X) (xs : List X) → length (map f xs) ≡ length xs
-length_map f [] = refl
-length_map f (x ∷ xs) = ap suc (length_map f xs)
