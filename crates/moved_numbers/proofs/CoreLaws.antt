@@ -1,15 +1,12 @@
 -- Cores stand under other numbers for what they stood for.
-use Rattle.std.proofs.Common.{◌≡◌, ℕ, List, [], ◌∷◌, map, Bool, Option, refl, sym, ap, ◌∙◌, subst, Vec}
+use Rattle.std.proofs.Common.{◌≡◌, ℕ, List, [], ◌∷◌, map, Bool, refl, sym, ap, ◌∙◌, subst, Vec}
 use Rattle.std.specs.Global.{Box}
 use Rattle.std.specs.declared.alloc.Global.{Global}
-use Rattle.scheme_model.specs.declared.Occ.{Occ}
-use Rattle.scheme_model.specs.Trees.{Tree, atom}
-use Rattle.scheme_model.specs.Ident.{Ident as Identifier}
+use Rattle.scheme_model.specs.Trees.{atom}
 use Rattle.scheme_model.specs.Cores as model
-use Rattle.syntax_tree.specs.declared.trees.Work.{Work}
 use Rattle.syntax_tree.specs.declared.trees.nodes.Tree as number
 use Rattle.core_tree.specs.Names.{AllMatch, IsBinder, IsMacro, IsField}
-use Rattle.core_tree.specs.Cores.{AreBinders, CoreStands, CoresStand, ClausesStand, PartsStand, PartStands}
+use Rattle.core_tree.specs.Cores.{CoreStands, CoresStand, ClausesStand, PartsStand, PartStands}
 use Rattle.core_tree.specs.declared.cores.Binder.{Binder}
 use Rattle.core_tree.specs.declared.cores.Target.{Target}
 use Rattle.core_tree.specs.declared.cores.FieldUse.{FieldUse}
@@ -24,7 +21,6 @@ use Rattle.core_tree.specs.declared.cores.CorePart.TheVariants as parts
 use Rattle.renumbering_laws.specs.Moving.{move_tree}
 use Rattle.renumbering_laws.specs.Renumbering as new
 use Rattle.renumbering_laws.specs.Renumbering.{Renumbering, place, change, places_of, core_as, cores_as, clauses_as, parts_as, part_as}
-use Rattle.moves.specs.Works.{WorkMoves}
 use Rattle.moves.proofs.StandLaws.{stands_there}
 use Rattle.moved_numbers.specs.Leaves.{binder_as, target_as, field_as}
 use Rattle.moved_numbers.specs.Standing.{StandsOn, ClauseStands, clause_as}

@@ -1,5 +1,5 @@
 -- Forms of units stand under other numbers for what they stood for.
-use Rattle.std.proofs.Common.{◌≡◌, ℕ, List, [], ◌∷◌, ◌++◌, map, length, reverse, Bool, true, false, Option, Some, None, Result, Ok, Err, refl, sym, ap, ◌∙◌, subst}
+use Rattle.std.proofs.Common.{◌≡◌, ℕ, List, [], ◌∷◌, ◌++◌, map, length, reverse, Bool, true, false, Option, Some, None, Result, Ok, Err, refl, sym, ap, ap₂, ◌∙◌, subst}
 use Rattle.std.specs.Option.{option_map}
 use Rattle.std.proofs.lemmas.List.{reverse-append, map-append}
 use Rattle.std.proofs.lemmas.Option.{none-some, same_Some}
@@ -12,12 +12,10 @@ use Rattle.scheme_model.specs.Order.{Counted}
 use Rattle.syntax_tree.specs.Names.{Names}
 use Rattle.syntax_tree.specs.declared.trees.Work.{Work}
 use Rattle.core_tree.specs.Names.{AllMatch, IsTarget, IsUse}
-use Rattle.core_tree.specs.Cores.{PartsStand}
-use Rattle.core_tree.specs.Levels.{BindsAs, AllBind, AllMacrosBind, BindsLocals, AllBindLocals, ClausesBindLocals, PartsBind, PartBinds, DefineOnTop}
+use Rattle.core_tree.specs.Levels.{BindsAs, AllBind, AllMacrosBind, BindsLocals, AllBindLocals, ClausesBindLocals, PartsBind, PartBinds}
 use Rattle.core_tree.specs.Traces.{IsNamedBy, IsFault}
 use Rattle.core_tree.specs.Units.{IsExpanded, IsBlank}
 use Rattle.core_tree.specs.declared.cores.Target.{Target}
-use Rattle.core_tree.specs.declared.cores.CorePart.{CorePart}
 use Rattle.core_tree.specs.declared.traces.FormFault.{FormFault}
 use Rattle.core_tree.specs.declared.traces.MacroUse.{MacroUse}
 use Rattle.core_tree.specs.declared.units.ExpandedItem.{ExpandedItem}
@@ -28,7 +26,8 @@ use Rattle.renumbering_laws.specs.Renumbering.{Renumbering, place, change, core_
 use Rattle.moves.specs.Works.{NamesMove, WorkMoves}
 use Rattle.moves.proofs.EntryLaws.{ident_there}
 use Rattle.moved_numbers.specs.Leaves.{binder_as, target_as}
-use Rattle.moved_numbers.specs.Standing.{StandsOn, UseStands, ItemsStand, ResultStands, result_as}
+use Rattle.moved_numbers.specs.Standing.{StandsOn, UseStands, ItemsStand, ResultStands, result_as, FormMoves}
+use Rattle.moved_numbers.specs.Values.{form_as}
 use Rattle.moved_numbers.proofs.Fronts.{each_there, none_of_none}
 use Rattle.moved_numbers.proofs.LeafLaws.{KeepsDefinitions, target_there}
 use Rattle.moved_numbers.proofs.CoreLaws.{PartOn, parts_on}
@@ -248,3 +247,11 @@ still_blank r d e items definitions keywords uses fault h = record {
   uses = none_of_none d.trace.uses e.trace.uses uses h.uses;
   fault = fault ∙ h.fault;
 }
+
+-- ---- values
+
+pub all_values : (r : Renumbering) (xs ys : List UnitForm) → AllMatch (FormMoves r) xs ys → ys ≡ map (form_as r) xs
+all_values r [] [] h = refl
+all_values r [] (y ∷ ys) h = absurd h
+all_values r (x ∷ xs) [] h = absurd h
+all_values r (x ∷ xs) (y ∷ ys) h = ap₂ (λ z zs. z ∷ zs) h.0.value (all_values r xs ys h.1)

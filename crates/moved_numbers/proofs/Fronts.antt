@@ -1,5 +1,11 @@
 -- Lists that are changed thing by thing.
-use Rattle.std.proofs.Common.{◌≡◌, ◌≢◌, ℕ, zero, suc, ◌+◌, ◌<◌, ◌≤◌, List, [], ◌∷◌, ◌++◌, map, take, drop, length, get_or, set, slice_get, Option, Some, refl, sym, ap, ◌∙◌, subst, inl, inr, arith, length-set, append-nil}
+use Rattle.std.proofs.Common.{◌≡◌, ◌≢◌, ℕ, zero, suc, ◌+◌, ◌<◌, ◌≤◌, List, [], ◌∷◌, ◌++◌, map, take, drop, length, get_or, set, slice_get, Option, Some, refl, sym, ap, ◌∙◌, subst, inl, inr, arith, length-set, append-nil, Vec, ap₂}
+use mathlib.Core.HLevel.{is_prop→PathP}
+use native.Mathlib.Nat.{ℕ_set}
+use Rattle.std.specs.Coded.{le_prop}
+use Rattle.std.specs.Prelude.{◌^◌}
+use Rattle.std.specs.Vec.{SameBlock}
+use Rattle.std.specs.declared.alloc.Global.{Global}
 use Rattle.std.specs.Prelude.{unwrap_or}
 use Rattle.std.proofs.lemmas.Bool.{cases_eq}
 use Rattle.std.proofs.lemmas.List.{get_or-set_same, take_all, drop_all}
@@ -8,6 +14,7 @@ use Rattle.syntax_tree.specs.declared.trees.Work.{Work}
 use Rattle.core_tree.specs.Names.{AllMatch}
 use Rattle.renumbering_laws.specs.Renumbering.{Renumbering}
 use Rattle.moved_numbers.specs.Standing.{StandsOn}
+use Rattle.moved_numbers.specs.Values.{each}
 
 module _ {X : Type 0} where
   set_same : (xs : List X) (i : ℕ) (y : X) → i < length xs → slice_get (set xs i y) i ≡ Some y
@@ -87,3 +94,42 @@ on_as {X} r P g x x' y y' before after h = subst (λ (z : X). StandsOn r P g x' 
 pub none_of_none : {X : Type 0} (xs ys : List X) → length ys ≡ length xs → xs ≡ [] → ys ≡ []
 none_of_none xs [] len e = refl
 none_of_none {X} xs (y ∷ ys) len e = let none : length xs ≡ 0 = ap (λ (l : List X). length l) e in absurd (omega (arith, len, none))
+
+-- ---- values
+
+-- lists in the same memory with the same items are the same
+pub same_vec : {X : Type 0} (v w : Vec X Global) → SameBlock v w → w.items ≡ v.items → w ≡ v
+same_vec {X} v w block items =
+    let len : w.len ≡ v.len = w.ok.0 ∙ ap (λ (l : List X). length l) items ∙ sym v.ok.0 in
+    λ i. record {
+      ptr = block.0 i;
+      len = len i;
+      cap = block.1.0 i;
+      alloc = block.1.1 i;
+      items = items i;
+      ok = is_prop→PathP (λ j. (len j ≡ length (items j)) × (len j ≤ block.1.0 j)) (λ j p q k. (ℕ_set _ _ p.0 q.0 k, le_prop p.1 q.1 k)) w.ok v.ok i;
+      small = is_prop→PathP (λ j. block.1.0 j < 2 ^ 63) (λ j p q. le_prop p q) w.small v.small i;
+    }
+
+pub each_is : {X : Type 0} (f : X → X) (v w : Vec X Global) → SameBlock v w → w.items ≡ map f v.items → w ≡ each f v
+each_is f v w block items = same_vec (each f v) w block items
+
+-- a thing is related to what it was, and is what becomes of that
+abbrev pub Becomes : {X : Type 0} → (X → X → Type 0) → (X → X) → X → X → Type 0
+Becomes R f x y = R x y × (y ≡ f x)
+
+pub all_related : {X : Type 0} (R : X → X → Type 0) (f : X → X) (xs ys : List X) → AllMatch (Becomes R f) xs ys → AllMatch R xs ys
+all_related R f [] [] h = tt
+all_related R f [] (y ∷ ys) h = absurd h
+all_related R f (x ∷ xs) [] h = absurd h
+all_related R f (x ∷ xs) (y ∷ ys) h = (h.0.0, all_related R f xs ys h.1)
+
+pub all_mapped : {X : Type 0} (R : X → X → Type 0) (f : X → X) (xs ys : List X) → AllMatch (Becomes R f) xs ys → ys ≡ map f xs
+all_mapped R f [] [] h = refl
+all_mapped R f [] (y ∷ ys) h = absurd h
+all_mapped R f (x ∷ xs) [] h = absurd h
+all_mapped R f (x ∷ xs) (y ∷ ys) h = ap₂ (λ z zs. z ∷ zs) h.0.1 (all_mapped R f xs ys h.1)
+
+-- lists that are equal to those that are told of
+pub match_as : {X : Type 0} (R : X → X → Type 0) (xs xs' ys ys' : List X) → xs ≡ xs' → ys' ≡ ys → AllMatch R xs ys → AllMatch R xs' ys'
+match_as {X} R xs xs' ys ys' before after h = subst (λ (l : List X). AllMatch R xs' l) (sym after) (subst (λ (l : List X). AllMatch R l ys) before h)

@@ -1,11 +1,10 @@
 -- Notes under other numbers stand for what they stood for.
-use Rattle.std.proofs.Common.{◌≡◌, ℕ, zero, suc, ◌+◌, ◌<◌, List, [], ◌∷◌, ◌++◌, map, length, refl, sym, ap, ◌∙◌, subst, arith, None, Some, Option}
+use Rattle.std.proofs.Common.{◌≡◌, ℕ, zero, suc, ◌+◌, ◌<◌, List, [], ◌∷◌, map, length, refl, sym, ap, ◌∙◌, subst, arith, None, Some, Option}
 use Rattle.std.specs.Prelude.{Contains}
 use Rattle.std.proofs.lemmas.List.{map-append, length-map}
-use Rattle.scheme_model.specs.Order.{Transformer, is_some}
+use Rattle.scheme_model.specs.Order.{is_some}
 use Rattle.scheme_model.specs.RulesShape.{option_map}
 use Rattle.scheme_model.specs.RulesShape as shape
-use Rattle.scheme_model.specs.ScopedExpansion.{Frames}
 use Rattle.scheme_model.specs.Ident.{Ident as Identifier}
 use Rattle.scheme_model.specs.Meaning.{Meaning as ModelMeaning}
 use Rattle.scheme_model.specs.Questions.{Answer, Expands, Question as Asked}
@@ -20,7 +19,7 @@ use Rattle.form_notes.specs.declared.notes.Question.TheVariants.{Lookup, Literal
 use Rattle.renumbering_laws.specs.Renumbering.{Renumbering, ident, meaning, change}
 use Rattle.renumbering_laws.specs.Renumbering as renumbering
 use Rattle.renumbering_laws.specs.Moving.{move_named, move_rules}
-use Rattle.renumbering_laws.specs.Asked.{new_question, new_answer, new_macro, new_note, new_frames}
+use Rattle.renumbering_laws.specs.Asked.{new_question, new_answer, new_note, new_frames}
 use Rattle.moves.specs.Numbers.{meaning_as}
 use Rattle.moves.specs.Works.{NamesMove}
 use Rattle.moves.proofs.EntryLaws.{ident_there, meaning_there}

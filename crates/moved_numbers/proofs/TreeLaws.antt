@@ -1,10 +1,10 @@
 -- Trees under other numbers: their symbols and their holes.
-use Rattle.std.proofs.Common.{◌≡◌, ℕ, ◌+◌, ◌==◌, cond, List, [], ◌∷◌, ◌++◌, Option, Some, None, refl, sym, ap, ◌∙◌}
+use Rattle.std.proofs.Common.{◌≡◌, ℕ, ◌+◌, List, ◌++◌, Option, Some, None, refl, ap, ◌∙◌}
 use Rattle.scheme_model.specs.declared.Occ.{Occ}
 use Rattle.scheme_model.specs.Trees.{Tree, name, atom, list, vector, Trees, no_trees, tree, Tail, proper, dotted, map_tree}
 use Rattle.scheme_model.specs.Ident.{Ident, Written, Inserted, symbol_of}
 use Rattle.scheme_model.specs.Cores.{weight, weights, tail_weight, hole_weight}
-use Rattle.scheme_model.specs.Holes.{places_in, places_among, places_behind, hole_places, IsLike, AreLike, IsTailLike, FillsHole, HasHoles}
+use Rattle.scheme_model.specs.Holes.{places_in, places_among, places_behind, hole_places, AreLike, IsTailLike, FillsHole, HasHoles}
 use Rattle.renumbering_laws.specs.Moving.{move_tree, move_trees, move_tail}
 use Rattle.renumbering_laws.specs.Renumbering.{Renumbering, place, ident, change, places_of}
 use Rattle.renumbering_laws.proofs.Turned.{tree_turned}

@@ -1,10 +1,12 @@
 //! Cores under other numbers, changed in place without memory.
-ghost use Rattle.std.specs.Prelude.{map};
+ghost use Rattle.std.specs.Prelude.{◌≡◌, map};
 ghost use Rattle.core_tree.specs.Names.{AllMatch, IsMacro};
 ghost use Rattle.core_tree.specs.Cores.{CoreStands, CoresStand, ClausesStand, PartsStand, PartStands};
 ghost use Rattle.renumbering_laws.specs.Renumbering.{binders, macro_of, core_as, cores_as, clauses_as, parts_as, part_as};
 ghost use Rattle.moves.specs.Numbers.{numbers_of};
 ghost use Rattle.moved_numbers.specs.Standing.{StandsOn, ClauseStands, clause_as};
+ghost use Rattle.moved_numbers.specs.Values as code;
+ghost use Rattle.moved_numbers.specs.Values.{each};
 
 use crate::leaves;
 use core_tree::cores::{Clause, Core, CorePart, MacroDef};
@@ -14,7 +16,8 @@ use syntax_tree::trees::Tree;
 
 /// The definition of a macro.
 pub fn macro_def(moves: &Moves, it: &mut MacroDef)
-    ensures { StandsOn (numbers_of moves.now) IsMacro (macro_of (numbers_of moves.now)) it.old it.new }
+    ensures stands { StandsOn (numbers_of moves.now) IsMacro (macro_of (numbers_of moves.now)) it.old it.new }
+    ensures value { it.new ≡ code.macro_as (numbers_of moves.now) it.old }
 {
     it.binder = leaves::binder(moves, it.binder);
     leaves::leaves(moves, &mut it.leaves);
@@ -22,7 +25,8 @@ pub fn macro_def(moves: &Moves, it: &mut MacroDef)
 
 /// Definitions of macros, one by one.
 fn macro_defs(moves: &Moves, all: &mut Vec<MacroDef>)
-    ensures { StandsOn (numbers_of moves.now) (λ work unit form. AllMatch (IsMacro work unit form)) (map (macro_of (numbers_of moves.now))) all.old.items all.new.items }
+    ensures stands { StandsOn (numbers_of moves.now) (λ work unit form. AllMatch (IsMacro work unit form)) (map (macro_of (numbers_of moves.now))) all.old.items all.new.items }
+    ensures value { all.new ≡ each (code.macro_as (numbers_of moves.now)) all.old }
 {
     for i in 0..all.len() {
         macro_def(moves, &mut all[i]);
@@ -32,7 +36,8 @@ fn macro_defs(moves: &Moves, all: &mut Vec<MacroDef>)
 /// The core of an expression, where it stands.
 #[cycle(cores)]
 pub fn core(moves: &Moves, it: &mut Core)
-    ensures { StandsOn (numbers_of moves.now) CoreStands (core_as (numbers_of moves.now)) it.old it.new }
+    ensures stands { StandsOn (numbers_of moves.now) CoreStands (core_as (numbers_of moves.now)) it.old it.new }
+    ensures value { it.new ≡ code.core_as (numbers_of moves.now) it.old }
 {
     let old = mem::replace(it, Core::Const(Tree { number: 0 }));
     *it = moved(moves, old);
@@ -41,7 +46,8 @@ pub fn core(moves: &Moves, it: &mut Core)
 /// The core of an expression.
 #[cycle(cores)]
 fn moved(moves: &Moves, it: Core) -> Core
-    ensures { StandsOn (numbers_of moves.now) CoreStands (core_as (numbers_of moves.now)) it result }
+    ensures stands { StandsOn (numbers_of moves.now) CoreStands (core_as (numbers_of moves.now)) it result }
+    ensures value { result ≡ code.core_as (numbers_of moves.now) it }
 {
     match it {
         Core::Ref(target) => Core::Ref(leaves::target(moves, target)),
@@ -100,7 +106,8 @@ fn moved(moves: &Moves, it: Core) -> Core
 /// Cores, one by one.
 #[cycle(cores)]
 fn cores(moves: &Moves, all: &mut Vec<Core>)
-    ensures { StandsOn (numbers_of moves.now) CoresStand (cores_as (numbers_of moves.now)) all.old.items all.new.items }
+    ensures stands { StandsOn (numbers_of moves.now) CoresStand (cores_as (numbers_of moves.now)) all.old.items all.new.items }
+    ensures value { all.new ≡ each (code.core_as (numbers_of moves.now)) all.old }
 {
     for i in 0..all.len() {
         core(moves, &mut all[i]);
@@ -110,7 +117,8 @@ fn cores(moves: &Moves, all: &mut Vec<Core>)
 /// A clause of a procedure.
 #[cycle(cores)]
 fn clause(moves: &Moves, it: &mut Clause)
-    ensures { StandsOn (numbers_of moves.now) ClauseStands (clause_as (numbers_of moves.now)) it.old it.new }
+    ensures stands { StandsOn (numbers_of moves.now) ClauseStands (clause_as (numbers_of moves.now)) it.old it.new }
+    ensures value { it.new ≡ code.clause_as (numbers_of moves.now) it.old }
 {
     leaves::binders(moves, &mut it.binders);
     core(moves, &mut it.body);
@@ -119,7 +127,8 @@ fn clause(moves: &Moves, it: &mut Clause)
 /// Clauses, one by one.
 #[cycle(cores)]
 fn clauses(moves: &Moves, all: &mut Vec<Clause>)
-    ensures { StandsOn (numbers_of moves.now) ClausesStand (clauses_as (numbers_of moves.now)) all.old.items all.new.items }
+    ensures stands { StandsOn (numbers_of moves.now) ClausesStand (clauses_as (numbers_of moves.now)) all.old.items all.new.items }
+    ensures value { all.new ≡ each (code.clause_as (numbers_of moves.now)) all.old }
 {
     for i in 0..all.len() {
         clause(moves, &mut all[i]);
@@ -129,7 +138,8 @@ fn clauses(moves: &Moves, all: &mut Vec<Clause>)
 /// Parts of a body, one by one.
 #[cycle(cores)]
 fn parts(moves: &Moves, all: &mut Vec<CorePart>)
-    ensures { StandsOn (numbers_of moves.now) PartsStand (parts_as (numbers_of moves.now)) all.old.items all.new.items }
+    ensures stands { StandsOn (numbers_of moves.now) PartsStand (parts_as (numbers_of moves.now)) all.old.items all.new.items }
+    ensures value { all.new ≡ each (code.part_as (numbers_of moves.now)) all.old }
 {
     for i in 0..all.len() {
         part(moves, &mut all[i]);
@@ -139,7 +149,8 @@ fn parts(moves: &Moves, all: &mut Vec<CorePart>)
 /// A part of a body or of a unit.
 #[cycle(cores)]
 pub fn part(moves: &Moves, it: &mut CorePart)
-    ensures { StandsOn (numbers_of moves.now) PartStands (part_as (numbers_of moves.now)) it.old it.new }
+    ensures stands { StandsOn (numbers_of moves.now) PartStands (part_as (numbers_of moves.now)) it.old it.new }
+    ensures value { it.new ≡ code.part_as (numbers_of moves.now) it.old }
 {
     match it {
         CorePart::Expression(value) => core(moves, value),

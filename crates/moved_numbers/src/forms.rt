@@ -11,6 +11,7 @@ ghost use Rattle.moves.specs.Works.{NamesMove};
 ghost use Rattle.moved_numbers.specs.Leaves.{binder_as, target_as};
 ghost use Rattle.moved_numbers.specs.Notes.{note_as};
 ghost use Rattle.moved_numbers.specs.Standing.{StandsOn, UseStands, ItemsStand, ResultStands, result_as};
+ghost use Rattle.moved_numbers.specs.Values.{item_as, use_as, fault_as, trace_as, form_as};
 
 use crate::{cores, leaves, notes};
 use core_tree::cores::{Binder, Target};
@@ -48,7 +49,8 @@ pub fn targets(alloc: Global, moves: &Moves, items: &mut Items<Target>)
 
 /// A macro use that was met.
 fn macro_use(moves: &Moves, it: &mut MacroUse)
-    ensures { StandsOn (numbers_of moves.now) UseStands (macro_use_as (numbers_of moves.now)) it.old it.new }
+    ensures stands { StandsOn (numbers_of moves.now) UseStands (macro_use_as (numbers_of moves.now)) it.old it.new }
+    ensures value { it.new ≡ use_as (numbers_of moves.now) it.old }
 {
     it.keyword = leaves::target(moves, it.keyword);
     leaves::targets(moves, &mut it.literals);
@@ -58,6 +60,7 @@ fn macro_use(moves: &Moves, it: &mut MacroUse)
 fn all_uses(moves: &Moves, all: &mut Vec<MacroUse>)
     ensures length { length all.new.items ≡ length all.old.items }
     ensures stands { StandsOn (numbers_of moves.now) (λ work unit form. AllMatch (UseStands work unit form)) (map (macro_use_as (numbers_of moves.now))) all.old.items all.new.items }
+    ensures value { all.new.items ≡ map (use_as (numbers_of moves.now)) all.old.items }
 {
     for i in 0..all.len() {
         macro_use(moves, &mut all[i]);
@@ -68,6 +71,7 @@ fn all_uses(moves: &Moves, all: &mut Vec<MacroUse>)
 pub fn uses(alloc: Global, moves: &Moves, items: &mut Items<MacroUse>)
     ensures length { length items.new ≡ length items.old }
     ensures stands { StandsOn (numbers_of moves.now) (λ work unit form. AllMatch (UseStands work unit form)) (map (macro_use_as (numbers_of moves.now))) items.old items.new }
+    ensures value { items.new ≡ map (use_as (numbers_of moves.now)) items.old }
 {
     let mut all = take(alloc, items);
     all_uses(moves, &mut all);
@@ -78,6 +82,7 @@ pub fn uses(alloc: Global, moves: &Moves, items: &mut Items<MacroUse>)
 fn all_parts(moves: &Moves, all: &mut Vec<ExpandedItem>)
     ensures length { length all.new.items ≡ length all.old.items }
     ensures stands { StandsOn (numbers_of moves.now) ItemsStand (parts_as (numbers_of moves.now)) all.old.items all.new.items }
+    ensures value { all.new.items ≡ map (item_as (numbers_of moves.now)) all.old.items }
 {
     for i in 0..all.len() {
         cores::part(moves, &mut all[i].part);
@@ -88,6 +93,7 @@ fn all_parts(moves: &Moves, all: &mut Vec<ExpandedItem>)
 fn parts(alloc: Global, moves: &Moves, items: &mut Items<ExpandedItem>)
     ensures length { length items.new ≡ length items.old }
     ensures stands { StandsOn (numbers_of moves.now) ItemsStand (parts_as (numbers_of moves.now)) items.old items.new }
+    ensures value { items.new ≡ map (item_as (numbers_of moves.now)) items.old }
 {
     let mut all = take(alloc, items);
     all_parts(moves, &mut all);
@@ -96,7 +102,8 @@ fn parts(alloc: Global, moves: &Moves, items: &mut Items<ExpandedItem>)
 
 /// The fault of a form.
 fn fault(moves: &Moves, it: &mut FormFault)
-    ensures { (old new : Names) (b : Broken) → NamesMove (numbers_of moves.now) old new → IsFault old it.old b → IsFault new it.new (broken_as (numbers_of moves.now) b) }
+    ensures stands { (old new : Names) (b : Broken) → NamesMove (numbers_of moves.now) old new → IsFault old it.old b → IsFault new it.new (broken_as (numbers_of moves.now) b) }
+    ensures value { it.new ≡ fault_as (numbers_of moves.now) it.old }
 {
     it.occ = moves.place(it.occ);
     it.here = moves.place(it.here);
@@ -109,6 +116,7 @@ fn trace(alloc: Global, moves: &Moves, it: &mut Trace)
     ensures length { length it.new.uses ≡ length it.old.uses }
     ensures uses { StandsOn (numbers_of moves.now) (λ work unit form. AllMatch (UseStands work unit form)) (map (macro_use_as (numbers_of moves.now))) it.old.uses it.new.uses }
     ensures notes { it.new.notes.notes ≡ map (note_as (numbers_of moves.now)) it.old.notes.notes }
+    ensures value { it.new ≡ trace_as (numbers_of moves.now) it.old }
 {
     binders(alloc, moves, &mut it.definitions);
     targets(alloc, moves, &mut it.keywords);
@@ -119,9 +127,11 @@ fn trace(alloc: Global, moves: &Moves, it: &mut Trace)
 /// A form of a unit: what it expands to and what that met, or its fault.
 pub fn unit_form(alloc: Global, moves: &Moves, form: &mut UnitForm)
     ensures result { StandsOn (numbers_of moves.now) ResultStands (result_as (numbers_of moves.now)) form.old form.new }
+    ensures items { length form.new.items ≡ length form.old.items }
     ensures blank { IsBlank form.old → IsBlank form.new }
     ensures definitions { form.new.trace.definitions ≡ map (binder_as (numbers_of moves.now)) form.old.trace.definitions }
     ensures notes { form.new.trace.notes.notes ≡ map (note_as (numbers_of moves.now)) form.old.trace.notes.notes }
+    ensures value { form.new ≡ form_as (numbers_of moves.now) form.old }
 {
     parts(alloc, moves, &mut form.items);
     trace(alloc, moves, &mut form.trace);

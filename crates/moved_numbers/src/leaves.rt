@@ -2,6 +2,7 @@
 ghost use Rattle.std.specs.Prelude.{◌≡◌, map};
 ghost use Rattle.moves.specs.Numbers.{numbers_of};
 ghost use Rattle.moved_numbers.specs.Leaves.{binder_as, target_as, leaf_as, field_as};
+ghost use Rattle.moved_numbers.specs.Values.{each};
 
 use core_tree::cores::{Binder, FieldUse, RuleLeaf, Target};
 use moves::Moves;
@@ -50,7 +51,8 @@ fn field(moves: &Moves, field: FieldUse) -> FieldUse
 
 /// Binders, one by one.
 pub fn binders(moves: &Moves, all: &mut Vec<Binder>)
-    ensures { all.new.items ≡ map (binder_as (numbers_of moves.now)) all.old.items }
+    ensures items { all.new.items ≡ map (binder_as (numbers_of moves.now)) all.old.items }
+    ensures value { all.new ≡ each (binder_as (numbers_of moves.now)) all.old }
 {
     for i in 0..all.len() {
         all[i] = binder(moves, all[i]);
@@ -59,7 +61,8 @@ pub fn binders(moves: &Moves, all: &mut Vec<Binder>)
 
 /// Targets, one by one.
 pub fn targets(moves: &Moves, all: &mut Vec<Target>)
-    ensures { all.new.items ≡ map (target_as (numbers_of moves.now)) all.old.items }
+    ensures items { all.new.items ≡ map (target_as (numbers_of moves.now)) all.old.items }
+    ensures value { all.new ≡ each (target_as (numbers_of moves.now)) all.old }
 {
     for i in 0..all.len() {
         all[i] = target(moves, all[i]);
@@ -68,7 +71,8 @@ pub fn targets(moves: &Moves, all: &mut Vec<Target>)
 
 /// Leaves of rules, one by one.
 pub fn leaves(moves: &Moves, all: &mut Vec<RuleLeaf>)
-    ensures { all.new.items ≡ map (leaf_as (numbers_of moves.now)) all.old.items }
+    ensures items { all.new.items ≡ map (leaf_as (numbers_of moves.now)) all.old.items }
+    ensures value { all.new ≡ each (leaf_as (numbers_of moves.now)) all.old }
 {
     for i in 0..all.len() {
         all[i] = leaf(moves, all[i]);
@@ -77,7 +81,8 @@ pub fn leaves(moves: &Moves, all: &mut Vec<RuleLeaf>)
 
 /// Fields that a constructor uses, one by one.
 pub fn fields(moves: &Moves, all: &mut Vec<FieldUse>)
-    ensures { all.new.items ≡ map (field_as (numbers_of moves.now)) all.old.items }
+    ensures items { all.new.items ≡ map (field_as (numbers_of moves.now)) all.old.items }
+    ensures value { all.new ≡ each (field_as (numbers_of moves.now)) all.old }
 {
     for i in 0..all.len() {
         all[i] = field(moves, all[i]);

@@ -3,5 +3,7 @@
 
 pub mod cores;
 pub mod forms;
+pub mod laws;
 pub mod leaves;
 pub mod notes;
+pub mod program;

@@ -16,9 +16,9 @@ returns-in-AssignedFunction c =
 pub returns-in-Values : goal.returns-in-Values
 returns-in-Values c =
     let q = c.in-Values in
-    values_moves (numbers_of c.args.moves.now) c.args.it.now q.binders c.binders.new.all q.dotted q.value c.form-in-Values.result q.is c.binders.ensures c.form-in-Values.ensures
+    values_moves (numbers_of c.args.moves.now) c.args.it.now q.binders c.binders.new.all q.dotted q.value c.form-in-Values.result q.is c.binders.ensures.items c.form-in-Values.ensures
 
 pub returns-in-Record : goal.returns-in-Record
 returns-in-Record c =
     let q = c.in-Record in
-    record_moves (numbers_of c.args.moves.now) c.args.it.now q.binders c.binders-in-Record.new.all q.fields c.binders-in-Record-2.new.all q.modified q.used c.fields.new.all q.is c.binders-in-Record.ensures c.binders-in-Record-2.ensures c.fields.ensures
+    record_moves (numbers_of c.args.moves.now) c.args.it.now q.binders c.binders-in-Record.new.all q.fields c.binders-in-Record-2.new.all q.modified q.used c.fields.new.all q.is c.binders-in-Record.ensures.items c.binders-in-Record-2.ensures.items c.fields.ensures.items

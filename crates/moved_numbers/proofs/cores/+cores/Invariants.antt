@@ -1,25 +1,30 @@
 use Rattle.std.proofs.Common.{◌+◌, ◌*◌}
+use Rattle.std.specs.Vec.{SameBlock}
 use Rattle.moves.specs.Numbers.{numbers_of}
-use Rattle.moved_numbers.proofs.Fronts.{IsFront}
+use Rattle.moved_numbers.specs.Values.{core_as, part_as, clause_as}
+use Rattle.moved_numbers.proofs.Fronts.{IsFront, Becomes}
 use Rattle.moved_numbers.proofs.CoreLaws.{CoreOn, ClauseOn, PartOn}
 use Rattle.moved_numbers.proofs.cores.+cores.Given as goal
 
 abbrev pub invariant-clauses-loop-i : goal.invariant-clauses-loop-i
 invariant-clauses-loop-i l = record {
   unvisited : goal.unvisited-clauses-loop-i l;
-  front : IsFront (ClauseOn (numbers_of l.moves)) l.initial.all.items l.all.items l.i;
+  front : IsFront (Becomes (ClauseOn (numbers_of l.moves)) (clause_as (numbers_of l.moves))) l.initial.all.items l.all.items l.i;
+  block : SameBlock l.initial.all l.all;
 }
 
 abbrev pub invariant-cores-loop-i : goal.invariant-cores-loop-i
 invariant-cores-loop-i l = record {
   unvisited : goal.unvisited-cores-loop-i l;
-  front : IsFront (CoreOn (numbers_of l.moves)) l.initial.all.items l.all.items l.i;
+  front : IsFront (Becomes (CoreOn (numbers_of l.moves)) (core_as (numbers_of l.moves))) l.initial.all.items l.all.items l.i;
+  block : SameBlock l.initial.all l.all;
 }
 
 abbrev pub invariant-parts-loop-i : goal.invariant-parts-loop-i
 invariant-parts-loop-i l = record {
   unvisited : goal.unvisited-parts-loop-i l;
-  front : IsFront (PartOn (numbers_of l.moves)) l.initial.all.items l.all.items l.i;
+  front : IsFront (Becomes (PartOn (numbers_of l.moves)) (part_as (numbers_of l.moves))) l.initial.all.items l.all.items l.i;
+  block : SameBlock l.initial.all l.all;
 }
 
 abbrev pub decreases-core : goal.decreases-core

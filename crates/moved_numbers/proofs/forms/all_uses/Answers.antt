@@ -1,20 +1,35 @@
 use Rattle.std.proofs.Common.{◌<◌, ◌≤◌, length, arith}
-use Rattle.renumbering_laws.specs.Renumbering.{macro_use_as}
+use Rattle.core_tree.specs.Names.{AllMatch}
+use Rattle.core_tree.specs.declared.traces.MacroUse.{MacroUse}
+use Rattle.renumbering_laws.specs.Renumbering.{Renumbering, macro_use_as}
 use Rattle.moved_numbers.specs.Standing.{StandsOn, UseStands}
-use Rattle.moved_numbers.proofs.Fronts.{all_on}
+use Rattle.moved_numbers.specs.Values.{use_as}
 use Rattle.moves.specs.Numbers.{numbers_of}
-use Rattle.moved_numbers.proofs.Fronts.{front_more, front_all}
+use Rattle.moved_numbers.proofs.Fronts.{Becomes, front_more, front_all, all_on, all_related, all_mapped}
 use Rattle.moved_numbers.proofs.forms.all_uses.Goals as goal
+
+abbrev On : Renumbering → MacroUse → MacroUse → Type 0
+On r = StandsOn r UseStands (macro_use_as r)
 
 pub loop-i-preserved : goal.loop-i-preserved
 loop-i-preserved c =
+    let r = numbers_of c.args.moves.now in
     let lt : c.loop-i.i < length c.loop-i.all.items = omega (arith, c.loop-i.invariant.length_is) in
-    front_more (StandsOn (numbers_of c.args.moves.now) UseStands (macro_use_as (numbers_of c.args.moves.now))) c.args.all.now.items c.loop-i.all.items c.loop-i.i c.index_mut.result.now c.macro_use.new.it c.loop-i.invariant lt c.index_mut.ensures.value c.macro_use.ensures
+    front_more (Becomes (On r) (use_as r)) c.args.all.now.items c.loop-i.all.items c.loop-i.i c.index_mut.result.now c.macro_use.new.it c.loop-i.invariant lt c.index_mut.ensures.value (c.macro_use.ensures.stands, c.macro_use.ensures.value)
 
 pub returns-clause-length : goal.returns-clause-length
 returns-clause-length c = c.loop-i.invariant.length_is
 
 pub returns-clause-stands : goal.returns-clause-stands
 returns-clause-stands c =
+    let r = numbers_of c.args.moves.now in
     let end : length c.loop-i.all.items ≤ c.loop-i.i = omega (arith, c.loop-i.invariant.length_is) in
-    all_on (numbers_of c.args.moves.now) UseStands (macro_use_as (numbers_of c.args.moves.now)) c.args.all.now.items c.loop-i.all.items (front_all (StandsOn (numbers_of c.args.moves.now) UseStands (macro_use_as (numbers_of c.args.moves.now))) c.args.all.now.items c.loop-i.all.items c.loop-i.i c.loop-i.invariant end)
+    let all : AllMatch (Becomes (On r) (use_as r)) c.args.all.now.items c.loop-i.all.items = front_all (Becomes (On r) (use_as r)) c.args.all.now.items c.loop-i.all.items c.loop-i.i c.loop-i.invariant end in
+    all_on r UseStands (macro_use_as r) c.args.all.now.items c.loop-i.all.items (all_related (On r) (use_as r) c.args.all.now.items c.loop-i.all.items all)
+
+pub returns-clause-value : goal.returns-clause-value
+returns-clause-value c =
+    let r = numbers_of c.args.moves.now in
+    let end : length c.loop-i.all.items ≤ c.loop-i.i = omega (arith, c.loop-i.invariant.length_is) in
+    let all : AllMatch (Becomes (On r) (use_as r)) c.args.all.now.items c.loop-i.all.items = front_all (Becomes (On r) (use_as r)) c.args.all.now.items c.loop-i.all.items c.loop-i.i c.loop-i.invariant end in
+    all_mapped (On r) (use_as r) c.args.all.now.items c.loop-i.all.items all

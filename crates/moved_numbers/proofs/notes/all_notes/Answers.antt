@@ -1,5 +1,4 @@
-use Rattle.std.proofs.Common.{◌++◌, ◌<◌, length, map, set, take, drop, ap, ◌∙◌, arith}
-use Rattle.std.proofs.lemmas.List.{take_all, drop_all}
+use Rattle.std.proofs.Common.{◌<◌, length, set, ap, ◌∙◌, arith}
 use Rattle.std.proofs.lemmas.List.Edits.{map_over_more}
 use Rattle.moves.specs.Numbers.{numbers_of}
 use Rattle.moved_numbers.specs.Notes.{note_as}

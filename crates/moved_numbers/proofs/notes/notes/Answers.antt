@@ -1,5 +1,4 @@
 use Rattle.std.proofs.Common.{List, map, ap, sym, subst, ◌∙◌}
-use Rattle.form_notes.specs.Noted.{Noted}
 use Rattle.form_notes.specs.Standing.{HaveNotes, InOrder}
 use Rattle.form_notes.specs.declared.notes.Note.{Note}
 use Rattle.moves.specs.Numbers.{numbers_of}
