@@ -1,11 +1,11 @@
 -- An entry stands under other numbers for what it stood for.
-use Rattle.std.proofs.Common.{◌≡◌, ℕ, List, [], ◌∷◌, map, length, reverse, Bool, true, false, Option, Some, None, Result, Ok, Err, refl, sym, ap, ◌∙◌, subst}
+use Rattle.std.proofs.Common.{◌≡◌, ℕ, ◌≤◌, List, [], ◌∷◌, map, length, reverse, Bool, true, false, Option, Some, None, Result, Ok, Err, refl, sym, ap, ◌∙◌, subst}
 use Rattle.scheme_model.specs.Ident.{Ident}
 use Rattle.scheme_model.specs.Trees.{Tree}
 use Rattle.scheme_model.specs.Cores as model
 use Rattle.scheme_model.specs.RulesShape.{option_map}
 use Rattle.scheme_model.specs.Steps.{Broken}
-use Rattle.scheme_model.specs.Order.{Item, Expression, Value, Function, Assigned, AssignedFunction, ValuesOf, Record, Macro, Left}
+use Rattle.scheme_model.specs.Order.{Item, Expression, Value, Function, Assigned, AssignedFunction, ValuesOf, Record, Macro, Left, max_nodes, max_uses}
 use Rattle.scheme_model.specs.Program.{enough_turns}
 use Rattle.scheme_model.specs.Questions.{Around, Moment}
 use Rattle.scheme_model.specs.Substitution.{Table}
@@ -51,11 +51,11 @@ use Rattle.moved_numbers.proofs.Fronts.{each_there, none_of_none}
 use Rattle.moved_numbers.proofs.LeafLaws.{target_there}
 use Rattle.moved_numbers.proofs.NoteLaws.{notes_there}
 use Rattle.moved_notes.proofs.NotedMoved.{pass_moved, left_moved}
-use Rattle.unit_scopes.specs.State.{IsNumbered}
+use Rattle.unit_scopes.specs.State.{IsNumbered, most_locals}
 use Rattle.unit_scopes.specs.declared.scope.Budget.{Budget}
 use Rattle.moved_entries.specs.Left.{IfLeftStands}
 use Rattle.moved_entries.specs.Part.{PartStands}
-use Rattle.form_cache.specs.Entries.{Editions, counted_at, CountsAt, DeclaredAt, IsLeft, AsideFor, RestFor, RestClosed, numbered_from, FaultFor, IsEntry}
+use Rattle.form_cache.specs.Entries.{Editions, counted_at, CountsAt, DeclaredAt, HasSpaceLeft, IsLeft, AsideFor, RestFor, RestClosed, numbered_from, FaultFor, IsEntry}
 use Rattle.form_cache.specs.declared.entries.Entry.{Entry}
 use Rattle.renumbered_entries.specs.Renumbered.{EditionsMove, IsEntryUnder}
 use Rattle.renumbered_entries.proofs.Definitions.{IsOf, made_of, reverse_map, definitions_on}
@@ -122,6 +122,12 @@ module _ (r : Renumbering) where
     left_is (Some x) (Some y) (Ok l) moved h = (moved region old now unit form l moves h.0, items_bind false l.items h.1)
     left_is (Some x) (Some y) (Err e) moved h = absurd h
 
+  space_left : (b : Budget) (x y : Option code_left.Left) → IfLeftStands r x y → HasSpaceLeft b x → HasSpaceLeft b y
+  space_left b None None moved h = h
+  space_left b None (Some y) moved h = absurd moved
+  space_left b (Some x) None moved h = absurd moved
+  space_left b (Some x) (Some y) moved h = h
+
   none_left : (x y : Option code_left.Left) → IfLeftStands r x y → x ≡ None → y ≡ None
   none_left None None moved h = refl
   none_left None (Some y) moved h = absurd moved
@@ -166,6 +172,9 @@ module _ (r : Renumbering) (back : HasOldNumbers r) (x y : Entry) (f g : UnitFor
   declared : (m : Moment) → DeclaredAt old.symbols unit n.0 x.declared m → DeclaredAt now.symbols (r.unit unit) form y.declared (new_moment r m)
   declared m at = record {
     counts = counts_at x.declared.counts y.declared.counts m moved.counted at.counts;
+    few_uses = subst (λ (b : Budget). b.uses ≤ max_uses) (sym moved.counted) at.few_uses;
+    few_nodes = subst (λ (b : Budget). b.nodes ≤ max_nodes) (sym moved.counted) at.few_nodes;
+    few_locals = subst (λ (b : Budget). b.locals ≤ most_locals b.nodes) (sym moved.counted) at.few_locals;
     keywords = subst (λ (ts : List Target). AllMatch (IsTarget now.symbols (r.unit unit) form) ts (reverse (map (new.target r) m.keywords))) (sym moved.keywords)
         (subst (λ (ms : List model.Target). AllMatch (IsTarget now.symbols (r.unit unit) form) (map (target_as r) x.declared.keywords) ms) (sym (reverse_map (new.target r) m.keywords))
         (each_there (IsTarget old.symbols unit n.0) (IsTarget now.symbols (r.unit unit) form) (target_as r) (new.target r) (target_there r back.definitions old now moves unit n.0) x.declared.keywords (reverse m.keywords) at.keywords));
@@ -195,6 +204,7 @@ module _ (r : Renumbering) (back : HasOldNumbers r) (x y : Entry) (f g : UnitFor
         lies = subst (LiesIn now region) (sym moved.tree) (lies_there r old now moves x.tree.number region.in_pool.number a.lies);
         left = left_then k.parts refl;
         declared = declared k.aside.moment a.declared;
+        space = subst (λ (b : Budget). HasSpaceLeft b y.left) (sym moved.counted) (space_left r x.declared.counts x.left y.left moved.left a.space);
         noted = map (noted_as r) a.noted;
         part = moved.part one old now (since_of w e) (since_of (around_new r back w) e') k.aside.pass.notes a.noted moves (since w) a.part;
         told = pass_moved r one w (around_new r back w) (turns_move r back w) enough_turns n.1 a.noted a.told;
