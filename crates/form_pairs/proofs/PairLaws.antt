@@ -1,6 +1,7 @@
 -- The pairs of units, one unit after another.
-use Rattle.std.proofs.Common.{◌≡◌, ℕ, zero, suc, ◌+◌, ◌<◌, ◌≤◌, List, [], ◌∷◌, ◌++◌, map, Bool, true, false, cond, length, get_or, slice_get, drop, Option, Some, None, Result, Ok, Err, refl, sym, ap, ◌∙◌, subst, arith, append_assoc}
+use Rattle.std.proofs.Common.{◌≡◌, ℕ, zero, suc, ◌+◌, ◌<◌, ◌≤◌, All, List, [], ◌∷◌, ◌++◌, map, Bool, true, false, cond, length, get_or, slice_get, drop, Option, Some, None, Result, Ok, Err, refl, sym, ap, ◌∙◌, subst, arith, append_assoc}
 use Rattle.std.specs.Result.{IfOk}
+use Rattle.std.proofs.lemmas.List.Elements.{All-append}
 use Rattle.std.proofs.lemmas.List.{append-nil, map-append}
 use Rattle.std.proofs.lemmas.Option.{slice_get_read}
 use Rattle.std.proofs.Math.ListN.{drop_of_length-le}
@@ -90,6 +91,14 @@ module _ (cs : List code.UnitText) (us vs : List UnitText) (are : AreUnits cs us
 
 pub pushed : (ps qs : List code_pair.UnitPair) (p : code_pair.UnitPair) → qs ≡ ps ++ p ∷ [] → map pair_seen qs ≡ map pair_seen ps ++ pair_there (Some p)
 pushed ps qs p is = ap (map pair_seen) is ∙ map-append pair_seen ps (p ∷ [])
+
+-- what holds of each holds of each and one more
+pub all_more : {X : Type 0} (P : X → Type 0) (xs ys : List X) (x : X) → ys ≡ xs ++ x ∷ [] → All P xs → P x → All P ys
+all_more P xs ys x is so_far here = subst (All P) (sym is) (All-append P xs (x ∷ []) so_far one)
+  where
+    one : All P (x ∷ [])
+    one zero d lt = here
+    one (suc k) d lt = absurd (omega (arith, lt))
 
 -- what holds where there is an answer
 pub by_answer : {X E : Type 0} (P Q : X → Type 0) → ((x : X) → P x → Q x) → (r : Result X E) → IfOk r P → IfOk r Q

@@ -1,12 +1,12 @@
 //! The forms of two units that go on: the longest common front and then the longest common end, or all forms of a unit with included ones.
-ghost use Rattle.std.specs.Prelude.{◌≡◌, ◌≤◌, drop, length, reverse, IfOk};
+ghost use Rattle.std.specs.Prelude.{◌≡◌, ◌+◌, ◌≤◌, drop, length, reverse, true, IfOk, IfSome};
 ghost use Rattle.std.specs.List.{list_any};
 ghost use Rattle.std.specs.Option.{option_map};
 ghost use Rattle.std.specs.Str.{bytes_eq};
 ghost use Rattle.carried_forms.specs.Alike.{same_list, same_tree};
 ghost use Rattle.carried_forms.specs.Paired as paired;
 ghost use Rattle.form_pairs.specs.Fronts.{front_of, is_included, runs_in};
-ghost use Rattle.form_pairs.specs.Units.{form_as, form_at, texts_at};
+ghost use Rattle.form_pairs.specs.Units.{form_as, form_at, forms_in, texts_at};
 
 use crate::same::is_same;
 use crate::units::{Side, first_of, forms_at, home_of};
@@ -45,7 +45,9 @@ fn common_front(alloc: Global, a: &[UnitForm], b: &[UnitForm]) -> Mem<usize>
 
 /// How many forms are the same at the end.
 fn common_end(alloc: Global, a: &[UnitForm], b: &[UnitForm]) -> Mem<usize>
-    ensures { IfOk result (λ n. n ≡ front_of (reverse a.now) (reverse b.now)) }
+    ensures count { IfOk result (λ n. n ≡ front_of (reverse a.now) (reverse b.now)) }
+    ensures before { IfOk result (λ n. n ≤ length a.now) }
+    ensures after { IfOk result (λ n. n ≤ length b.now) }
 {
     let most = a.len().min(b.len());
     for n in 0..most {
@@ -60,6 +62,8 @@ fn common_end(alloc: Global, a: &[UnitForm], b: &[UnitForm]) -> Mem<usize>
 fn by_ends(alloc: Global, a: &[UnitForm], b: &[UnitForm]) -> Mem<Runs>
     ensures front { IfOk result (λ r. r.front ≡ front_of a.now b.now) }
     ensures end { IfOk result (λ r. r.end ≡ front_of (reverse (drop r.front a.now)) (reverse (drop r.front b.now))) }
+    ensures before { IfOk result (λ r. r.front + r.end ≤ length a.now) }
+    ensures after { IfOk result (λ r. r.front + r.end ≤ length b.now) }
 {
     let front = common_front(alloc, a, b)?;
     let end = common_end(alloc, &a[front..], &b[front..])?;
@@ -98,7 +102,8 @@ fn is_same_at_home(
 
 /// Whether all forms of two units are the same, each at home at the same place.
 fn are_same_at_home(alloc: Global, before: &Side<'_>, after: &Side<'_>) -> Mem<bool>
-    ensures { IfOk result (λ same. same ≡ same_list paired.is_same_at_home (texts_at before.now.units.now before.now.unit) (texts_at after.now.units.now after.now.unit)) }
+    ensures same { IfOk result (λ same. same ≡ same_list paired.is_same_at_home (texts_at before.now.units.now before.now.unit) (texts_at after.now.units.now after.now.unit)) }
+    ensures many { IfOk result (λ same. same ≡ true → length (forms_in before.now.units.now before.now.unit) ≡ length (forms_in after.now.units.now after.now.unit)) }
 {
     let old = forms_at(before);
     let new = forms_at(after);
@@ -115,8 +120,10 @@ fn are_same_at_home(alloc: Global, before: &Side<'_>, after: &Side<'_>) -> Mem<b
 
 /// The forms of two units that go on. `None` where the unit doesn't: some form is included, and not all are the same at the same places.
 pub fn form_runs(alloc: Global, before: &Side<'_>, after: &Side<'_>) -> Mem<Option<Runs>>
-    ensures { IfOk result (λ r. option_map (runs_in before.now after.now) r
+    ensures pairs { IfOk result (λ r. option_map (runs_in before.now after.now) r
         ≡ paired.form_pairs (texts_at before.now.units.now before.now.unit) (texts_at after.now.units.now after.now.unit)) }
+    ensures before { IfOk result (λ o. IfSome o (λ r. r.front + r.end ≤ length (forms_in before.now.units.now before.now.unit))) }
+    ensures after { IfOk result (λ o. IfSome o (λ r. r.front + r.end ≤ length (forms_in after.now.units.now after.now.unit))) }
 {
     let old = forms_at(before);
     let new = forms_at(after);

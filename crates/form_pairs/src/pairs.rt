@@ -1,6 +1,6 @@
 //! Which units go on in the next program, each with its forms that do.
-ghost use Rattle.std.specs.Prelude.{◌≡◌, ◌<◌, List, length, map, IfOk};
-ghost use Rattle.form_pairs.specs.Found.{pair_in, pair_made, pair_seen, pair_there};
+ghost use Rattle.std.specs.Prelude.{◌≡◌, ◌<◌, List, length, map, All, IfOk, IfSome};
+ghost use Rattle.form_pairs.specs.Found.{IsCounted, pair_in, pair_made, pair_seen, pair_there};
 ghost use Rattle.carried_forms.specs.Paired as paired;
 ghost use Rattle.form_pairs.specs.Units.{AreUnits};
 
@@ -22,7 +22,8 @@ pub struct UnitPair {
 
 /// The pair of two units, where the first goes on as the second.
 fn pair_at(alloc: Global, before: &Side<'_>, after: &Side<'_>) -> Mem<Option<UnitPair>>
-    ensures { IfOk result (λ p. pair_there p ≡ pair_made before.now after.now) }
+    ensures pair { IfOk result (λ p. pair_there p ≡ pair_made before.now after.now) }
+    ensures counted { IfOk result (λ o. IfSome o (λ p. IsCounted before.now.units.now after.now.units.now p)) }
 {
     let Some(Runs { front, end }) = form_runs(alloc, before, after)? else {
         return Ok(None);
@@ -40,8 +41,9 @@ fn pair_at(alloc: Global, before: &Side<'_>, after: &Side<'_>) -> Mem<Option<Uni
 /// The pair of a unit with the first one as which it goes on. `None` where there is none.
 fn pair_of<'a>(alloc: Global, before: &Side<'a>, after: &'a [UnitText<'a>]) -> Mem<Option<UnitPair>>
     requires { before.now.unit < length before.now.units.now }
-    ensures { (us vs : List paired.UnitText) → AreUnits before.now.units.now us → AreUnits after.now vs →
+    ensures pair { (us vs : List paired.UnitText) → AreUnits before.now.units.now us → AreUnits after.now vs →
         IfOk result (λ p. pair_there p ≡ pair_in us before.now.unit vs) }
+    ensures counted { IfOk result (λ o. IfSome o (λ p. IsCounted before.now.units.now after.now p)) }
 {
     let unit = &before.units[before.unit];
     for number in 0..after.len() {
@@ -62,8 +64,9 @@ pub fn unit_pairs<'a>(
     before: &'a [UnitText<'a>],
     after: &'a [UnitText<'a>],
 ) -> Mem<Vec<UnitPair>>
-    ensures { (us vs : List paired.UnitText) → AreUnits before.now us → AreUnits after.now vs →
+    ensures pairs { (us vs : List paired.UnitText) → AreUnits before.now us → AreUnits after.now vs →
         IfOk result (λ pairs. map pair_seen pairs.items ≡ paired.unit_pairs us vs) }
+    ensures counted { IfOk result (λ pairs. All (IsCounted before.now after.now) pairs.items) }
 {
     let mut pairs = Vec::new(alloc);
     for unit in 0..before.len() {

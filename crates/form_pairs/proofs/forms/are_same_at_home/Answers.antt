@@ -4,15 +4,15 @@ use Rattle.form_pairs.specs.Units.{uri_in, forms_in}
 use Rattle.form_pairs.proofs.UnitTexts.{other_lengths, at_home_so_far, not_at_home, all_at_home}
 use Rattle.form_pairs.proofs.forms.are_same_at_home.Goals as goal
 
-pub returns-then-old-new : goal.returns-then-old-new
-returns-then-old-new c =
+pub returns-then-old-new-clause-same : goal.returns-then-old-new-clause-same
+returns-then-old-new-clause-same c =
     let before = c.args.before.now in
     let after = c.args.after.now in
     other_lengths (uri_in before.units.now) (uri_in after.units.now) before.unit after.unit (forms_in before.units.now before.unit) (forms_in after.units.now after.unit)
     (λ same. c.if-old-new.true (ap length c.forms_at-old.ensures ∙ same ∙ sym (ap length c.forms_at-new.ensures)))
 
-pub returns-then-not-branch : goal.returns-then-not-branch
-returns-then-not-branch c =
+pub returns-then-not-branch-clause-same : goal.returns-then-not-branch-clause-same
+returns-then-not-branch-clause-same c =
     let before = c.args.before.now in
     let after = c.args.after.now in
     let k = c.loop-k.k in
@@ -39,8 +39,8 @@ loop-k-preserved c =
     (subst (λ (xs : List UnitForm). f ≡ get_or xs k f) old c.index-old-k.is) (subst (λ (xs : List UnitForm). g ≡ get_or xs k g) new c.index-new-k.is)
     c.in_ok-is_same_at_home.field-0 c.in_ok-is_same_at_home.ensures c.loop-k.invariant c.if-not-branch.false
 
-pub returns : goal.returns
-returns c =
+pub returns-clause-same : goal.returns-clause-same
+returns-clause-same c =
     let before = c.args.before.now in
     let after = c.args.after.now in
     all_at_home (uri_in before.units.now) (uri_in after.units.now) before.unit after.unit (forms_in before.units.now before.unit) (forms_in after.units.now after.unit) c.loop-k.k
